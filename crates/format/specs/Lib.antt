@@ -1,0 +1,11 @@
+pub mod Questions
+pub mod Hash
+pub mod References
+pub mod Bodies
+pub mod Items
+pub mod Sheets
+pub mod Apply
+pub mod Names
+pub mod Ledger
+pub mod History
+pub mod Lister

@@ -1,0 +1,46 @@
+-- Document 01, "The reference lister": the text for a type byte and a body. Assumes nothing.
+use mathlib.Core.Bool.{Bool, true, false, cond}
+use mathlib.Core.List.{List, [], _∷_, _++_}
+use Prim.Native.Nat.{ℕ, zero, suc, _+_, _/_, _%_}
+use lib.Dec.{ltb}
+use lib.ListN.{length}
+use Rattle.format.specs.Questions.{Answer, refused, absent, remove, accepted, codeOf}
+use Rattle.format.specs.References.{counted, Ref, Body, flagsOf, startOf}
+use Rattle.format.specs.Bodies.{onBody}
+
+-- a number in decimal, in at most so many digits; 64 bits take 20
+unfoldable pub digits : ℕ → ℕ → List ℕ
+digits zero number = []
+digits (suc most) number = cond (ltb number 10) [] (digits most (number / 10)) ++ (48 + number % 10) ∷ []
+
+-- numbers with a space between, and a line feed
+unfoldable pub line : List ℕ → List ℕ
+line [] = 10 ∷ []
+line (number ∷ []) = digits 20 number ++ 10 ∷ []
+line (number ∷ next ∷ numbers) = digits 20 number ++ 32 ∷ line (next ∷ numbers)
+
+-- "per reference its type and fields in payload order"
+unfoldable pub refLine : Ref → List ℕ
+refLine r = line (r .kind ∷ (r .fields ++ cond (counted (r .kind)) (r .weight ∷ []) []))
+
+unfoldable pub refLines : List Ref → List ℕ
+refLines [] = []
+refLines (r ∷ refs) = refLine r ++ refLines refs
+
+-- "First line: start, total, flags, number of references"
+unfoldable pub listing : ℕ → List ℕ → Answer (List ℕ)
+listing type body =
+    onBody type body (λ b.
+    accepted (line (startOf type body ∷ b .total ∷ flagsOf body ∷ length (b .refs) ∷ []) ++ refLines (b .refs)))
+
+-- "A refusal prints only `refused N`"
+unfoldable pub printed : Answer (List ℕ) → List ℕ
+printed (refused number) = 114 ∷ 101 ∷ 102 ∷ 117 ∷ 115 ∷ 101 ∷ 100 ∷ 32 ∷ line (number ∷ [])
+printed absent = 114 ∷ 101 ∷ 102 ∷ 117 ∷ 115 ∷ 101 ∷ 100 ∷ 32 ∷ line (100 ∷ [])
+printed remove = 114 ∷ 101 ∷ 102 ∷ 117 ∷ 115 ∷ 101 ∷ 100 ∷ 32 ∷ line (101 ∷ [])
+printed (accepted text) = text
+
+-- "empty input is 6, a body above 65,535 bytes is 3"
+unfoldable pub listed : List ℕ → List ℕ
+listed [] = printed (refused 6)
+listed (type ∷ body) = printed (listing type body)

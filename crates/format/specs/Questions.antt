@@ -1,0 +1,128 @@
+-- Document 01, "Questions at the door": what a call answers, in which order its questions are put, and what a lent output
+-- holds afterwards. Assumes nothing.
+use mathlib.Core.Bool.{Bool, true, false, _&&_, cond}
+use mathlib.Core.List.{List, [], _∷_, _++_}
+use mathlib.Core.Option.{Option, none, some}
+use Prim.Native.Nat.{ℕ}
+use lib.Dec.{leb}
+use lib.ListN.{length, drop}
+use Rattle.format.specs.declared.Edited.{Edited}
+use Rattle.format.specs.declared.Edited.the-variants.{Written, Absent, Remove, Refused}
+use Rattle.format.specs.declared.Taken.{Taken}
+use Rattle.format.specs.declared.Taken.the-variants.{Written as Out, Absent as NoMatch, Refused as Denied}
+use Rattle.format.specs.declared.Told.{Told}
+use Rattle.format.specs.declared.Told.the-variants.{Value, Refused as Untold}
+use Rattle.format.specs.declared.Judged.{Judged}
+use Rattle.format.specs.declared.Judged.the-variants.{Says, Refused as Unjudged}
+
+-- ---- answers
+
+-- the number of the first question answered "no"; or no match, which is no refusal; or the item goes; or the result
+pub data Answer (A : Type 0) : Type 0 where
+  refused : ℕ → Answer A
+  absent : Answer A
+  remove : Answer A
+  accepted : A → Answer A
+
+-- "The first 'no' is the refusal": a question with its number, and what follows a "yes"
+unfoldable pub ask : {A : Type 0} → Bool → ℕ → Answer A → Answer A
+ask true number next = next
+ask false number next = refused number
+
+-- what follows a result
+unfoldable pub bind : {A B : Type 0} → Answer A → (A → Answer B) → Answer B
+bind (refused number) next = refused number
+bind absent next = absent
+bind remove next = remove
+bind (accepted result) next = next result
+
+-- question 5 and its like: what is not there is that refusal
+unfoldable pub needed : {A : Type 0} → ℕ → Option A → Answer A
+needed number none = refused number
+needed number (some it) = accepted it
+
+-- "An inline search that finds no match says absent"
+unfoldable pub found : {A : Type 0} → Option A → Answer A
+found none = absent
+found (some it) = accepted it
+
+-- where a search says absent, the second decides
+unfoldable pub ifAbsent : {A : Type 0} → Answer A → Answer A → Answer A
+ifAbsent (refused number) other = refused number
+ifAbsent absent other = other
+ifAbsent remove other = remove
+ifAbsent (accepted result) other = accepted result
+
+-- a further question put to a call, in its place among the call's own: the first "no" is the one with the lower number
+unfoldable pub also : {A : Type 0} → Bool → ℕ → Answer A → Answer A
+also true number answer = answer
+also false number (refused other) = refused (cond (leb other number) other number)
+also false number absent = refused number
+also false number remove = refused number
+also false number (accepted result) = refused number
+
+-- question 21: the lent output and the limits hold the result
+unfoldable pub held : {A : Type 0} → (A → Bool) → Answer A → Answer A
+held holds answer = bind answer (λ result. ask (holds result) 21 (accepted result))
+
+-- ---- the lent output: "Bytes past an accepted result keep their value", and without a result all do
+
+unfoldable pub lent : Answer (List ℕ) → List ℕ → List ℕ
+lent (refused number) old = old
+lent absent old = old
+lent remove old = old
+lent (accepted result) old = result ++ drop (length result) old
+
+-- a lent number, or a part that is handed back: the result, else nothing
+unfoldable pub lentNumber : Answer ℕ → ℕ
+lentNumber (refused number) = 0
+lentNumber absent = 0
+lentNumber remove = 0
+lentNumber (accepted result) = result
+
+unfoldable pub lentPart : Answer (List ℕ) → List ℕ
+lentPart (refused number) = []
+lentPart absent = []
+lentPart remove = []
+lentPart (accepted result) = result
+
+-- ---- the answers as numbers and as the declared enums
+
+-- 0 for a result, 100 for absent, 101 for remove, else the number of the refusal
+unfoldable pub codeOf : {A : Type 0} → Answer A → ℕ
+codeOf (refused number) = number
+codeOf absent = 100
+codeOf remove = 101
+codeOf (accepted result) = 0
+
+unfoldable pub editedOf : Answer (List ℕ) → Edited
+editedOf (refused number) = Refused number
+editedOf absent = Absent
+editedOf remove = Remove
+editedOf (accepted result) = Written (length result)
+
+-- a body with the count of the reference that was taken out of it
+pub record TakenOut : Type 0 where
+  pub bytes : List ℕ
+  pub count : ℕ
+
+abbrev pub bytesOf : Answer TakenOut → Answer (List ℕ)
+bytesOf answer = bind answer (λ out. accepted (out .bytes))
+
+unfoldable pub takenOf : Answer TakenOut → Taken
+takenOf (refused number) = Denied number
+takenOf absent = NoMatch
+takenOf remove = Denied 101
+takenOf (accepted out) = Out (length (out .bytes)) (out .count)
+
+unfoldable pub toldOf : Answer ℕ → Told
+toldOf (refused number) = Untold number
+toldOf absent = Untold 100
+toldOf remove = Untold 101
+toldOf (accepted number) = Value number
+
+unfoldable pub judgedOf : Answer Bool → Judged
+judgedOf (refused number) = Unjudged number
+judgedOf absent = Unjudged 100
+judgedOf remove = Unjudged 101
+judgedOf (accepted judgement) = Says judgement

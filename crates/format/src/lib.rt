@@ -1,0 +1,70 @@
+// The declared types that the definitions in specs/ and the functions of the crates above share: keys, the names of
+// references, changes, and what calls answer.
+
+// The key of an item. Keys compare by objectid, kind, offset; `kind` is document 01's type.
+pub struct Key {
+    pub objectid: u64,
+    pub kind: u8,
+    pub offset: u64,
+}
+
+// What names a tree block's reference (176).
+pub struct BlockRef {
+    pub tree: u64,
+}
+
+// What names a data reference (178): document 01's triple.
+pub struct DataRef {
+    pub tree: u64,
+    pub objectid: u64,
+    pub offset: u64,
+}
+
+// What names a shared reference: its kind, 182 or 184, and the block that holds the pointer.
+pub struct SharedRef {
+    pub kind: u8,
+    pub parent: u64,
+}
+
+// A reference that names a tree, as the original has it.
+pub enum Keyed {
+    Block(BlockRef),
+    Data(DataRef),
+}
+
+// A change of the ledger (document 01's books). To add a reference is document 01's "give", to drop one its "take".
+pub enum Change {
+    AddBlock { extent: u64, name: BlockRef },
+    AddData { extent: u64, name: DataRef, amount: u32 },
+    AddShared { extent: u64, name: SharedRef, amount: u32 },
+    DropBlock { extent: u64, name: BlockRef },
+    DropData { extent: u64, name: DataRef },
+    DropShared { extent: u64, name: SharedRef },
+}
+
+// What a call that writes to a lent output answers: the result's length, or why there is none.
+pub enum Edited {
+    Written(usize),
+    Absent,
+    Remove,
+    Refused(u32),
+}
+
+// The same where the call hands back the count of the reference that it took out.
+pub enum Taken {
+    Written { length: usize, count: u32 },
+    Absent,
+    Refused(u32),
+}
+
+// What a call that hands back a number answers.
+pub enum Told {
+    Value(u64),
+    Refused(u32),
+}
+
+// What a call that says yes or no answers.
+pub enum Judged {
+    Says(bool),
+    Refused(u32),
+}
