@@ -93,6 +93,15 @@ written-next a b old n e h =
     let h′ : 0 + (n + length b) ≤ length old = omega arith in
     ap (λ (k : ℕ). written k b (written 0 a old)) (sym (zero-add n)) ∙ written-twice 0 a b old n e h′
 
+-- the same, as two calls in a row leave it
+pub written-pair : (at m n : ℕ) (a b old one two : List ℕ) → length a ≡ m → length b ≡ n → at + (m + n) ≤ length old
+    → one ≡ written at a old
+    → two ≡ written (at + m) b one
+    → two ≡ written at (a ++ b) old
+written-pair at m n a b old one two ea eb h e₁ e₂ =
+    let h′ : at + (m + length b) ≤ length old = omega arith in
+    e₂ ∙ ap (written (at + m) b) e₁ ∙ written-twice at a b old m ea h′
+
 -- what was written is read back
 pub part-written : (at : ℕ) (new old : List ℕ) → at ≤ length old → part at (length new) (written at new old) ≡ new
 part-written at new old h =
