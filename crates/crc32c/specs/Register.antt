@@ -1,41 +1,50 @@
--- The CRC32C register of RFC 3720, bit by bit, on natural numbers.
--- Assumes nothing.
-use mathlib.Core.Path.{_≡_, refl}
-use mathlib.Core.List.{List, [], _∷_, _++_}
-use Prim.Native.Nat.{ℕ, zero, suc, _+_, _-_, _*_, _/_, _%_, _^_}
+-- The CRC32C register of RFC 3720, bit by bit, on natural numbers: its step, its run over bytes and the table of a polynomial,
+-- each with the polynomial as a parameter. Document 01, section "The leaves: hash and table", starts it at all ones, leaves it
+-- without final inversion, and takes the polynomial 82f63b78, reflected. Assumes nothing.
+use mathlib.Core.List.{List, [], _∷_}
+use Prim.Native.Nat.{ℕ, zero, suc, _-_, _/_, _%_, _^_}
 use lib.Bits.{bitXor}
 
--- the reflected polynomial of CRC32C
+-- the polynomial of CRC32C, reflected
 abbrev pub crc32c : ℕ
 crc32c = 0x82f63b78
 
 -- the polynomial where the bit that was shifted out is 1, else nothing
 abbrev pub feed : ℕ → ℕ → ℕ
-feed zero p = zero
-feed (suc b) p = p
+feed zero polynomial = zero
+feed (suc bit) polynomial = polynomial
 
 -- one step: the register is halved, rounded down, and the polynomial is xored in where it was odd
 unfoldable pub step : ℕ → ℕ → ℕ
-step p r = bitXor (r / 2) (feed (r % 2) p)
+step polynomial register = bitXor (register / 2) (feed (register % 2) polynomial)
 
 -- that many steps
 unfoldable pub steps : ℕ → ℕ → ℕ → ℕ
-steps p zero r = r
-steps p (suc n) r = steps p n (step p r)
+steps polynomial zero register = register
+steps polynomial (suc n) register = steps polynomial n (step polynomial register)
 
--- a byte goes in: xored into the register, then eight steps
+-- a byte goes in: it is xored into the register, and eight steps follow
 unfoldable pub byteStep : ℕ → ℕ → ℕ → ℕ
-byteStep p r b = steps p 8 (bitXor r b)
+byteStep polynomial register byte = steps polynomial 8 (bitXor register byte)
 
--- a run over bytes, first byte first
+-- a run over bytes, the first byte first
 unfoldable pub run : ℕ → ℕ → List ℕ → ℕ
-run p r [] = r
-run p r (b ∷ bs) = run p (byteStep p r b) bs
+run polynomial register [] = register
+run polynomial register (byte ∷ bytes) = run polynomial (byteStep polynomial register byte) bytes
 
--- the register before the first byte: all ones
+-- the register before the first byte
 abbrev pub allOnes : ℕ
 allOnes = 2 ^ 32 - 1
 
--- the finished checksum: the register inverted
+-- the finished checksum of RFC 3720: the register inverted
 abbrev pub inverted : ℕ → ℕ
-inverted r = 2 ^ 32 - 1 - r
+inverted register = 2 ^ 32 - 1 - register
+
+-- `count` entries of a list, from entry `i` on, where entry n is `f n`
+unfoldable pub entries : (ℕ → ℕ) → ℕ → ℕ → List ℕ
+entries f zero i = []
+entries f (suc count) i = f i ∷ entries f count (suc i)
+
+-- the table of a polynomial: 256 entries, and entry n is n after eight steps
+unfoldable pub tableOf : ℕ → List ℕ
+tableOf polynomial = entries (steps polynomial 8) 256 0

@@ -1,1 +1,17 @@
-// x
+// Numbers and runs of bytes inside byte slices. What each call does is one `written` (specs/Parts.antt), so that calls in a
+// row compose by one law.
+mod copy;
+mod get;
+mod put;
+
+pub use copy::copy_at;
+pub use copy::splice;
+pub use get::get_u32_be;
+pub use get::get_u32_le;
+pub use get::get_u64_be;
+pub use get::get_u64_le;
+pub use put::put_u8;
+pub use put::put_u32_be;
+pub use put::put_u32_le;
+pub use put::put_u64_be;
+pub use put::put_u64_le;

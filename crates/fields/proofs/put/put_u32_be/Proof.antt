@@ -1,0 +1,13 @@
+use Rattle.fields.specs.Numbers.{beBytes, leBytes}
+use borrow.Author.Needs.{needs}
+use Rattle.fields.proofs.put.put_u32_be.Statement.{statement}
+use Rattle.fields.proofs.put.put_u32_be.Tie as tie
+
+returns : tie.Need-returns
+unfolding beBytes leBytes
+returns c = c .before .before .put-bytes .ensures
+
+pub put-u32-be-spec : {M : Type 1} → statement M
+put-u32-be-spec =
+    tie.close
+    (tie.spec (λ c. search needs) (λ c. search needs) (λ c. search needs) (λ c. search needs) (λ c κs. search needs) (λ c. search needs) returns)

@@ -1,0 +1,1 @@
+// Document 01's marked cases: theorems alone, in specs/.
