@@ -14,17 +14,21 @@ use Rattle.format.specs.Questions.{Answer, refused, absent, remove, accepted, a
 use Rattle.format.specs.Hash.{dataRefHash}
 use Rattle.format.specs.References.{rowIn, known, payloadLength, countPosition, counted, fieldCount, weightOf, refAt, readRefs, refBytes, refsBytes, totalOf, flagsOf, startOf, readBody, bodyBytes, placeOf, place}
 use Rattle.format.specs.Bodies.{bodyFits, sharedKind, onBody, onHead, named, raisedBy, loweredByOne, onTotal, raiseTotal, positions, inlineRefs, less, dropInline, dropInlineDataRef, keyedCount, dropKeyedDataRef, keyedDataRefBody, stops, gapAt, insertPosition, standingOr, spotAnywhere, scanned, spotByScan, isGap, standingWeight, addAt, addInlineTreeRef, addInlineData, addInlineDataRef, addInlineShared, dataExtentBody, treeBlockBody}
-use Rattle.format.specs.Items.{Item, keyOf, sameKey, keyBelow, itemLength, wholeItem, firstItem, readItems, readSheet, keyBytes, itemBytes, itemsBytes, sheetBytes, nodesizeFits, dataFits, onSheet}
+use Rattle.format.specs.Items.{Item, keyOf, sameKey, keyBelow, itemLength, wholeItem, firstItem, readItems, readSheet, keyBytes, itemBytes, itemsBytes, sheetBytes, nodesizeFits, dataFits, onSheet, sheetHolds, heldSheet}
 use Rattle.format.specs.Sheets.{itemSpace, spaceOf, putBefore, inserted, insert, cutFits, gapOf, closer, bestCut, filled, cutsOf, cuts, leavesHold, splitToFit}
 use Rattle.format.specs.Apply.{inlineLimit, maxInlineExtentItem}
 
+-- the letter of document 01
+pub data Letter : Type 0 where
+  a b c d e f g h i j k : Letter
+
 pub record Case : Type 0 where
-  pub label : List ℕ
+  pub letter : Letter
   pub gives : Answer (List ℕ)
   pub expected : Answer (List ℕ)
 
-abbrev case : ℕ → Answer (List ℕ) → Answer (List ℕ) → Case
-case label gives expected = record { label = label ∷ []; gives = gives; expected = expected }
+abbrev case : Letter → Answer (List ℕ) → Answer (List ℕ) → Case
+case letter gives expected = record { letter = letter; gives = gives; expected = expected }
 
 -- a number, or the length of a result, as the one element of a list
 abbrev number : Answer ℕ → Answer (List ℕ)
@@ -33,47 +37,77 @@ number answer = bind answer (λ n. accepted (n ∷ []))
 abbrev size : Answer (List ℕ) → Answer (List ℕ)
 size answer = bind answer (λ list. accepted (length list ∷ []))
 
--- E and its name
-abbrev d₀ : DataRef
-d₀ = record { tree = 5; objectid = 257; offset = 0 }
+-- ---- what the cases speak of
+
+-- generation 7, root 5, inode 257, offset 0
+abbrev nameE : DataRef
+nameE = record { tree = 5; objectid = 257; offset = 0 }
+
+unfoldable pub bodyE : List ℕ
+bodyE = dataExtentBody 7 nameE
+
+-- E's bytes with that total and that count
+unfoldable pub bytesE : ℕ → ℕ → List ℕ
+bytesE total count =
+    leBytes 8 total ++ (leBytes 8 7 ++ (leBytes 8 1 ++ (178 ∷ (leBytes 8 5 ++ (leBytes 8 257 ++ (leBytes 8 0 ++ leBytes 4 count))))))
+
+-- so many bytes: a total, a generation of 0, flags, and zeros
+abbrev plain : ℕ → ℕ → ℕ → List ℕ
+plain length total flags = take length ((total ∷ replicate 15 0) ++ (flags ∷ replicate 40 0))
 
 abbrev block : ℕ → BlockRef
 block tree = record { tree = tree }
 
-bodyE : List ℕ
-bodyE = dataExtentBody 7 d₀
+-- the body of a block of generation 7 with these block references
+unfoldable pub blocks : ℕ → List ℕ → List ℕ
+blocks total [] = leBytes 8 total ++ (leBytes 8 7 ++ leBytes 8 2)
+blocks total (tree ∷ trees) = blocks total trees ++ (176 ∷ leBytes 8 tree)
 
--- E with its count and its total
-bodyOf : ℕ → List ℕ
-bodyOf n = leBytes 8 n ++ (leBytes 8 7 ++ (leBytes 8 1 ++ (178 ∷ (leBytes 8 5 ++ (leBytes 8 257 ++ (leBytes 8 0 ++ leBytes 4 n))))))
+-- a list of so many items from a key on, each with that much data
+abbrev itemsFrom : ℕ → ℕ → ℕ → List Item
+itemsFrom objectid zero length = []
+itemsFrom objectid (suc n) length = record { key = keyOf objectid 1 0; bytes = replicate length 0 } ∷ itemsFrom (objectid + 1) n length
 
--- a body of that many bytes, total and flags in their lowest byte, all other bytes 0
-abbrev plain : ℕ → ℕ → ℕ → List ℕ
-plain size total flags = take size ((total ∷ replicate 15 0) ++ (flags ∷ replicate 40 0))
+abbrev sheet : ℕ → ℕ → List ℕ
+sheet n length = sheetBytes (itemsFrom 10 n length)
 
--- a block's body with its owner 5 and others of type 176
-abbrev skinny : ℕ → List ℕ → List ℕ
-skinny total refs = leBytes 8 total ++ (leBytes 8 7 ++ (leBytes 8 2 ++ refs))
+abbrev alone : ℕ → Item
+alone length = record { key = keyOf 10 1 0; bytes = replicate length 0 }
 
--- a sheet of so many items, each with that much data
-abbrev listOf : ℕ → ℕ → List Item
-listOf zero data′ = []
-listOf (suc n) data′ = record { key = keyOf (10 + n) 1 0; bytes = replicate data′ 0 } ∷ listOf n data′
+-- ---- the list
 
-cases : List Case
+unfoldable pub cases : List Case
 cases =
-    case 97 (inlineRefs 169 (plain 23 0 0)) (refused 6)
-    ∷ case 97 (inlineRefs 169 (plain 24 0 0)) (accepted [])
-    ∷ case 98 (inlineRefs 168 (plain 41 0 2)) (refused 6)
-    ∷ case 98 (inlineRefs 168 (plain 42 0 2)) (accepted [])
-    ∷ case 99 (raiseTotal (plain 30 1 2) 1) (accepted (plain 30 2 2))
-    ∷ case 100 (addInlineDataRef 168 bodyE d₀) (accepted (bodyOf 2))
-    ∷ case 100 (size (addInlineDataRef 168 bodyE d₀)) (accepted (53 ∷ []))
-    ∷ case 100 (dropInlineDataRef 168 (bodyOf 2) d₀) (accepted bodyE)
-    ∷ case 101 (dropInlineDataRef 168 bodyE d₀) (refused 13)
-    ∷ case 102 (addInlineTreeRef 169 (treeBlockBody 7 (block 5)) (block 5)) (refused 9)
+    case a (inlineRefs 169 (plain 23 0 0)) (refused 6)
+    ∷ case a (inlineRefs 169 (plain 24 0 0)) (accepted [])
+    ∷ case b (inlineRefs 168 (plain 41 0 2)) (refused 6)
+    ∷ case b (inlineRefs 168 (plain 42 0 2)) (accepted [])
+    ∷ case c (raiseTotal (plain 30 1 2) 1) (accepted (plain 30 2 2))
+    ∷ case d (accepted bodyE) (accepted (bytesE 1 1))
+    ∷ case d (addInlineDataRef 168 bodyE nameE) (accepted (bytesE 2 2))
+    ∷ case d (size (addInlineDataRef 168 bodyE nameE)) (accepted (53 ∷ []))
+    ∷ case d (bind (addInlineDataRef 168 bodyE nameE) (λ body. dropInlineDataRef 168 body nameE)) (accepted bodyE)
+    ∷ case e (dropInlineDataRef 168 bodyE nameE) (refused 13)
+    ∷ case f (accepted (treeBlockBody 7 (block 5))) (accepted (blocks 1 (5 ∷ [])))
+    ∷ case f (addInlineTreeRef 169 (blocks 1 (5 ∷ [])) (block 5)) (refused 9)
+    ∷ case f (addInlineTreeRef 169 (blocks 1 (5 ∷ [])) (block 7)) (accepted (blocks 2 (5 ∷ 7 ∷ [])))
+    ∷ case f (addInlineTreeRef 169 (blocks 1 (5 ∷ [])) (block 3)) (accepted (blocks 2 (3 ∷ 5 ∷ [])))
+    ∷ case g (addInlineShared 168 bodyE (record { kind = 184; parent = 4096 }) 0)
+        (accepted (bytesE 1 1 ++ (184 ∷ (leBytes 8 4096 ++ leBytes 4 0))))
+    ∷ case h (number (maxInlineExtentItem 4096)) (accepted (224 ∷ []))
+    ∷ case h (number (maxInlineExtentItem 16384)) (accepted (992 ∷ []))
+    ∷ case h (number (maxInlineExtentItem 501)) (accepted (0 ∷ []))
+    ∷ case h (number (maxInlineExtentItem 500)) (refused 3)
+    ∷ case i (dropKeyedDataRef (keyedDataRefBody nameE 0) nameE) (refused 16)
+    ∷ case i (dropKeyedDataRef (keyedDataRefBody nameE 1) nameE) remove
+    ∷ case j (splitToFit 501 (sheet 3 175)) (accepted (1 ∷ []))
+    ∷ case j (splitToFit 501 (sheet 4 175)) (accepted (2 ∷ []))
+    ∷ case j (splitToFit 501 (sheet 5 175)) (accepted (2 ∷ 4 ∷ []))
+    ∷ case k (heldSheet 397 (insert 501 (1 ∷ []) (alone 375))) (accepted (sheet 1 375))
+    ∷ case k (heldSheet 397 (insert 501 (1 ∷ []) (alone 376))) (refused 18)
     ∷ []
 
-theorem : map (λ (c : Case). c .gives) cases ≡ map (λ (c : Case). c .expected) cases
-unfolding cases bodyE bodyOf same le leBytes be beBytes words wordBytes step steps byteStep run ask bind needed found held dataRefHash rowIn known payloadLength countPosition counted fieldCount weightOf refAt readRefs refBytes refsBytes totalOf flagsOf startOf readBody bodyBytes placeOf place bodyFits sharedKind onBody onHead named raisedBy loweredByOne onTotal raiseTotal positions inlineRefs less dropInline dropInlineDataRef keyedCount dropKeyedDataRef keyedDataRefBody stops gapAt insertPosition standingOr spotAnywhere scanned spotByScan isGap standingWeight addAt addInlineTreeRef addInlineData addInlineDataRef addInlineShared dataExtentBody treeBlockBody sameKey keyBelow itemLength wholeItem firstItem readItems readSheet keyBytes itemBytes itemsBytes sheetBytes nodesizeFits dataFits onSheet itemSpace spaceOf putBefore inserted insert cutFits gapOf closer bestCut filled cutsOf cuts leavesHold splitToFit inlineLimit maxInlineExtentItem
-theorem = refl
+-- each case gives what is expected
+pub marked : map (λ (x : Case). x .gives) cases ≡ map (λ (x : Case). x .expected) cases
+unfolding cases bodyE bytesE blocks same le leBytes be beBytes words wordBytes step steps byteStep run ask bind needed found held dataRefHash rowIn known payloadLength countPosition counted fieldCount weightOf refAt readRefs refBytes refsBytes totalOf flagsOf startOf readBody bodyBytes placeOf place bodyFits sharedKind onBody onHead named raisedBy loweredByOne onTotal raiseTotal positions inlineRefs less dropInline dropInlineDataRef keyedCount dropKeyedDataRef keyedDataRefBody stops gapAt insertPosition standingOr spotAnywhere scanned spotByScan isGap standingWeight addAt addInlineTreeRef addInlineData addInlineDataRef addInlineShared dataExtentBody treeBlockBody sameKey keyBelow itemLength wholeItem firstItem readItems readSheet keyBytes itemBytes itemsBytes sheetBytes nodesizeFits dataFits onSheet itemSpace spaceOf putBefore inserted insert cutFits gapOf closer bestCut filled cutsOf cuts leavesHold splitToFit inlineLimit maxInlineExtentItem sheetHolds heldSheet
+marked = refl
