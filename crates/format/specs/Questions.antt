@@ -1,6 +1,7 @@
 -- Document 01, "Questions at the door": what a call answers, in which order its questions are put, and what a lent output
 -- holds afterwards. Assumes nothing.
-use mathlib.Core.Bool.{Bool, true, false, _&&_, cond}
+use mathlib.Core.Path.{_≡_}
+use mathlib.Core.Bool.{Bool, true, false, cond}
 use mathlib.Core.List.{List, [], _∷_, _++_}
 use mathlib.Core.Option.{Option, none, some}
 use Prim.Native.Nat.{ℕ}
@@ -126,3 +127,13 @@ judgedOf (refused number) = Unjudged number
 judgedOf absent = Unjudged 100
 judgedOf remove = Unjudged 101
 judgedOf (accepted judgement) = Says judgement
+
+-- ---- the contract of a call with a lent output: its answer, and what the output held before and holds after
+
+pub record Answered (a : Answer (List ℕ)) (r : Edited) (old new : List ℕ) : Type 0 where
+  pub result : r ≡ editedOf a
+  pub output : new ≡ lent a old
+
+pub record AnsweredTaken (a : Answer TakenOut) (r : Taken) (old new : List ℕ) : Type 0 where
+  pub result : r ≡ takenOf a
+  pub output : new ≡ lent (bytesOf a) old
