@@ -7,8 +7,8 @@ use Prim.Native.Nat.{ℕ, zero, suc, _+_, _*_, _/_, _%_, _^_, _≤_, _<_}
 use native.Mathlib.Nat.{zero-add, suc-add, pow-zero, pow-succ', mul-assoc}
 use native.Mathlib.Omega.{arith}
 use lib.Dec.{T, ltb, ltb→lt, lt→ltb}
-use lib.ListN.{length, take, drop, length-append, length-drop, length-reverse, take-append-drop}
-use lib.Seq.{take-add, take-at, drop-at, length-take-le}
+use lib.ListN.{length, take, drop, getD, length-append, length-drop, length-reverse, take-append-drop}
+use lib.Seq.{take-add, take-at, drop-at, drop-drop, length-take-le}
 use mir.Facts.{and-yes, yes-and}
 use Rattle.fields.specs.Lists.{all}
 use Rattle.fields.specs.Numbers.{le, leBytes, be, beBytes, words, wordBytes, areBytes}
@@ -16,7 +16,17 @@ use Rattle.fields.specs.Parts.{part, written}
 use Rattle.fields.proofs.Lists.{all-left, all-right, all-both}
 use Rattle.fields.proofs.Parts.{length-part, part-add}
 
--- ---- what is made of bytes is bytes
+-- ---- bytes
+
+-- from each element's range, which is how code knows a slice of u8, and back to it
+pub areBytes-in : (l : List ℕ) → ((i : ℕ) → getD l i 0 < 256) → T (areBytes l)
+areBytes-in [] f = tt
+areBytes-in (b ∷ l) f = yes-and (ltb b 256) _ (lt→ltb b 256 (f 0)) (areBytes-in l (λ i. f (suc i)))
+
+pub areBytes-out : (l : List ℕ) → T (areBytes l) → (i : ℕ) → getD l i 0 < 256
+areBytes-out [] t i = omega arith
+areBytes-out (b ∷ l) t zero = ltb→lt b 256 (and-yes (ltb b 256) _ t .0)
+areBytes-out (b ∷ l) t (suc i) = areBytes-out l (and-yes (ltb b 256) _ t .1) i
 
 pub areBytes-take : (n : ℕ) (l : List ℕ) → T (areBytes l) → T (areBytes (take n l))
 areBytes-take n l t = all-left (λ b. ltb b 256) (take n l) (drop n l) (rw (take-append-drop n l) t)
@@ -186,6 +196,16 @@ unfolding wordBytes
 length-wordBytes [] = refl
 length-wordBytes (word ∷ list) =
     omega (arith, length-append (leBytes 8 word) (wordBytes list), length-leBytes 8 word, length-wordBytes list)
+
+-- a word by its place
+pub words-at : (n k : ℕ) (l : List ℕ) → k < n → getD (words n l) k 0 ≡ le (part (8 * k) 8 l)
+unfolding words
+words-at zero k l h = absurd (omega arith)
+words-at (suc n) zero l h = refl
+words-at (suc n) (suc k) l h =
+    let e : 8 + 8 * k ≡ 8 * suc k = omega arith in
+    words-at n k (drop 8 l) (omega arith)
+    ∙ ap (λ (m : List ℕ). le (take 8 m)) (drop-drop (8 * k) 8 l ∙ ap (λ (i : ℕ). drop i l) e)
 
 -- decode after encode
 pub words-wordBytes : (list more : List ℕ) → T (all (λ w. ltb w 18446744073709551616) list)

@@ -102,12 +102,16 @@ written-pair at m n a b old one two ea eb h e₁ e₂ =
     let h′ : at + (m + length b) ≤ length old = omega arith in
     e₂ ∙ ap (written (at + m) b) e₁ ∙ written-twice at a b old m ea h′
 
+-- a write at the front
+pub written-front : (new old : List ℕ) → written 0 new old ≡ new ++ drop (length new) old
+written-front new old = ap (λ (k : ℕ). new ++ drop k old) (zero-add (length new))
+
 -- what was written is read back
-pub part-written : (at : ℕ) (new old : List ℕ) → at ≤ length old → part at (length new) (written at new old) ≡ new
-part-written at new old h =
-    ap (λ (l : List ℕ). take (length new) (drop at l)) (append-assoc (take at old) new (drop (at + length new) old))
-    ∙ ap (take (length new)) (drop-at (take at old) (new ++ drop (at + length new) old) at (length-take-le at old h))
-    ∙ take-at new (drop (at + length new) old) (length new) refl
+pub part-written : (at size : ℕ) (new old : List ℕ) → length new ≡ size → at ≤ length old → part at size (written at new old) ≡ new
+part-written at size new old e h =
+    ap (λ (l : List ℕ). take size (drop at l)) (append-assoc (take at old) new (drop (at + length new) old))
+    ∙ ap (take size) (drop-at (take at old) (new ++ drop (at + length new) old) at (length-take-le at old h))
+    ∙ take-at new (drop (at + length new) old) size e
 
 -- ---- splices
 
