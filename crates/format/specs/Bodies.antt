@@ -29,6 +29,9 @@ bodyFits body = leb (length body) 65535
 unfoldable pub heldBody : ℕ → Answer (List ℕ) → Answer (List ℕ)
 heldBody room answer = held (λ body. leb (length body) room && bodyFits body) answer
 
+unfoldable pub heldTaken : ℕ → Answer TakenOut → Answer TakenOut
+heldTaken room answer = held (λ out. leb (length (out .bytes)) room && bodyFits (out .bytes)) answer
+
 -- question 3 of a shared kind
 unfoldable pub sharedKind : ℕ → Bool
 sharedKind kind = eqb kind 182 || eqb kind 184
