@@ -99,8 +99,14 @@ pub length-refBytes : (r : Ref) → T (whole r) → length (refBytes r) ≡ 1 + 
 unfolding refBytes
 length-refBytes r t =
     let w : Whole r = whole-out r t in
-    omega (arith, length-append (wordBytes (r .fields)) (countBytes r), length-wordBytes (r .fields), w .fieldsLong,
-    length-countBytes r, payload-fields (r .kind) (w .kindKnown))
+    omega (
+      arith,
+      length-append (wordBytes (r .fields)) (countBytes r),
+      length-wordBytes (r .fields),
+      w .fieldsLong,
+      length-countBytes r,
+      payload-fields (r .kind) (w .kindKnown),
+    )
 
 pub refsBytes-append : (a b : List Ref) → refsBytes (a ++ b) ≡ refsBytes a ++ refsBytes b
 unfolding refsBytes
@@ -237,8 +243,14 @@ module _ (r : Ref) (w : Whole r) (more : List ℕ) where
 
   back-length : length (wordBytes (r .fields) ++ countBytes r) ≡ payloadLength (r .kind)
   back-length =
-      omega (arith, length-append (wordBytes (r .fields)) (countBytes r), length-wordBytes (r .fields), w .fieldsLong,
-      length-countBytes r, payload-fields (r .kind) (w .kindKnown))
+      omega (
+        arith,
+        length-append (wordBytes (r .fields)) (countBytes r),
+        length-wordBytes (r .fields),
+        w .fieldsLong,
+        length-countBytes r,
+        payload-fields (r .kind) (w .kindKnown),
+      )
 
   back-drop : drop (payloadLength (r .kind)) (wordBytes (r .fields) ++ (countBytes r ++ more)) ≡ more
   back-drop =
@@ -247,8 +259,13 @@ module _ (r : Ref) (w : Whole r) (more : List ℕ) where
 
   back-room : payloadLength (r .kind) ≤ length (wordBytes (r .fields) ++ (countBytes r ++ more))
   back-room =
-      omega (arith, back-length, length-append (wordBytes (r .fields)) (countBytes r),
-      length-append (wordBytes (r .fields)) (countBytes r ++ more), length-append (countBytes r) more)
+      omega (
+        arith,
+        back-length,
+        length-append (wordBytes (r .fields)) (countBytes r),
+        length-append (wordBytes (r .fields)) (countBytes r ++ more),
+        length-append (countBytes r) more,
+      )
 
 pub read-refsBytes : (n : ℕ) (refs : List Ref) → T (all whole refs) → length (refsBytes refs) ≤ n
     → readRefs n (refsBytes refs) ≡ accepted refs
