@@ -3,3 +3,4 @@ pub mod Rows
 pub mod Refs
 pub mod Bodies
 pub mod Keys
+pub mod Items
