@@ -4,3 +4,4 @@ pub mod Refs
 pub mod Bodies
 pub mod Keys
 pub mod Items
+pub mod Splices
