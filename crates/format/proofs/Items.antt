@@ -3,12 +3,12 @@
 use mathlib.Core.Path.{_≡_, refl, sym, ap, ap₂, _∙_, subst}
 use mathlib.Core.Logic.{_⊎_, inl, inr}
 use mathlib.Core.Bool.{Bool, true, false, _&&_}
-use mathlib.Core.List.{List, [], _∷_, _++_, append-assoc, reverse}
+use mathlib.Core.List.{List, [], _∷_, _++_, append-assoc}
 use Prim.Native.Nat.{ℕ, zero, suc, _+_, _-_, _%_, _≤_, _<_}
 use native.Mathlib.Omega.{arith}
 use lib.Dec.{T, leb, ltb, eqb, eqb→eq, leb→le, le→leb, ltb→lt, lt→ltb}
-use lib.ListN.{length, take, drop, getD, length-append, length-drop, length-take, take-append-drop}
-use lib.Seq.{take-at, drop-at, drop-drop, getD-drop, length-take-le}
+use lib.ListN.{length, take, drop, getD, length-append, length-take, take-append-drop}
+use lib.Seq.{take-at, drop-at, drop-drop, getD-drop}
 use mir.Facts.{and-yes, yes-and}
 use Rattle.fields.specs.Lists.{sum, all}
 use Rattle.fields.specs.Numbers.{leBytes, be, beBytes, areBytes}
@@ -74,7 +74,10 @@ length-keyBytes key =
     let o : List ℕ = beBytes 8 (key .objectid) in
     let k : List ℕ = beBytes 1 (key .kind) in
     let f : List ℕ = beBytes 8 (key .offset) in
-    omega (arith, length-append o (k ++ f), length-append k f, length-beBytes 8 (key .objectid), length-beBytes 1 (key .kind), length-beBytes 8 (key .offset))
+    let h₁ = length-beBytes 8 (key .objectid) in
+    let h₂ = length-beBytes 1 (key .kind) in
+    let h₃ = length-beBytes 8 (key .offset) in
+    omega (arith, length-append o (k ++ f), length-append k f)
 
 pub length-itemBytes : (i : Item) → length (itemBytes i) ≡ 21 + length (i .bytes)
 unfolding itemBytes

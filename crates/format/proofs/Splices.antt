@@ -1,12 +1,11 @@
 -- An edit of a list is one splice of its bytes: items of a sheet, references of a body. Assumes nothing.
-use mathlib.Core.Path.{_≡_, refl, sym, ap, ap₂, _∙_, subst}
-use mathlib.Core.Bool.{Bool, cond}
+use mathlib.Core.Path.{_≡_, refl, sym, ap, ap₂, _∙_}
 use mathlib.Core.List.{List, [], _∷_, _++_, append-assoc, append-nil}
-use Prim.Native.Nat.{ℕ, _+_, _*_, _≤_, _<_}
+use Prim.Native.Nat.{ℕ, _+_}
 use native.Mathlib.Omega.{arith}
 use lib.Dec.{T}
 use lib.ListN.{length, take, drop, length-append}
-use lib.Seq.{take-at, drop-at}
+use lib.Seq.{take-at, drop-at, drop-drop}
 use Rattle.fields.specs.Numbers.{leBytes, beBytes, wordBytes}
 use Rattle.fields.specs.Parts.{part, written, spliced}
 use Rattle.fields.proofs.Lists.{cond-yes}
@@ -16,9 +15,9 @@ use Rattle.format.specs.References.{counted, countPosition, Ref, refByte
 use Rattle.format.specs.Bodies.{weighed}
 use Rattle.format.specs.Items.{Item, withBytes, keyBytes, itemBytes, itemsBytes, sheetBytes}
 use Rattle.format.proofs.Rows.{count-after-fields}
-use Rattle.format.proofs.Refs.{whole, whole-out, countBytes, refsBytes-append}
+use Rattle.format.proofs.Refs.{whole, whole-out, countBytes, refsBytes-append, refsBytes-cons}
 use Rattle.format.proofs.Bodies.{bodyBytes-grouped, set-total}
-use Rattle.format.proofs.Items.{length-keyBytes, length-itemBytes, length-sheetBytes, itemsBytes-append}
+use Rattle.format.proofs.Items.{length-keyBytes, length-itemBytes, itemsBytes-append}
 
 -- ---- bytes
 
@@ -77,6 +76,10 @@ pub sheet-from : (front back : List Item) → drop (itemAt front) (sheetBytes (f
 unfolding sheetBytes
 sheet-from front back = drop-list itemsBytes itemsBytes-append (1 ∷ []) front back (itemAt front) (omega arith)
 
+sheet-join : (front : List Item) (i : Item) (back : List Item) → sheetBytes (front ++ i ∷ back) ≡ sheetBytes front ++ (itemBytes i ++ itemsBytes back)
+unfolding sheetBytes itemsBytes
+sheet-join front i back = ap (λ (l : List ℕ). 1 ∷ l) (itemsBytes-append front (i ∷ back))
+
 item-ends : (front : List Item) (i : Item) → itemAt front + length (itemsBytes (i ∷ [])) ≡ itemEnd front i
 item-ends front i = omega (arith, ap length (itemsBytes-one i), length-itemBytes i)
 
@@ -108,15 +111,56 @@ sheet-put items front new back e =
     sheet-splice front [] (new ∷ []) back (itemAt front) (itemAt front) refl (omega arith)
     ∙ ap₂ (spliced (itemAt front) (itemAt front)) (itemsBytes-one new) (ap sheetBytes (sym e))
 
--- an item's data stands 21 bytes on
-data-at : (i : Item) (more : List ℕ) → drop 21 (itemBytes i ++ more) ≡ i .bytes ++ more
+-- ---- an item's data, 21 bytes on
+
+-- length and key, then the data
+itemBytes-head : (i : Item) (more : List ℕ) → itemBytes i ++ more ≡ (beBytes 4 (17 + length (i .bytes)) ++ keyBytes (i .key)) ++ (i .bytes ++ more)
 unfolding itemBytes
-data-at i more =
+itemBytes-head i more =
     let n : List ℕ = beBytes 4 (17 + length (i .bytes)) in
     let k : List ℕ = keyBytes (i .key) in
-    let e : length (n ++ k) ≡ 21 = length-append n k ∙ omega (arith, length-beBytes 4 (17 + length (i .bytes)), length-keyBytes (i .key)) in
-    ap (drop 21) (append-assoc n (k ++ i .bytes) more ∙ ap (λ (l : List ℕ). n ++ l) (append-assoc k (i .bytes) more) ∙ sym (append-assoc n k (i .bytes ++ more)))
-    ∙ drop-at (n ++ k) (i .bytes ++ more) 21 e
+    append-assoc n (k ++ i .bytes) more ∙ ap (λ (l : List ℕ). n ++ l) (append-assoc k (i .bytes) more)
+    ∙ sym (append-assoc n k (i .bytes ++ more))
+
+length-head : (n : ℕ) (i : Item) → length (beBytes 4 n ++ keyBytes (i .key)) ≡ 21
+length-head n i = length-append (beBytes 4 n) (keyBytes (i .key)) ∙ omega (arith, length-beBytes 4 n, length-keyBytes (i .key))
+
+pub data-at : (i : Item) (more : List ℕ) → drop 21 (itemBytes i ++ more) ≡ i .bytes ++ more
+data-at i more =
+    ap (drop 21) (itemBytes-head i more)
+    ∙ drop-at (beBytes 4 (17 + length (i .bytes)) ++ keyBytes (i .key)) (i .bytes ++ more) 21 (length-head (17 + length (i .bytes)) i)
+
+-- "the part of the sheet that is its data"
+pub sheet-data : (items front : List Item) (i : Item) (back : List Item) → items ≡ front ++ i ∷ back
+    → part (itemAt front + 21) (length (i .bytes)) (sheetBytes items) ≡ i .bytes
+unfolding itemsBytes
+sheet-data items front i back e =
+    ap (λ (l : List Item). part (itemAt front + 21) (length (i .bytes)) (sheetBytes l)) e
+    ∙ ap (take (length (i .bytes)))
+    (sym (drop-drop 21 (itemAt front) (sheetBytes (front ++ i ∷ back))) ∙ ap (drop 21) (sheet-from front (i ∷ back)) ∙ data-at i (itemsBytes back))
+    ∙ take-at (i .bytes) (itemsBytes back) (length (i .bytes)) refl
+
+-- other data as long as before is a write
+pub sheet-rewrite : (items front : List Item) (i : Item) (d : List ℕ) (back : List Item) → items ≡ front ++ i ∷ back → length d ≡ length (i .bytes)
+    → sheetBytes (front ++ withBytes i d ∷ back) ≡ written (itemAt front + 21) d (sheetBytes items)
+unfolding itemsBytes
+sheet-rewrite items front i d back e n =
+    let head : List ℕ = beBytes 4 (17 + length (i .bytes)) ++ keyBytes (i .key) in
+    let rest : List ℕ = itemsBytes back in
+    let at : length (sheetBytes front ++ head) ≡ itemAt front + 21 =
+    length-append (sheetBytes front) head ∙ ap (λ (k : ℕ). itemAt front + k) (length-head (17 + length (i .bytes)) i) in
+    let new : sheetBytes (front ++ withBytes i d ∷ back) ≡ (sheetBytes front ++ head) ++ (d ++ rest) =
+    sheet-join front (withBytes i d) back
+    ∙ ap (λ (l : List ℕ). sheetBytes front ++ l)
+    (itemBytes-head (withBytes i d) rest ∙ ap (λ (k : ℕ). (beBytes 4 (17 + k) ++ keyBytes (i .key)) ++ (d ++ rest)) n)
+    ∙ sym (append-assoc (sheetBytes front) head (d ++ rest)) in
+    let old : sheetBytes items ≡ (sheetBytes front ++ head) ++ (i .bytes ++ rest) =
+    ap sheetBytes e ∙ sheet-join front i back ∙ ap (λ (l : List ℕ). sheetBytes front ++ l) (itemBytes-head i rest)
+    ∙ sym (append-assoc (sheetBytes front) head (i .bytes ++ rest)) in
+    let q : ℕ = itemAt front + 21 + length d in
+    new ∙ splice-at (sheetBytes front ++ head) (i .bytes) d rest (itemAt front + 21) q at (omega arith)
+    ∙ ap (spliced (itemAt front + 21) q d) (sym old)
+    ∙ spliced-written (itemAt front + 21) q d (sheetBytes items) refl
 
 -- ---- references of a body
 
@@ -166,3 +210,46 @@ body-edit-after b t front old new back p q e at to =
     body-splice b t front old new back p q at to
     ∙ ap (λ (refs : List Ref). spliced p q (refsBytes new) (bodyBytes (bodyWith b t refs))) (sym e)
     ∙ ap (spliced p q (refsBytes new)) (sym (set-total b t))
+
+-- ---- a reference's count is a write of 4 bytes
+
+weighed-count : (r : Ref) (w : ℕ) → T (counted (r .kind)) → countBytes (weighed r w) ≡ leBytes 4 w
+weighed-count r w c = cond-yes (counted (r .kind)) (leBytes 4 w) [] c
+
+-- type and fields, then the count and what follows
+weighed-bytes : (r : Ref) (w : ℕ) (back : List Ref) → T (counted (r .kind))
+    → refsBytes (weighed r w ∷ back) ≡ (r .kind ∷ wordBytes (r .fields)) ++ (leBytes 4 w ++ refsBytes back)
+weighed-bytes r w back c =
+    refsBytes-cons (weighed r w) back
+    ∙ ap (λ (l : List ℕ). r .kind ∷ (wordBytes (r .fields) ++ (l ++ refsBytes back))) (weighed-count r w c)
+
+pub body-weigh : (b : Body) (t : ℕ) (front : List Ref) (r : Ref) (w : ℕ) (back : List Ref) → T (whole r) → T (counted (r .kind))
+    → bodyBytes (bodyWith b t (front ++ weighed r w ∷ back))
+    ≡ written (refPlace b front + 1 + countPosition (r .kind)) (leBytes 4 w) (bodyBytes (bodyWith b t (front ++ r ∷ back)))
+body-weigh b t front r w back h c =
+    let p : ℕ = refPlace b front + 1 + countPosition (r .kind) in
+    let first : List ℕ = leBytes 8 t ++ b .fixed in
+    let head : List ℕ = r .kind ∷ wordBytes (r .fields) in
+    let n : length head ≡ 1 + countPosition (r .kind) =
+    omega (arith, length-wordBytes (r .fields), whole-out r h .fieldsLong, count-after-fields (r .kind) c) in
+    let n₁ = length-append (first ++ refsBytes front) head in
+    let n₂ = length-append first (refsBytes front) in
+    let n₃ : length first ≡ 8 + length (b .fixed) = before-refs b t in
+    let n₄ : length (leBytes 4 (r .weight)) ≡ 4 = length-leBytes 4 (r .weight) in
+    let n₅ : length (leBytes 4 w) ≡ 4 = length-leBytes 4 w in
+    let at : length ((first ++ refsBytes front) ++ head) ≡ p = omega arith in
+    let q : ℕ = p + length (leBytes 4 w) in
+    grouped w ∙ splice-at ((first ++ refsBytes front) ++ head) (leBytes 4 (r .weight)) (leBytes 4 w) (refsBytes back) p q at (omega arith)
+    ∙ ap (spliced p q (leBytes 4 w)) (sym (grouped (r .weight)))
+    ∙ spliced-written p q (leBytes 4 w) (bodyBytes (bodyWith b t (front ++ r ∷ back))) refl
+  where
+    grouped : (v : ℕ) → bodyBytes (bodyWith b t (front ++ weighed r v ∷ back))
+        ≡ (((leBytes 8 t ++ b .fixed) ++ refsBytes front) ++ (r .kind ∷ wordBytes (r .fields))) ++ (leBytes 4 v ++ refsBytes back)
+    grouped v =
+        let first : List ℕ = leBytes 8 t ++ b .fixed in
+        let head : List ℕ = r .kind ∷ wordBytes (r .fields) in
+        bodyBytes-grouped (bodyWith b t (front ++ weighed r v ∷ back))
+        ∙ ap (λ (l : List ℕ). first ++ l) (refsBytes-append front (weighed r v ∷ back)
+        ∙ ap (λ (l : List ℕ). refsBytes front ++ l) (weighed-bytes r v back c))
+        ∙ sym (append-assoc first (refsBytes front) (head ++ (leBytes 4 v ++ refsBytes back)))
+        ∙ sym (append-assoc (first ++ refsBytes front) head (leBytes 4 v ++ refsBytes back))
