@@ -1,0 +1,1 @@
+-- Document 01, "The entry": demand 3, one claim on a whole list of postings. Assumes nothing.
