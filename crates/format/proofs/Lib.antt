@@ -2,3 +2,4 @@ pub mod Answers
 pub mod Rows
 pub mod Refs
 pub mod Bodies
+pub mod Keys
