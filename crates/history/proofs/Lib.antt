@@ -1,3 +1,6 @@
 pub mod Sums
 pub mod Naming
 pub mod Order
+pub mod Edit
+pub mod Facts
+pub mod Steps
