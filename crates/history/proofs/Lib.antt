@@ -4,3 +4,4 @@ pub mod Order
 pub mod Edit
 pub mod Facts
 pub mod Steps
+pub mod Adds
