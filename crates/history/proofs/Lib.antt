@@ -5,3 +5,4 @@ pub mod Edit
 pub mod Facts
 pub mod Steps
 pub mod Adds
+pub mod Drops
