@@ -1,11 +1,11 @@
 -- Bodies as bytes: what is written is read back, what is read is written as it stood, and a total written over another.
 -- Assumes nothing.
-use mathlib.Core.Path.{_≡_, refl, sym, ap, ap₂, _∙_, subst}
+use mathlib.Core.Path.{_≡_, refl, sym, ap, _∙_, subst}
 use mathlib.Core.Bool.{Bool, true, false, _&&_, cond}
-use mathlib.Core.List.{List, [], _∷_, _++_, append-assoc}
-use Prim.Native.Nat.{ℕ, zero, suc, _+_, _-_, _*_, _/_, _%_, _≤_, _<_}
+use mathlib.Core.List.{List, [], _++_, append-assoc}
+use Prim.Native.Nat.{ℕ, _+_, _/_, _%_, _≤_, _<_}
 use native.Mathlib.Omega.{arith}
-use lib.Dec.{T, leb, ltb, eqb, leb→le, le→leb}
+use lib.Dec.{T, leb, eqb, leb→le, le→leb}
 use lib.ListN.{length, take, drop, length-append, length-drop, take-append-drop}
 use lib.Seq.{take-at, drop-at, take-append-le, drop-append-le, take-take, drop-drop, length-take-le}
 use Rattle.fields.specs.Lists.{all}
@@ -128,7 +128,8 @@ read-bodyBytes type b s =
     ∙ drop-at t8 (b .fixed) 8 l8 in
     ask-yes (leb 24 (length d)) 6 _ (le→leb 24 (length d) (omega arith))
     ∙ ask-yes (leb (startOf type d) (length d)) 6 _ (le→leb (startOf type d) (length d) (omega arith))
-    ∙ ap (λ (x : Answer (List Ref)). bind x (λ (refs : List Ref). accepted (record { total = totalOf d; fixed = drop 8 (take (startOf type d) d); refs = refs }))) rd
+    ∙ ap (λ (x : Answer (List Ref)). bind x (λ (refs : List Ref).
+    accepted (record { total = totalOf d; fixed = drop 8 (take (startOf type d) d); refs = refs }))) rd
     ∙ (λ i. accepted (record { total = to i; fixed = fx i; refs = b .refs }))
 
 -- ---- what a body that was read says of its bytes
@@ -199,7 +200,8 @@ read-sound type d b t e =
     record {
       fits = rw (← h .totalRead) (rw l8 at (le-bound (take 8 d) (areBytes-take 8 d t)));
       starts = ap (λ (n : ℕ). cond (eqb type 168 && eqb (n / 2 % 2) 1) 42 24) (sym fl) ∙ at;
-      fixedBytes = subst (λ (l : List ℕ). T (areBytes l)) (h .fixedRead) (areBytes-drop 8 (take (startOf type d) d) (areBytes-take (startOf type d) d t));
+      fixedBytes = subst (λ (l : List ℕ). T (areBytes l)) (h .fixedRead)
+          (areBytes-drop 8 (take (startOf type d) d) (areBytes-take (startOf type d) d t));
       wholes = readRefs-whole (length d) (drop (startOf type d) d) (b .refs) (areBytes-drop (startOf type d) d t) (h .refsRead);
     }
 
@@ -217,12 +219,15 @@ readBody-decides type d =
     go (leb 24 (length d)) (leb (startOf type d) (length d)) (readRefs (length d) (drop (startOf type d) d))
     (readRefs-decides (length d) (drop (startOf type d) d))
   where
+    with-refs : List Ref → Body
+    with-refs refs = record { total = totalOf d; fixed = drop 8 (take (startOf type d) d); refs = refs }
+
     next : List Ref → Answer Body
-    next refs = accepted (record { total = totalOf d; fixed = drop 8 (take (startOf type d) d); refs = refs })
+    next refs = accepted (with-refs refs)
 
     go : (b c : Bool) (r : Answer (List Ref)) → Reads r → ReadsBody (ask b 6 (ask c 6 (bind r next)))
     go false c r h = short refl
     go true false r h = short refl
-    go true true r (read refs e) = body (record { total = totalOf d; fixed = drop 8 (take (startOf type d) d); refs = refs }) (ap (λ x. bind x next) e)
+    go true true r (read refs e) = body (with-refs refs) (ap (λ x. bind x next) e)
     go true true r (strangeRefs e) = strange (bind-refused r next 7 e)
     go true true r (cutOffRefs e) = cutOff (bind-refused r next 8 e)

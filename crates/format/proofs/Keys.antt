@@ -2,7 +2,7 @@
 -- key stands twice. Assumes nothing.
 use mathlib.Core.Path.{_≡_, refl, sym, ap, _∙_, subst}
 use mathlib.Core.Logic.{_⊎_, inl, inr}
-use mathlib.Core.Bool.{Bool, true, false, not, _&&_, _||_, cond}
+use mathlib.Core.Bool.{Bool, not, _&&_, _||_}
 use mathlib.Core.Option.{Option, none, some, Option·map}
 use mathlib.Core.List.{List, [], _∷_, _++_, append-nil}
 use Prim.Native.Nat.{ℕ, _≤_, _<_}
@@ -10,9 +10,9 @@ use native.Mathlib.Omega.{arith}
 use lib.Dec.{T, ltb, eqb, eqb→eq, eqb-refl, ltb→lt, lt→ltb, T-not, not-T}
 use mir.Facts.{and-yes, yes-and, yes-eqb, or-yes}
 use Rattle.fields.specs.Lists.{all, Cut, later, cut}
-use Rattle.fields.proofs.Lists.{or-left, or-right, cond-yes, cond-no, lt-or, some-inj, all-left, all-both, all-mid, all-map, all-two, Found, cut-some, cut-none}
+use Rattle.fields.proofs.Lists.{or-left, or-right, cond-yes, cond-no, lt-or, all-left, all-both, all-mid, all-map, all-two, Found, cut-some, cut-none}
 use Rattle.format.specs.declared.Key.{Key}
-use Rattle.format.specs.Questions.{Answer, accepted}
+use Rattle.format.specs.Questions.{accepted}
 use Rattle.format.specs.Items.{Item, sameKey, keyBelow, above, rising, withBytes}
 use Rattle.format.specs.Sheets.{hasKey, putBefore, inserted}
 use Rattle.format.proofs.Answers.{accepted-inj, ask-ok}
@@ -233,7 +233,8 @@ inserted-out new items result e =
     let h = ask-ok (all (λ i. not (hasKey (new .key) i)) items) 9 _ e in
     go (cut (beyond (new .key)) items) refl (h .0) (accepted-inj (h .1))
   where
-    lower-of : (l : List Item) → T (all (λ i. not (hasKey (new .key) i)) l) → T (all (λ i. not (beyond (new .key) i)) l) → T (all (below (new .key)) l)
+    lower-of : (l : List Item) → T (all (λ i. not (hasKey (new .key) i)) l) → T (all (λ i. not (beyond (new .key) i)) l)
+        → T (all (below (new .key)) l)
     lower-of l s t =
         all-two (λ i. not (hasKey (new .key) i)) (λ i. not (beyond (new .key) i)) (below (new .key))
         (λ i x y. else-below (i .key) (new .key) x y) l s t

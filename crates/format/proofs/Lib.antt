@@ -3,3 +3,5 @@ pub mod Rows
 pub mod Refs
 pub mod Bodies
 pub mod Keys
+pub mod Items
+pub mod Splices
