@@ -6,3 +6,4 @@ pub mod Facts
 pub mod Steps
 pub mod Adds
 pub mod Drops
+pub mod DropCalls
