@@ -7,3 +7,5 @@ pub mod Steps
 pub mod Adds
 pub mod Drops
 pub mod DropCalls
+pub mod Decided
+pub mod Demand
