@@ -9,3 +9,4 @@ pub mod Drops
 pub mod DropCalls
 pub mod Decided
 pub mod Demand
+pub mod Bounds
