@@ -76,14 +76,14 @@ module _ (m : Name) (nm : NameOk m) (items : List Item) (c : Cut Item) (b : Body
           inline-gone m (nm .naming) items c b H bal td x (f .same) (f .hit) 1 (omega arith) (omega arith) false
 
 -- the item of a key
-key-found : (key : Key) (items : List Item) (k : Cut Item) → needed 5 (cut (hasKey key) items) ≡ accepted k
+pub key-found : (key : Key) (items : List Item) (k : Cut Item) → needed 5 (cut (hasKey key) items) ≡ accepted k
     → (items ≡ k .front ++ k .hit ∷ k .back) × (k .hit .key ≡ key)
 key-found key items k e =
     let f = cut-some (hasKey key) items (needed-ok 5 (cut (hasKey key) items) e) in
     (f .same, sameKey-yes (k .hit .key) key (f .hit))
 
 -- the entry of a reference item without three fields, by its key
-keyed-entry : (i : Item) (extent kind field : ℕ) → i .key ≡ keyOf extent kind field → Naming kind → eqb kind 178 ≡ false → T (good i)
+pub keyed-entry : (i : Item) (extent kind field : ℕ) → i .key ≡ keyOf extent kind field → Naming kind → eqb kind 178 ≡ false → T (good i)
     → itemEntries i ≡ only (record { extent = extent; kind = kind; fields = one field }) (some (sharedCount i))
 keyed-entry i extent kind field e k q g =
     let ek : i .key .kind ≡ kind = ap (λ (key : Key). key .kind) e in
@@ -285,7 +285,7 @@ drop-data extent name items after nm bal td e =
 
 -- ---- a shared reference, whole
 
-not-178 : (kind : ℕ) → T (sharedKind kind) → eqb kind 178 ≡ false
+pub not-178 : (kind : ℕ) → T (sharedKind kind) → eqb kind 178 ≡ false
 unfolding sharedKind
 not-178 kind t = go (shared-naming kind t) t
   where

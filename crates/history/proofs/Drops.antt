@@ -137,7 +137,18 @@ unfolding isRecord
 key-record x r i t h =
     subst (λ (k : Key). T ((eqb (k .kind) 168 || eqb (k .kind) 169) && eqb (k .objectid) x)) (sym (sameKey-yes (i .key) (r .key) h)) t
 
--- ---- as an item: the item at a cut stands for the name with the weight w
+-- ---- as an item
+
+-- an item that stands for a name counts something
+pub item-counts : (items : List Item) → Balanced items → (k : Cut Item) → items ≡ k .front ++ k .hit ∷ k .back
+    → (m : Name) (w : ℕ) → itemEntries (k .hit) ≡ only m (some w) → 1 ≤ w
+item-counts items bal k ek m w ew =
+    let e₁ = ap (λ (l : List Item). sum empty (entries l)) ek ∙ sum-mid empty (k .front) (k .hit) (k .back) in
+    let e₂ = ap (sum empty) ew in
+    let e₃ = bal .weigh in
+    positive m w (omega arith)
+
+-- the item at a cut stands for the name with the weight w
 
 module _ (m : Name) (items : List Item) (c : Cut Item) (b : Body) (H : Here m items c b) (bal : Balanced items) (td : T (all tidy items))
     (k : Cut Item) (ek : items ≡ k .front ++ k .hit ∷ k .back) (naming : Naming (k .hit .key .kind)) (ox : k .hit .key .objectid ≡ m .extent)
@@ -147,14 +158,6 @@ module _ (m : Name) (items : List Item) (c : Cut Item) (b : Body) (H : Here m it
 
   pub tidy-k : T (all tidy (k .front ++ k .hit ∷ k .back))
   tidy-k = rw ek at td
-
-  pub weight-k : 1 ≤ w
-  weight-k =
-      let B = bal-k in
-      let e₁ = sum-mid empty (k .front) (k .hit) (k .back) in
-      let e₂ = ap (sum empty) ew in
-      let e₃ = B .weigh in
-      positive m w (omega arith)
 
   -- the record found by its key afterwards is the one that was read
   same-record : (o : List Item) → T (all (λ i. not (isRecord i)) o) → (c′ : Cut Item)

@@ -10,3 +10,4 @@ pub mod DropCalls
 pub mod Decided
 pub mod Demand
 pub mod Bounds
+pub mod Impossible
