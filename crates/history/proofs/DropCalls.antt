@@ -34,7 +34,7 @@ use Rattle.format.proofs.Bodies.{Sound, sound-with, read-bodyBytes, areBytes-bo
 use Rattle.format.proofs.Keys.{sameKey-yes}
 use Rattle.history.proofs.Naming.{Naming, is176, is178, is182, is184, shared-naming}
 use Rattle.history.proofs.Edit.{only, Balanced}
-use Rattle.history.proofs.Facts.{plain-entry, data-entry, data-good}
+use Rattle.history.proofs.Facts.{plain-entry, data-entry, data-good, count-fits}
 use Rattle.history.proofs.Steps.{tidy, tidy-bytes, NameOk, Step, Here, on-record, on-body, on-total}
 use Rattle.history.proofs.Drops.{weight-at, inline-less, inline-gone, item-gone, item-less}
 
@@ -69,21 +69,21 @@ module _ (m : Name) (nm : NameOk m) (items : List Item) (c : Cut Item) (b : Body
           (putBack c (bodyBytes (bodyWith b (b .total - 1) (x .front ++ (cond d (weighed (x .hit) (x .hit .weight - 1) ∷ []) [] ++ x .back)))))
       go x f two true q =
           let l : 1 < x .hit .weight = ltb→lt 1 (x .hit .weight) (subst T (sym q) tt) in
-          inline-less m nm items c b H bal td x (f .same) (f .hit) 1 (omega arith) l (omega arith)
+          inline-less m (nm .naming) items c b H bal td x (f .same) (f .hit) 1 (omega arith) l (omega arith)
       go x f two false q =
           let l : x .hit .weight ≤ 1 = nltb→le 1 (x .hit .weight) (subst (λ (z : Bool). T (not z)) (sym q) tt) in
-          let l′ = weight-at m nm items c b H bal td x (f .same) (f .hit) in
-          inline-gone m nm items c b H bal td x (f .same) (f .hit) 1 (omega arith) (omega arith) false
+          let l′ = weight-at m (nm .naming) items c b H bal td x (f .same) (f .hit) in
+          inline-gone m (nm .naming) items c b H bal td x (f .same) (f .hit) 1 (omega arith) (omega arith) false
 
 -- the item of a key
-key-found : (key : Key) (items : List Item) (k : Cut Item) → needed 5 (cut (hasKey key) items) ≡ accepted k
+pub key-found : (key : Key) (items : List Item) (k : Cut Item) → needed 5 (cut (hasKey key) items) ≡ accepted k
     → (items ≡ k .front ++ k .hit ∷ k .back) × (k .hit .key ≡ key)
 key-found key items k e =
     let f = cut-some (hasKey key) items (needed-ok 5 (cut (hasKey key) items) e) in
     (f .same, sameKey-yes (k .hit .key) key (f .hit))
 
 -- the entry of a reference item without three fields, by its key
-keyed-entry : (i : Item) (extent kind field : ℕ) → i .key ≡ keyOf extent kind field → Naming kind → eqb kind 178 ≡ false → T (good i)
+pub keyed-entry : (i : Item) (extent kind field : ℕ) → i .key ≡ keyOf extent kind field → Naming kind → eqb kind 178 ≡ false → T (good i)
     → itemEntries i ≡ only (record { extent = extent; kind = kind; fields = one field }) (some (sharedCount i))
 keyed-entry i extent kind field e k q g =
     let ek : i .key .kind ≡ kind = ap (λ (key : Key). key .kind) e in
@@ -211,13 +211,6 @@ module _ (i : Item) (d : DataRef) (kind : i .key .kind ≡ 178) (offset : i .key
       data-entry (withBytes i (written 24 (leBytes 4 v) (i .bytes))) kind again-good
       ∙ ap₂ (λ (l : List ℕ) (w : ℕ). only (record { extent = i .key .objectid; kind = 178; fields = l }) (some w)) again-words again-count
 
--- a count of four bytes
-count-fits : (d : List ℕ) → length d ≡ 28 → T (areBytes d) → keyedCount d < 4294967296
-unfolding keyedCount
-count-fits d e t =
-    let l : length (part 24 4 d) ≡ 4 = length-part 4 24 d (omega arith) in
-    rw l at (le-bound (part 24 4 d) (areBytes-part 24 4 d t))
-
 pub drop-data : (extent : ℕ) (name : DataRef) (items after : List Item) → NameOk (nameOf (DropData extent name)) → Balanced items → T (all tidy items)
     → onRecord extent items (dropDataRef name items) ≡ accepted after → Step (nameOf (DropData extent name)) 0 1 false items after
 unfolding dropDataRef dropInlineDataRef lowerTotal
@@ -292,7 +285,7 @@ drop-data extent name items after nm bal td e =
 
 -- ---- a shared reference, whole
 
-not-178 : (kind : ℕ) → T (sharedKind kind) → eqb kind 178 ≡ false
+pub not-178 : (kind : ℕ) → T (sharedKind kind) → eqb kind 178 ≡ false
 unfolding sharedKind
 not-178 kind t = go (shared-naming kind t) t
   where
@@ -346,7 +339,7 @@ drop-shared extent name items after sk nm bal td e =
           w,
           subst (Step m 0 w true items)
           (ap (putBack c) (ap (λ (n : ℕ). bodyBytes (bodyWith b n (x .front ++ x .back))) tt′ ∙ be) ∙ accepted-inj (h₄ .2))
-          (inline-gone m nm items c b H bal td x (f .same) (f .hit) w refl within true),
+          (inline-gone m (nm .naming) items c b H bal td x (f .same) (f .hit) w refl within true),
         )
     go c b H (inr (_, e)) =
         let key₀ : Key = keyOf (c .hit .key .objectid) (name .kind) (name .parent) in

@@ -30,16 +30,16 @@ use Rattle.history.proofs.Naming.{Naming, not-172, weighs-one, naming-n
 use Rattle.history.proofs.Order.{named-yes, ordered-weighed, ordered-drop}
 use Rattle.history.proofs.Edit.{only, worth, Balanced, Fresh, Half, half-drop, half-swap, edit-item, record-entries}
 use Rattle.history.proofs.Facts.{named-entries, positive, not-empty, view-written}
-use Rattle.history.proofs.Steps.{tidy, tidy-with, NameOk, Step, Here, bal-at, ordered-at, inline-step}
+use Rattle.history.proofs.Steps.{tidy, tidy-with, Step, Here, bal-at, ordered-at, inline-step}
 
 -- ---- inline: the reference at a cut has the name
 
-module _ (m : Name) (nm : NameOk m) (items : List Item) (c : Cut Item) (b : Body) (H : Here m items c b) (bal : Balanced items) (td : T (all tidy items))
+module _ (m : Name) (naming : Naming (m .kind)) (items : List Item) (c : Cut Item) (b : Body) (H : Here m items c b) (bal : Balanced items) (td : T (all tidy items))
     (x : Cut Ref) (e : b .refs ≡ x .front ++ x .hit ∷ x .back) (t : T (named (m .kind) (m .fields) (x .hit))) where
   entries-at : refEntries (m .extent) (x .hit ∷ []) ≡ only m (some (x .hit .weight))
   entries-at =
       let h = named-yes (m .kind) (m .fields) (x .hit) t in
-      named-entries m (x .hit) (not-172 (m .kind) (nm .naming)) (h .0) (h .1)
+      named-entries m (x .hit) (not-172 (m .kind) naming) (h .0) (h .1)
 
   pub weight-at : 1 ≤ x .hit .weight
   weight-at =
@@ -72,7 +72,7 @@ module _ (m : Name) (nm : NameOk m) (items : List Item) (c : Cut Item) (b : Body
         weighs = λ u. (let z = wx .weighs u in omega arith);
         weightFixed = λ u.
             (let z = wx .weightFixed u in
-            let y : weightOf (x .hit .kind) 0 ≡ 1 = weighs-one (x .hit .kind) (rw k (nm .naming)) 0 u in
+            let y : weightOf (x .hit .kind) 0 ≡ 1 = weighs-one (x .hit .kind) (rw k naming) 0 u in
             absurd (omega arith));
       }) in
       let lt : b .total - n < 18446744073709551616 = omega arith in
@@ -86,7 +86,7 @@ module _ (m : Name) (nm : NameOk m) (items : List Item) (c : Cut Item) (b : Body
         was = e;
         now = refl;
         out = entries-at;
-        into = named-entries m x′ (not-172 (m .kind) (nm .naming)) k f;
+        into = named-entries m x′ (not-172 (m .kind) naming) k f;
       })
       (ordered-weighed (x .front) (x .hit) (w - n) (x .back) (rw e at (ordered-at m items c b H bal td))) (omega arith)
       (sound-with (c .hit .key .kind) b (b .total - n) (x .front ++ x′ ∷ x .back) S lt
@@ -137,7 +137,18 @@ unfolding isRecord
 key-record x r i t h =
     subst (λ (k : Key). T ((eqb (k .kind) 168 || eqb (k .kind) 169) && eqb (k .objectid) x)) (sym (sameKey-yes (i .key) (r .key) h)) t
 
--- ---- as an item: the item at a cut stands for the name with the weight w
+-- ---- as an item
+
+-- an item that stands for a name counts something
+pub item-counts : (items : List Item) → Balanced items → (k : Cut Item) → items ≡ k .front ++ k .hit ∷ k .back
+    → (m : Name) (w : ℕ) → itemEntries (k .hit) ≡ only m (some w) → 1 ≤ w
+item-counts items bal k ek m w ew =
+    let e₁ = ap (λ (l : List Item). sum empty (entries l)) ek ∙ sum-mid empty (k .front) (k .hit) (k .back) in
+    let e₂ = ap (sum empty) ew in
+    let e₃ = bal .weigh in
+    positive m w (omega arith)
+
+-- the item at a cut stands for the name with the weight w
 
 module _ (m : Name) (items : List Item) (c : Cut Item) (b : Body) (H : Here m items c b) (bal : Balanced items) (td : T (all tidy items))
     (k : Cut Item) (ek : items ≡ k .front ++ k .hit ∷ k .back) (naming : Naming (k .hit .key .kind)) (ox : k .hit .key .objectid ≡ m .extent)
@@ -147,14 +158,6 @@ module _ (m : Name) (items : List Item) (c : Cut Item) (b : Body) (H : Here m it
 
   pub tidy-k : T (all tidy (k .front ++ k .hit ∷ k .back))
   tidy-k = rw ek at td
-
-  pub weight-k : 1 ≤ w
-  weight-k =
-      let B = bal-k in
-      let e₁ = sum-mid empty (k .front) (k .hit) (k .back) in
-      let e₂ = ap (sum empty) ew in
-      let e₃ = B .weigh in
-      positive m w (omega arith)
 
   -- the record found by its key afterwards is the one that was read
   same-record : (o : List Item) → T (all (λ i. not (isRecord i)) o) → (c′ : Cut Item)

@@ -11,9 +11,11 @@ use lib.ListN.{length}
 use lib.Dec.{T, leb, ltb, eqb, eqb-refl, eqb→eq, leb→le, le→leb}
 use mir.Facts.{and-yes, yes-and, T-not, not-T, yes-eqb, no-eqb}
 use Rattle.fields.specs.Lists.{sum, all}
-use Rattle.fields.specs.Numbers.{le, words}
+use Rattle.fields.specs.Numbers.{le, words, areBytes}
 use Rattle.fields.specs.Parts.{part}
 use Rattle.fields.proofs.Lists.{T-eq, cond-yes, cond-no, sum-append, all-both}
+use Rattle.fields.proofs.Parts.{length-part}
+use Rattle.fields.proofs.Numbers.{areBytes-part, le-bound}
 use Rattle.format.specs.Questions.{Answer, refused, absent, remove, accepted}
 use Rattle.format.specs.References.{known, payloadLength, countPosition, counted, fieldCount, rowIn, weightOf, Ref, ref, refAt, Body, readBody, bodyBytes, place}
 use Rattle.format.specs.Bodies.{named, one, keyedCount}
@@ -204,7 +206,7 @@ plain-entry i k q t = go k
         (sym (cond-yes (eqb (i .key .kind) 184) (le (i .bytes)) 1 n₂))
 
 -- of 178: three words and a count
-refAt-178 : (bytes : List ℕ) → refAt 178 bytes ≡ ref 178 (words 3 bytes) (keyedCount bytes)
+pub refAt-178 : (bytes : List ℕ) → refAt 178 bytes ≡ ref 178 (words 3 bytes) (keyedCount bytes)
 unfolding refAt keyedCount fieldCount payloadLength counted countPosition rowIn weightOf
 refAt-178 bytes = refl
 
@@ -229,6 +231,13 @@ data-good i e l o =
     view-item i (is178 e) ∙ cond-yes (eqb (i .key .kind) 178) _ _ (yes-eqb e)
     ∙ cond-yes f _ _ (yes-and (eqb (length d) 28) _ (yes-eqb l) (yes-eqb o′)) in
     subst (λ (y : View). T (wellFormed y)) (sym v) tt
+
+-- a count of four bytes
+pub count-fits : (d : List ℕ) → length d ≡ 28 → T (areBytes d) → keyedCount d < 4294967296
+unfolding keyedCount
+count-fits d e t =
+    let l : length (part 24 4 d) ≡ 4 = length-part 4 24 d (omega arith) in
+    rw l at (le-bound (part 24 4 d) (areBytes-part 24 4 d t))
 
 -- ---- a name that does not stand counts nothing
 

@@ -9,3 +9,5 @@ pub mod Drops
 pub mod DropCalls
 pub mod Decided
 pub mod Demand
+pub mod Bounds
+pub mod Impossible
