@@ -1,0 +1,3 @@
+pub mod Posting
+pub mod Counts
+pub mod Adds
