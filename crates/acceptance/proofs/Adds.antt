@@ -306,3 +306,126 @@ add-block nodesize sheet extent name room raw wide = record { only = there; enou
               (or-right (leb (length body) (length (c .hit .bytes))) _ (le→leb (length body) (inlineLimit nodesize) lim));
           holds = room-in sheet items S m c b H room 9 body l (omega arith) (f .roomy) (f .small);
         })
+
+-- ---- a data reference
+
+pub add-data : (nodesize : ℕ) (sheet : List ℕ) (extent : ℕ) (name : DataRef) (amount room : ℕ) → T (areBytes sheet) → Wide (AddData extent name amount)
+    → Exactly (Accepts nodesize sheet (AddData extent name amount) room) (AddsData nodesize sheet extent name amount room)
+unfolding changed applyKeyedAdd keyedBody addInlineData counted countPosition payloadLength rowIn
+add-data nodesize sheet extent name zero room raw wide = record { only = there; enough = back }
+  where
+    there : Accepts nodesize sheet (AddData extent name 0) room → AddsData nodesize sheet extent name 0 room
+    there acc =
+        let P = posts-out nodesize sheet (AddData extent name 0) room acc in
+        let h = questions-out (nameOf (AddData extent name 0)) 0 (P .items) (P .after) _ (P .done) .1 in
+        absurd (omega arith)
+
+    back : AddsData nodesize sheet extent name 0 room → Accepts nodesize sheet (AddData extent name 0) room
+    back f = let h = f .some in absurd (omega arith)
+add-data nodesize sheet extent name (suc less) room raw wide = record { only = there; enough = back }
+  where
+    amount : ℕ
+    amount = suc less
+
+    m : Name
+    m = nameOf (AddData extent name amount)
+
+    nm : NameOk m
+    nm = name-ok (AddData extent name amount) wide tt
+
+    spot : Body → Spot
+    spot b = spotByScan 178 (triple name) (b .refs)
+
+    good-spot : (items : List Item) → Scene sheet items → (c : Cut Item) (b : Body) → Here m items c b
+        → SpotOk 178 (triple name) amount (nm .naming) (nm .size) (b .refs) (spot b)
+    good-spot items S c b H =
+        spot-by-scan 178 (triple name) amount (nm .naming) (nm .size) (b .refs) (ordered-at m items c b H (S .bal) (S .td)) (long-at m items c b H (S .bal) (S .td))
+
+    next : Cut Item → Answer (List Item)
+    next c =
+        bind (addInlineData (c .hit .key .kind) (c .hit .bytes) name amount) (λ body.
+        ask (leb (length body) (length (c .hit .bytes)) || leb (length body) (inlineLimit nodesize)) 17 (accepted (putBack c body)))
+
+    there : Accepts nodesize sheet (AddData extent name amount) room → AddsData nodesize sheet extent name amount room
+    there acc =
+        let P = posts-out nodesize sheet (AddData extent name amount) room acc in
+        let S = scene sheet (P .items) raw (P .reads) (P .balance) in
+        let (own, some≤, e₁) = questions-out m amount (P .items) (P .after) _ (P .done) in
+        at-record P S own some≤ (record-out sheet m (P .items) (P .after) next S e₁)
+      where
+        at-record : (P : Posts nodesize sheet (AddData extent name amount) room) → Scene sheet (P .items) → T (all (notItsOwn m) (P .items)) → 1 ≤ amount
+            → Found5 m (P .items) next (P .after) → AddsData nodesize sheet extent name amount room
+        at-record P S own some≤ F =
+            let h = bind-ok (addInlineData (F .c .hit .key .kind) (F .c .hit .bytes) name amount) _ (F .then) in
+            let h₁₇ = ask-ok (leb (length (h .0)) (length (F .c .hit .bytes)) || leb (length (h .0)) (inlineLimit nodesize)) 17 _ (h .2) in
+            grow P S own some≤ F (h .0) (h .1) (h₁₇ .0) (accepted-inj (h₁₇ .1))
+          where
+            grow : (P : Posts nodesize sheet (AddData extent name amount) room) → Scene sheet (P .items) → T (all (notItsOwn m) (P .items)) → 1 ≤ amount
+                → (F : Found5 m (P .items) next (P .after)) (body : List ℕ) → addInlineData (F .c .hit .key .kind) (F .c .hit .bytes) name amount ≡ accepted body
+                → T (leb (length body) (length (F .c .hit .bytes)) || leb (length body) (inlineLimit nodesize)) → putBack (F .c) body ≡ P .after
+                → AddsData nodesize sheet extent name amount room
+            grow P S own some≤ F body e lim q =
+                let c : Cut Item = F .c in
+                let A = adds-out m nm amount (P .items) c (F .b) (F .here) (S .bal) (S .td) (S .light m c (F .b) (F .here)) (spot (F .b))
+                (good-spot (P .items) S c (F .b) (F .here)) body (on-body (c .hit .key .kind) (c .hit .bytes) (F .b) _ (F .here .reads) e) in
+                let r = room-out sheet (P .items) S m c (F .b) (F .here) room (grown m c 29) body (A .long)
+                (subst (λ (x : List Item). T (sheetHolds room x)) (sym q) (P .holds)) in
+                record {
+                  items = P .items;
+                  at = c;
+                  door = record { reads = P .reads; least = P .least; most = P .most; balance = P .balance; stands = F .stands };
+                  free = own-out m (P .items) c (F .b) (F .here) (S .bal) (S .td) own;
+                  some = some≤;
+                  holds = A .eleven;
+                  short = λ z.
+                      (let g : grown m c 29 ≡ 29 = cond-yes {A = ℕ} (eqb (inline m c) 0) 29 0 (yes-eqb z) in
+                      let l : length body ≡ length (c .hit .bytes) + 29 = A .long ∙ ap (λ (x : ℕ). length (c .hit .bytes) + x) g in
+                      let k = limit-out (length body) (length (c .hit .bytes)) (inlineLimit nodesize) lim (omega arith) in
+                      omega arith);
+                  roomy = r .0;
+                  small = r .1;
+                }
+
+    back : AddsData nodesize sheet extent name amount room → Accepts nodesize sheet (AddData extent name amount) room
+    back f =
+        let S = scene sheet (f .items) raw (f .door .reads) (f .door .balance) in
+        let (b, H) = here-of m (f .items) (f .at) (S .bal) (S .td) (f .door .stands) in
+        let (body, e, long) = adds-in m nm amount (f .items) (f .at) b H (S .bal) (S .td) (S .light m (f .at) b H) (spot b) (good-spot (f .items) S (f .at) b H) tt tt (f .holds) in
+        make f S b H body e long
+      where
+        make : (f : AddsData nodesize sheet extent name amount room) → Scene sheet (f .items) → (b : Body) → Here m (f .items) (f .at) b → (body : List ℕ)
+            → addAt b (ref 178 (triple name) amount) (spot b) ≡ accepted body → length body ≡ length (f .at .hit .bytes) + grown m (f .at) 29
+            → Accepts nodesize sheet (AddData extent name amount) room
+        make f S b H body e long =
+            posts-in nodesize sheet (AddData extent name amount) room
+            (record {
+              items = f .items;
+              after = putBack c body;
+              reads = f .door .reads;
+              least = f .door .least;
+              most = f .door .most;
+              kind = tt;
+              balance = f .door .balance;
+              done = questions-in m amount (f .items) _ (own-in m (f .items) c b H (S .bal) (S .td) (f .free)) (f .some)
+                  ∙ record-in extent (f .items) next c (f .door .stands)
+                  ∙ bind-yes (addInlineData (c .hit .key .kind) (c .hit .bytes) name amount) _
+                  (body-in (c .hit .key .kind) (c .hit .bytes) b _ l₀ (H .reads) ∙ e)
+                  ∙ ask-yes (leb (length body) (length (c .hit .bytes)) || leb (length body) (inlineLimit nodesize)) 17 _ (lim (eqb (inline m c) 0) refl long .0);
+              holds = room-in sheet (f .items) S m c b H room (grown m c 29) body long (lim (eqb (inline m c) 0) refl long .1) (f .roomy) (f .small);
+            })
+          where
+            c : Cut Item
+            c = f .at
+
+            l₀ : length (c .hit .bytes) ≤ 65535
+            l₀ = length-at sheet (f .items) S m c b H
+
+            lim : (z : Bool) → eqb (inline m c) 0 ≡ z → length body ≡ length (c .hit .bytes) + cond z 29 0
+                → T (leb (length body) (length (c .hit .bytes)) || leb (length body) (inlineLimit nodesize)) × (length body ≤ 65535)
+            lim true q e =
+                let sh = f .short (eqb→eq _ 0 (subst T (sym q) tt)) in
+                let k : length body ≤ inlineLimit nodesize = omega arith in
+                (or-right (leb (length body) (length (c .hit .bytes))) _ (le→leb (length body) (inlineLimit nodesize) k), omega (arith, limit-small nodesize (f .door .most)))
+            lim false q e =
+                let k : length body ≤ length (c .hit .bytes) = omega arith in
+                (or-left (leb (length body) (length (c .hit .bytes))) _ (le→leb (length body) (length (c .hit .bytes)) k), omega (arith, l₀))
