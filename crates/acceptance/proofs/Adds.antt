@@ -21,19 +21,19 @@ use Rattle.format.specs.declared.Keyed.the-variants.{Block, Data}
 use Rattle.format.specs.declared.Change.{Change}
 use Rattle.format.specs.declared.Change.the-variants.{AddBlock, AddData, AddShared}
 use Rattle.format.specs.Questions.{Answer, refused, accepted, ask, bind, also}
-use Rattle.format.specs.References.{known, payloadLength, countPosition, counted, fieldCount, rowIn, Ref, ref, refBytes, refsBytes, Body, bodyWith, readBody, bodyBytes, placeOf}
+use Rattle.format.specs.References.{known, payloadLength, countPosition, counted, fieldCount, rowIn, Ref, ref, refBytes, refsBytes, Body, bodyWith, readBody, bodyBytes, placeOf, ordered}
 use Rattle.format.specs.Bodies.{bodyFits, onBody, one, triple, weighed, sharedKind, raisedBy, Spot, gap, standing, isGap, standingWeight, addedAt, addAt, spotAnywhere, spotByScan, addInlineTreeRef, addInlineData, addInlineShared}
 use Rattle.format.specs.Items.{Item, dataFits, sheetHolds, putBack}
-use Rattle.format.specs.Apply.{inlineLimit, recordOf, keyedBody, applyKeyedAdd, sharedBody, applySharedAdd}
+use Rattle.format.specs.Apply.{inlineLimit, onRecord, keyedBody, applyKeyedAdd, sharedBody, applySharedAdd}
 use Rattle.format.specs.Names.{Name, count}
-use Rattle.format.specs.Ledger.{nameOf, notItsOwn, added, changed}
+use Rattle.format.specs.Ledger.{nameOf, notItsOwn, kindFits, added, changed}
 use Rattle.format.proofs.Answers.{ask-ok, ask-yes, bind-ok, bind-yes, also-ok, also-yes, accepted-inj}
 use Rattle.format.proofs.Refs.{whole, whole-out, countBytes, length-countBytes, refsBytes-append}
 use Rattle.format.proofs.Rows.{payload-fields}
 use Rattle.format.proofs.Bodies.{length-bodyBytes, bodyBytes-read}
 use Rattle.history.specs.Demand.{Wide}
 use Rattle.history.proofs.Naming.{Naming, is176, is178, naming-known, shared-place}
-use Rattle.history.proofs.Order.{named-yes, SpotOk, at-gap, at-standing, spot-anywhere, spot-by-scan}
+use Rattle.history.proofs.Order.{long, named-yes, SpotOk, at-gap, at-standing, spot-anywhere, spot-by-scan}
 use Rattle.history.proofs.Edit.{Balanced}
 use Rattle.history.proofs.Steps.{tidy, NameOk, Here, here-of, on-body, ordered-at, long-at}
 use Rattle.history.proofs.Adds.{Added, added-out}
@@ -79,7 +79,7 @@ module _ (m : Name) (nm : NameOk m) (n : ℕ) (items : List Item) (c : Cut Item)
   record At (spot : Spot) : Type 0 where
     weight : standingWeight spot ≡ inline m c
     free : isGap spot ≡ eqb (inline m c) 0
-    long : (total : ℕ) → length (bodyBytes (bodyWith b total (addedAt (ref (m .kind) (m .fields) n) spot)))
+    sized : (total : ℕ) → length (bodyBytes (bodyWith b total (addedAt (ref (m .kind) (m .fields) n) spot)))
         ≡ length (c .hit .bytes) + grown m c (1 + payloadLength (m .kind))
 
   at-spot : (spot : Spot) → SpotOk (m .kind) (m .fields) n (nm .naming) (nm .size) (b .refs) spot → At spot
@@ -93,7 +93,7 @@ module _ (m : Name) (nm : NameOk m) (n : ℕ) (items : List Item) (c : Cut Item)
       record {
         weight = sym z;
         free = sym y;
-        long = λ total.
+        sized = λ total.
             (let e₁ = length-edit b total p [] (r ∷ []) q e in
             let e₂ = length-ref r (naming-known (m .kind) (nm .naming)) (nm .size) in
             let e₃ = ap length (bodyBytes-read (c .hit .key .kind) (c .hit .bytes) b (H .bytes) (H .reads)) in
@@ -113,7 +113,7 @@ module _ (m : Name) (nm : NameOk m) (n : ℕ) (items : List Item) (c : Cut Item)
       record {
         weight = sym i;
         free = sym (not-eq (eqb (inline m c) 0) (no-eqb ne));
-        long = λ total.
+        sized = λ total.
             (let e₁ = length-edit b total (x .front) (x .hit ∷ []) (x′ ∷ []) (x .back) e in
             let e₂ = length-ref (x .hit) kn sz in
             let e₃ = length-ref x′ kn sz in
@@ -130,7 +130,7 @@ module _ (m : Name) (nm : NameOk m) (n : ℕ) (items : List Item) (c : Cut Item)
     nine : T (counted (m .kind) || eqb (inline m c) 0)
     ten : T (counted (m .kind) || eqb n 1)
     eleven : inline m c + n < 4294967296
-    long : length body ≡ length (c .hit .bytes) + grown m c (1 + payloadLength (m .kind))
+    sized : length body ≡ length (c .hit .bytes) + grown m c (1 + payloadLength (m .kind))
 
   adds-out : (spot : Spot) → SpotOk (m .kind) (m .fields) n (nm .naming) (nm .size) (b .refs) spot → (body : List ℕ)
       → addAt b (ref (m .kind) (m .fields) n) spot ≡ accepted body → Adds body
@@ -141,7 +141,7 @@ module _ (m : Name) (nm : NameOk m) (n : ℕ) (items : List Item) (c : Cut Item)
         nine = subst (λ (z : Bool). T (counted (m .kind) || z)) (S .free) (A .nine);
         ten = A .ten;
         eleven = subst (λ (z : ℕ). z + n < 4294967296) (S .weight) (A .eleven);
-        long = sym (ap length (A .made)) ∙ S .long (b .total + n);
+        sized = sym (ap length (A .made)) ∙ S .sized (b .total + n);
       }
 
   adds-in : (spot : Spot) → SpotOk (m .kind) (m .fields) n (nm .naming) (nm .size) (b .refs) spot
@@ -160,7 +160,7 @@ module _ (m : Name) (nm : NameOk m) (n : ℕ) (items : List Item) (c : Cut Item)
         ∙ ask-yes (counted (m .kind) || eqb n 1) 10 _ ten
         ∙ ask-yes (ltb (standingWeight spot + n) (2 ^ 32)) 11 _ (lt→ltb (standingWeight spot + n) 4294967296 k₁₁)
         ∙ bind-yes (ask (ltb (b .total + n) (2 ^ 64)) 12 (accepted (b .total + n))) _ (ask-yes (ltb (b .total + n) (2 ^ 64)) 12 _ t₁₂),
-        S .long (b .total + n),
+        S .sized (b .total + n),
       )
 
 -- ---- what the three adds share
@@ -222,210 +222,379 @@ module _ (sheet : List ℕ) (items : List Item) (S : Scene sheet items) (m : Nam
       let f₃ = S .few in
       holds-in room (putBack c body) (omega arith) (omega arith) (omega arith) (fit-put c body (rw (H .found .same) at (S .fit)) l)
 
+-- ---- an add as its questions, for whatever call makes the new body and whatever 17 tests of the two lengths
+
+record AddFacts (nodesize : ℕ) (sheet : List ℕ) (m : Name) (amount room : ℕ) (test : ℕ → ℕ → Bool) : Type 0 where
+  items : List Item
+  at : Cut Item
+  door : Door nodesize sheet (m .extent) items at
+  own : apart m at ≡ 0
+  nine : T (counted (m .kind) || eqb (inline m at) 0)
+  some≤ : 1 ≤ amount
+  ten : T (counted (m .kind) || eqb amount 1)
+  eleven : inline m at + amount < 4294967296
+  seventeen : T (test (length (at .hit .bytes)) (length (at .hit .bytes) + grown m at (1 + payloadLength (m .kind))))
+  roomy : length sheet + grown m at (1 + payloadLength (m .kind)) ≤ room
+  small : length sheet + grown m at (1 + payloadLength (m .kind)) ≤ 262144
+
+module _ (nodesize : ℕ) (sheet : List ℕ) (room : ℕ) (raw : T (areBytes sheet)) (change : Change) (wide : Wide change) (kind : T (kindFits change))
+    (amount : ℕ) (call : Item → Answer (List ℕ)) (test : ℕ → ℕ → Bool) (spot : Body → Spot)
+    (changes : (items : List Item) → changed nodesize change items ≡ added (nameOf change) amount items (onRecord (nameOf change .extent) items (λ c.
+      bind (call (c .hit)) (λ body. ask (test (length (c .hit .bytes)) (length body)) 17 (accepted (putBack c body))))))
+    (calls : (i : Item) (b : Body) → 1 ≤ amount → length (i .bytes) ≤ 65535 → readBody (i .key .kind) (i .bytes) ≡ accepted b
+      → call i ≡ addAt b (ref (nameOf change .kind) (nameOf change .fields) amount) (spot b))
+    (spots : (nm : NameOk (nameOf change)) (b : Body) → T (ordered (b .refs)) → T (all long (b .refs))
+      → SpotOk (nameOf change .kind) (nameOf change .fields) amount (nm .naming) (nm .size) (b .refs) (spot b))
+    (bounded : (x y : ℕ) → nodesize ≤ 65536 → x ≤ 65535 → T (test x y) → y ≤ 65535) where
+  abbrev m : Name
+  m = nameOf change
+
+  nm : NameOk m
+  nm = name-ok change wide kind
+
+  abbrev next : Cut Item → Answer (List Item)
+  next c = bind (call (c .hit)) (λ body. ask (test (length (c .hit .bytes)) (length body)) 17 (accepted (putBack c body)))
+
+  ok-spot : (items : List Item) → Scene sheet items → (c : Cut Item) (b : Body) → Here m items c b
+      → SpotOk (m .kind) (m .fields) amount (nm .naming) (nm .size) (b .refs) (spot b)
+  ok-spot items S c b H = spots nm b (ordered-at m items c b H (S .bal) (S .td)) (long-at m items c b H (S .bal) (S .td))
+
+  from-body : (P : Posts nodesize sheet change room) → Scene sheet (P .items) → T (all (notItsOwn m) (P .items)) → 1 ≤ amount
+      → (F : Found5 m (P .items) next (P .after)) (body : List ℕ) → call (F .c .hit) ≡ accepted body
+      → T (test (length (F .c .hit .bytes)) (length body)) → putBack (F .c) body ≡ P .after → AddFacts nodesize sheet m amount room test
+  from-body P S own some≤ F body e t q =
+      let A = adds-out m nm amount (P .items) (F .c) (F .b) (F .here) (S .bal) (S .td) (S .light m (F .c) (F .b) (F .here)) (spot (F .b))
+      (ok-spot (P .items) S (F .c) (F .b) (F .here)) body
+      (sym (calls (F .c .hit) (F .b) some≤ (length-at sheet (P .items) S m (F .c) (F .b) (F .here)) (F .here .reads)) ∙ e) in
+      let r = room-out sheet (P .items) S m (F .c) (F .b) (F .here) room (grown m (F .c) (1 + payloadLength (m .kind))) body (A .sized)
+      (subst (λ (x : List Item). T (sheetHolds room x)) (sym q) (P .holds)) in
+      record {
+        items = P .items;
+        at = F .c;
+        door = record { reads = P .reads; least = P .least; most = P .most; balance = P .balance; stands = F .stands };
+        own = own-out m (P .items) (F .c) (F .b) (F .here) (S .bal) (S .td) own;
+        nine = A .nine;
+        some≤ = some≤;
+        ten = A .ten;
+        eleven = A .eleven;
+        seventeen = subst (λ (x : ℕ). T (test (length (F .c .hit .bytes)) x)) (A .sized) t;
+        roomy = r .0;
+        small = r .1;
+      }
+
+  from-record : (P : Posts nodesize sheet change room) → Scene sheet (P .items) → T (all (notItsOwn m) (P .items)) → 1 ≤ amount
+      → Found5 m (P .items) next (P .after) → AddFacts nodesize sheet m amount room test
+  from-record P S own some≤ F =
+      let h = bind-ok (call (F .c .hit)) _ (F .then) in
+      let h₁₇ = ask-ok (test (length (F .c .hit .bytes)) (length (h .0))) 17 _ (h .2) in
+      from-body P S own some≤ F (h .0) (h .1) (h₁₇ .0) (accepted-inj (h₁₇ .1))
+
+  add-only : Accepts nodesize sheet change room → AddFacts nodesize sheet m amount room test
+  add-only acc =
+      let P = posts-out nodesize sheet change room acc in
+      let S = scene sheet (P .items) raw (P .reads) (P .balance) in
+      let (own, some≤, e) = questions-out m amount (P .items) (P .after) _ (sym (changes (P .items)) ∙ P .done) in
+      from-record P S own some≤ (record-out sheet m (P .items) (P .after) next S e)
+
+  to-body : (f : AddFacts nodesize sheet m amount room test) → Scene sheet (f .items) → (b : Body) → Here m (f .items) (f .at) b → (body : List ℕ)
+      → addAt b (ref (m .kind) (m .fields) amount) (spot b) ≡ accepted body
+      → length body ≡ length (f .at .hit .bytes) + grown m (f .at) (1 + payloadLength (m .kind)) → Accepts nodesize sheet change room
+  to-body f S b H body e long′ =
+      let l₀ = length-at sheet (f .items) S m (f .at) b H in
+      let t : T (test (length (f .at .hit .bytes)) (length body)) = subst (λ (x : ℕ). T (test (length (f .at .hit .bytes)) x)) (sym long′) (f .seventeen) in
+      posts-in nodesize sheet change room
+      (record {
+        items = f .items;
+        after = putBack (f .at) body;
+        reads = f .door .reads;
+        least = f .door .least;
+        most = f .door .most;
+        kind = kind;
+        balance = f .door .balance;
+        done = changes (f .items)
+            ∙ questions-in m amount (f .items) _ (own-in m (f .items) (f .at) b H (S .bal) (S .td) (f .own)) (f .some≤)
+            ∙ record-in (m .extent) (f .items) next (f .at) (f .door .stands)
+            ∙ bind-yes (call (f .at .hit)) _ (calls (f .at .hit) b (f .some≤) l₀ (H .reads) ∙ e)
+            ∙ ask-yes (test (length (f .at .hit .bytes)) (length body)) 17 _ t;
+        holds = room-in sheet (f .items) S m (f .at) b H room (grown m (f .at) (1 + payloadLength (m .kind))) body long′
+            (bounded (length (f .at .hit .bytes)) (length body) (f .door .most) l₀ t) (f .roomy) (f .small);
+      })
+
+  add-enough : AddFacts nodesize sheet m amount room test → Accepts nodesize sheet change room
+  add-enough f =
+      let S = scene sheet (f .items) raw (f .door .reads) (f .door .balance) in
+      let (b, H) = here-of m (f .items) (f .at) (S .bal) (S .td) (f .door .stands) in
+      let (body, e, long′) = adds-in m nm amount (f .items) (f .at) b H (S .bal) (S .td) (S .light m (f .at) b H) (spot b) (ok-spot (f .items) S (f .at) b H)
+      (f .nine) (f .ten) (f .eleven) in
+      to-body f S b H body e long′
+
+-- ---- question 17: where the body grew, or always
+
+abbrev ifGrown : ℕ → ℕ → ℕ → Bool
+ifGrown nodesize old new = leb new old || leb new (inlineLimit nodesize)
+
+abbrev always : ℕ → ℕ → ℕ → Bool
+always nodesize old new = leb new (inlineLimit nodesize)
+
+grown-bounded : (nodesize x y : ℕ) → nodesize ≤ 65536 → x ≤ 65535 → T (ifGrown nodesize x y) → y ≤ 65535
+grown-bounded nodesize x y n h t = go (or-yes (leb y x) (leb y (inlineLimit nodesize)) t)
+  where
+    go : T (leb y x) ⊎ T (leb y (inlineLimit nodesize)) → y ≤ 65535
+    go (inl u) = let k : y ≤ x = leb→le y x u in omega arith
+    go (inr u) = let k : y ≤ inlineLimit nodesize = leb→le y (inlineLimit nodesize) u in omega (arith, limit-small nodesize n)
+
+always-bounded : (nodesize x y : ℕ) → nodesize ≤ 65536 → x ≤ 65535 → T (always nodesize x y) → y ≤ 65535
+always-bounded nodesize x y n h t =
+    let k : y ≤ inlineLimit nodesize = leb→le y (inlineLimit nodesize) t in omega (arith, limit-small nodesize n)
+
+-- ---- the record's door: what a name counts in all
+
+door-split : (nodesize : ℕ) (sheet : List ℕ) (m : Name) (items : List Item) (at : Cut Item) → T (areBytes sheet)
+    → Door nodesize sheet (m .extent) items at → count m items ≡ inline m at + apart m at
+door-split nodesize sheet m items at raw d =
+    let S = scene sheet items raw (d .reads) (d .balance) in
+    let (b, H) = here-of m items at (S .bal) (S .td) (d .stands) in
+    count-split m items at b H (S .bal) (S .td)
+
 -- ---- a block reference
 
 pub add-block : (nodesize : ℕ) (sheet : List ℕ) (extent : ℕ) (name : BlockRef) (room : ℕ) → T (areBytes sheet) → Wide (AddBlock extent name)
     → Exactly (Accepts nodesize sheet (AddBlock extent name) room) (AddsBlock nodesize sheet extent name room)
 unfolding changed applyKeyedAdd keyedBody addInlineTreeRef placeOf counted countPosition payloadLength rowIn
-add-block nodesize sheet extent name room raw wide = record { only = there; enough = back }
+add-block nodesize sheet extent name room raw wide =
+    record {
+      only = λ acc. plain (add-only nodesize sheet room raw (AddBlock extent name) wide tt 1 call (ifGrown nodesize) spot changes calls spots (grown-bounded nodesize) acc);
+      enough = λ f. add-enough nodesize sheet room raw (AddBlock extent name) wide tt 1 call (ifGrown nodesize) spot changes calls spots (grown-bounded nodesize) (facts f);
+    }
   where
     m : Name
     m = nameOf (AddBlock extent name)
 
-    nm : NameOk m
-    nm = name-ok (AddBlock extent name) wide tt
+    call : Item → Answer (List ℕ)
+    call i = addInlineTreeRef (i .key .kind) (i .bytes) name
 
     spot : Body → Spot
     spot b = spotAnywhere 176 (one (name .tree)) (name .tree) (b .refs)
 
-    good-spot : (items : List Item) → Scene sheet items → (c : Cut Item) (b : Body) → Here m items c b
-        → SpotOk 176 (one (name .tree)) 1 (nm .naming) (nm .size) (b .refs) (spot b)
-    good-spot items S c b H =
-        spot-anywhere 176 (one (name .tree)) 1 (nm .naming) (nm .size) (b .refs) (ordered-at m items c b H (S .bal) (S .td)) (long-at m items c b H (S .bal) (S .td))
+    changes : (items : List Item) → changed nodesize (AddBlock extent name) items ≡ added m 1 items (onRecord extent items (λ c.
+      bind (call (c .hit)) (λ body. ask (ifGrown nodesize (length (c .hit .bytes)) (length body)) 17 (accepted (putBack c body)))))
+    changes items = refl
 
-    there : Accepts nodesize sheet (AddBlock extent name) room → AddsBlock nodesize sheet extent name room
-    there acc =
-        let P = posts-out nodesize sheet (AddBlock extent name) room acc in
-        let S = scene sheet (P .items) raw (P .reads) (P .balance) in
-        let (own, some≤, e₁) = questions-out m 1 (P .items) (P .after) _ (P .done) in
-        let F = record-out sheet m (P .items) (P .after) _ S e₁ in
-        let c : Cut Item = F .c in let b : Body = F .b in let H = F .here in
-        let h = bind-ok (addInlineTreeRef (c .hit .key .kind) (c .hit .bytes) name) _ (F .then) in
-        let body : List ℕ = h .0 in
-        let h₁₇ = ask-ok (leb (length body) (length (c .hit .bytes)) || leb (length body) (inlineLimit nodesize)) 17 _ (h .2) in
-        let A = adds-out m nm 1 (P .items) c b H (S .bal) (S .td) (S .light m c b H) (spot b) (good-spot (P .items) S c b H) body
-        (on-body (c .hit .key .kind) (c .hit .bytes) b _ (H .reads) (h .1)) in
-        let z : inline m c ≡ 0 = eqb→eq _ 0 (A .nine) in
-        let g : grown m c 9 ≡ 9 = cond-yes {A = ℕ} (eqb (inline m c) 0) 9 0 (yes-eqb z) in
-        let l : length body ≡ length (c .hit .bytes) + 9 = A .long ∙ ap (λ (x : ℕ). length (c .hit .bytes) + x) g in
-        let lim = limit-out (length body) (length (c .hit .bytes)) (inlineLimit nodesize) (h₁₇ .0) (omega arith) in
-        let o = own-out m (P .items) c b H (S .bal) (S .td) own in
-        let cs = count-split m (P .items) c b H (S .bal) (S .td) in
-        let r = room-out sheet (P .items) S m c b H room 9 body l (subst (λ (x : List Item). T (sheetHolds room x)) (sym (accepted-inj (h₁₇ .1))) (P .holds)) in
-        record {
-          items = P .items;
-          at = c;
-          door = record { reads = P .reads; least = P .least; most = P .most; balance = P .balance; stands = F .stands };
-          free = omega arith;
-          short = omega arith;
-          roomy = r .0;
-          small = r .1;
-        }
+    calls : (i : Item) (b : Body) → 1 ≤ 1 → length (i .bytes) ≤ 65535 → readBody (i .key .kind) (i .bytes) ≡ accepted b
+      → call i ≡ addAt b (ref 176 (one (name .tree)) 1) (spot b)
+    calls i b h l r = body-in (i .key .kind) (i .bytes) b _ l r
 
-    back : AddsBlock nodesize sheet extent name room → Accepts nodesize sheet (AddBlock extent name) room
-    back f =
-        let D = f .door in
-        let items : List Item = f .items in
-        let c : Cut Item = f .at in
-        let S = scene sheet items raw (D .reads) (D .balance) in
-        let (b, H) = here-of m items c (S .bal) (S .td) (D .stands) in
-        let cs = count-split m items c b H (S .bal) (S .td) in
+    spots : (nm : NameOk m) (b : Body) → T (ordered (b .refs)) → T (all long (b .refs))
+      → SpotOk 176 (one (name .tree)) 1 (nm .naming) (nm .size) (b .refs) (spot b)
+    spots nm b o l = spot-anywhere 176 (one (name .tree)) 1 (nm .naming) (nm .size) (b .refs) o l
+
+    plain : AddFacts nodesize sheet m 1 room (ifGrown nodesize) → AddsBlock nodesize sheet extent name room
+    plain f =
+        let z : inline m (f .at) ≡ 0 = eqb→eq _ 0 (f .nine) in
+        let o = f .own in
+        let g : grown m (f .at) 9 ≡ 9 = cond-yes {A = ℕ} (eqb (inline m (f .at)) 0) 9 0 (yes-eqb z) in
+        let s = door-split nodesize sheet m (f .items) (f .at) raw (f .door) in
+        let l : ℕ = length (f .at .hit .bytes) in
+        let t = limit-out (l + grown m (f .at) 9) l (inlineLimit nodesize) (f .seventeen) (omega arith) in
+        let r₁ : length sheet + grown m (f .at) 9 ≤ room = f .roomy in
+        let r₂ : length sheet + grown m (f .at) 9 ≤ 262144 = f .small in
+        record { items = f .items; at = f .at; door = f .door; free = omega arith; short = omega arith; roomy = omega arith; small = omega arith }
+
+    facts : AddsBlock nodesize sheet extent name room → AddFacts nodesize sheet m 1 room (ifGrown nodesize)
+    facts f =
+        let s = door-split nodesize sheet m (f .items) (f .at) raw (f .door) in
         let fr = f .free in
-        let z : inline m c ≡ 0 = omega arith in
-        let o : apart m c ≡ 0 = omega arith in
-        let (body, e, long) = adds-in m nm 1 items c b H (S .bal) (S .td) (S .light m c b H) (spot b) (good-spot items S c b H) (yes-eqb z) tt (omega arith) in
-        let g : grown m c 9 ≡ 9 = cond-yes {A = ℕ} (eqb (inline m c) 0) 9 0 (yes-eqb z) in
-        let l : length body ≡ length (c .hit .bytes) + 9 = long ∙ ap (λ (x : ℕ). length (c .hit .bytes) + x) g in
+        let z : inline m (f .at) ≡ 0 = omega arith in
+        let g : grown m (f .at) 9 ≡ 9 = cond-yes {A = ℕ} (eqb (inline m (f .at)) 0) 9 0 (yes-eqb z) in
+        let l : ℕ = length (f .at .hit .bytes) in
         let sh = f .short in
-        let lim : length body ≤ inlineLimit nodesize = omega arith in
-        let small = limit-small nodesize (D .most) in
-        posts-in nodesize sheet (AddBlock extent name) room
-        (record {
-          items = items;
-          after = putBack c body;
-          reads = D .reads;
-          least = D .least;
-          most = D .most;
-          kind = tt;
-          balance = D .balance;
-          done = questions-in m 1 items _ (own-in m items c b H (S .bal) (S .td) o) (omega arith)
-              ∙ record-in extent items _ c (D .stands)
-              ∙ bind-yes (addInlineTreeRef (c .hit .key .kind) (c .hit .bytes) name) _
-              (body-in (c .hit .key .kind) (c .hit .bytes) b _ (length-at sheet items S m c b H) (H .reads) ∙ e)
-              ∙ ask-yes (leb (length body) (length (c .hit .bytes)) || leb (length body) (inlineLimit nodesize)) 17 _
-              (or-right (leb (length body) (length (c .hit .bytes))) _ (le→leb (length body) (inlineLimit nodesize) lim));
-          holds = room-in sheet items S m c b H room 9 body l (omega arith) (f .roomy) (f .small);
-        })
+        let r₁ = f .roomy in
+        let r₂ = f .small in
+        let k : l + grown m (f .at) 9 ≤ inlineLimit nodesize = omega arith in
+        record {
+          items = f .items;
+          at = f .at;
+          door = f .door;
+          own = omega arith;
+          nine = yes-eqb z;
+          some≤ = omega arith;
+          ten = tt;
+          eleven = omega arith;
+          seventeen = or-right (leb (l + grown m (f .at) 9) l) _ (le→leb (l + grown m (f .at) 9) (inlineLimit nodesize) k);
+          roomy = omega arith;
+          small = omega arith;
+        }
 
 -- ---- a data reference
 
 pub add-data : (nodesize : ℕ) (sheet : List ℕ) (extent : ℕ) (name : DataRef) (amount room : ℕ) → T (areBytes sheet) → Wide (AddData extent name amount)
     → Exactly (Accepts nodesize sheet (AddData extent name amount) room) (AddsData nodesize sheet extent name amount room)
 unfolding changed applyKeyedAdd keyedBody addInlineData counted countPosition payloadLength rowIn
-add-data nodesize sheet extent name zero room raw wide = record { only = there; enough = back }
+add-data nodesize sheet extent name amount room raw wide =
+    record {
+      only = λ acc. plain (add-only nodesize sheet room raw (AddData extent name amount) wide tt amount call (ifGrown nodesize) spot changes (calls amount) spots (grown-bounded nodesize) acc);
+      enough = λ f. add-enough nodesize sheet room raw (AddData extent name amount) wide tt amount call (ifGrown nodesize) spot changes (calls amount) spots (grown-bounded nodesize) (facts f);
+    }
   where
-    there : Accepts nodesize sheet (AddData extent name 0) room → AddsData nodesize sheet extent name 0 room
-    there acc =
-        let P = posts-out nodesize sheet (AddData extent name 0) room acc in
-        let h = questions-out (nameOf (AddData extent name 0)) 0 (P .items) (P .after) _ (P .done) .1 in
-        absurd (omega arith)
-
-    back : AddsData nodesize sheet extent name 0 room → Accepts nodesize sheet (AddData extent name 0) room
-    back f = let h = f .some in absurd (omega arith)
-add-data nodesize sheet extent name (suc less) room raw wide = record { only = there; enough = back }
-  where
-    amount : ℕ
-    amount = suc less
-
     m : Name
     m = nameOf (AddData extent name amount)
 
-    nm : NameOk m
-    nm = name-ok (AddData extent name amount) wide tt
+    call : Item → Answer (List ℕ)
+    call i = keyedBody i (Data name) amount false
 
     spot : Body → Spot
     spot b = spotByScan 178 (triple name) (b .refs)
 
-    good-spot : (items : List Item) → Scene sheet items → (c : Cut Item) (b : Body) → Here m items c b
-        → SpotOk 178 (triple name) amount (nm .naming) (nm .size) (b .refs) (spot b)
-    good-spot items S c b H =
-        spot-by-scan 178 (triple name) amount (nm .naming) (nm .size) (b .refs) (ordered-at m items c b H (S .bal) (S .td)) (long-at m items c b H (S .bal) (S .td))
+    changes : (items : List Item) → changed nodesize (AddData extent name amount) items ≡ added m amount items (onRecord extent items (λ c.
+      bind (call (c .hit)) (λ body. ask (ifGrown nodesize (length (c .hit .bytes)) (length body)) 17 (accepted (putBack c body)))))
+    changes items = refl
 
-    next : Cut Item → Answer (List Item)
-    next c =
-        bind (addInlineData (c .hit .key .kind) (c .hit .bytes) name amount) (λ body.
-        ask (leb (length body) (length (c .hit .bytes)) || leb (length body) (inlineLimit nodesize)) 17 (accepted (putBack c body)))
+    calls : (n : ℕ) (i : Item) (b : Body) → 1 ≤ n → length (i .bytes) ≤ 65535 → readBody (i .key .kind) (i .bytes) ≡ accepted b
+      → keyedBody i (Data name) n false ≡ addAt b (ref 178 (triple name) n) (spot b)
+    calls zero i b h l r = absurd (omega arith)
+    calls (suc n) i b h l r = body-in (i .key .kind) (i .bytes) b _ l r
 
-    there : Accepts nodesize sheet (AddData extent name amount) room → AddsData nodesize sheet extent name amount room
-    there acc =
-        let P = posts-out nodesize sheet (AddData extent name amount) room acc in
-        let S = scene sheet (P .items) raw (P .reads) (P .balance) in
-        let (own, some≤, e₁) = questions-out m amount (P .items) (P .after) _ (P .done) in
-        at-record P S own some≤ (record-out sheet m (P .items) (P .after) next S e₁)
+    spots : (nm : NameOk m) (b : Body) → T (ordered (b .refs)) → T (all long (b .refs))
+      → SpotOk 178 (triple name) amount (nm .naming) (nm .size) (b .refs) (spot b)
+    spots nm b o l = spot-by-scan 178 (triple name) amount (nm .naming) (nm .size) (b .refs) o l
+
+    plain : AddFacts nodesize sheet m amount room (ifGrown nodesize) → AddsData nodesize sheet extent name amount room
+    plain f =
+        record {
+          items = f .items;
+          at = f .at;
+          door = f .door;
+          free = f .own;
+          some = f .some≤;
+          holds = f .eleven;
+          short = λ z.
+              (let g : grown m (f .at) 29 ≡ 29 = cond-yes {A = ℕ} (eqb (inline m (f .at)) 0) 29 0 (yes-eqb z) in
+              let l : ℕ = length (f .at .hit .bytes) in
+              let t = limit-out (l + grown m (f .at) 29) l (inlineLimit nodesize) (f .seventeen) (omega arith) in
+              omega arith);
+          roomy = f .roomy;
+          small = f .small;
+        }
+
+    facts : AddsData nodesize sheet extent name amount room → AddFacts nodesize sheet m amount room (ifGrown nodesize)
+    facts f =
+        record {
+          items = f .items;
+          at = f .at;
+          door = f .door;
+          own = f .free;
+          nine = tt;
+          some≤ = f .some;
+          ten = tt;
+          eleven = f .holds;
+          seventeen = limit (eqb (inline m (f .at)) 0) refl;
+          roomy = f .roomy;
+          small = f .small;
+        }
       where
-        at-record : (P : Posts nodesize sheet (AddData extent name amount) room) → Scene sheet (P .items) → T (all (notItsOwn m) (P .items)) → 1 ≤ amount
-            → Found5 m (P .items) next (P .after) → AddsData nodesize sheet extent name amount room
-        at-record P S own some≤ F =
-            let h = bind-ok (addInlineData (F .c .hit .key .kind) (F .c .hit .bytes) name amount) _ (F .then) in
-            let h₁₇ = ask-ok (leb (length (h .0)) (length (F .c .hit .bytes)) || leb (length (h .0)) (inlineLimit nodesize)) 17 _ (h .2) in
-            grow P S own some≤ F (h .0) (h .1) (h₁₇ .0) (accepted-inj (h₁₇ .1))
-          where
-            grow : (P : Posts nodesize sheet (AddData extent name amount) room) → Scene sheet (P .items) → T (all (notItsOwn m) (P .items)) → 1 ≤ amount
-                → (F : Found5 m (P .items) next (P .after)) (body : List ℕ) → addInlineData (F .c .hit .key .kind) (F .c .hit .bytes) name amount ≡ accepted body
-                → T (leb (length body) (length (F .c .hit .bytes)) || leb (length body) (inlineLimit nodesize)) → putBack (F .c) body ≡ P .after
-                → AddsData nodesize sheet extent name amount room
-            grow P S own some≤ F body e lim q =
-                let c : Cut Item = F .c in
-                let A = adds-out m nm amount (P .items) c (F .b) (F .here) (S .bal) (S .td) (S .light m c (F .b) (F .here)) (spot (F .b))
-                (good-spot (P .items) S c (F .b) (F .here)) body (on-body (c .hit .key .kind) (c .hit .bytes) (F .b) _ (F .here .reads) e) in
-                let r = room-out sheet (P .items) S m c (F .b) (F .here) room (grown m c 29) body (A .long)
-                (subst (λ (x : List Item). T (sheetHolds room x)) (sym q) (P .holds)) in
-                record {
-                  items = P .items;
-                  at = c;
-                  door = record { reads = P .reads; least = P .least; most = P .most; balance = P .balance; stands = F .stands };
-                  free = own-out m (P .items) c (F .b) (F .here) (S .bal) (S .td) own;
-                  some = some≤;
-                  holds = A .eleven;
-                  short = λ z.
-                      (let g : grown m c 29 ≡ 29 = cond-yes {A = ℕ} (eqb (inline m c) 0) 29 0 (yes-eqb z) in
-                      let l : length body ≡ length (c .hit .bytes) + 29 = A .long ∙ ap (λ (x : ℕ). length (c .hit .bytes) + x) g in
-                      let k = limit-out (length body) (length (c .hit .bytes)) (inlineLimit nodesize) lim (omega arith) in
-                      omega arith);
-                  roomy = r .0;
-                  small = r .1;
-                }
+        limit : (z : Bool) → eqb (inline m (f .at)) 0 ≡ z → T (ifGrown nodesize (length (f .at .hit .bytes)) (length (f .at .hit .bytes) + cond z 29 0))
+        limit true q =
+            or-right (leb (length (f .at .hit .bytes) + 29) (length (f .at .hit .bytes))) _
+            (le→leb (length (f .at .hit .bytes) + 29) (inlineLimit nodesize) (f .short (eqb→eq _ 0 (subst T (sym q) tt))))
+        limit false q =
+            or-left (leb (length (f .at .hit .bytes) + 0) (length (f .at .hit .bytes))) _ (le→leb (length (f .at .hit .bytes) + 0) (length (f .at .hit .bytes)) (omega arith))
 
-    back : AddsData nodesize sheet extent name amount room → Accepts nodesize sheet (AddData extent name amount) room
-    back f =
-        let S = scene sheet (f .items) raw (f .door .reads) (f .door .balance) in
-        let (b, H) = here-of m (f .items) (f .at) (S .bal) (S .td) (f .door .stands) in
-        let (body, e, long) = adds-in m nm amount (f .items) (f .at) b H (S .bal) (S .td) (S .light m (f .at) b H) (spot b) (good-spot (f .items) S (f .at) b H) tt tt (f .holds) in
-        make f S b H body e long
-      where
-        make : (f : AddsData nodesize sheet extent name amount room) → Scene sheet (f .items) → (b : Body) → Here m (f .items) (f .at) b → (body : List ℕ)
-            → addAt b (ref 178 (triple name) amount) (spot b) ≡ accepted body → length body ≡ length (f .at .hit .bytes) + grown m (f .at) 29
-            → Accepts nodesize sheet (AddData extent name amount) room
-        make f S b H body e long =
-            posts-in nodesize sheet (AddData extent name amount) room
-            (record {
-              items = f .items;
-              after = putBack c body;
-              reads = f .door .reads;
-              least = f .door .least;
-              most = f .door .most;
-              kind = tt;
-              balance = f .door .balance;
-              done = questions-in m amount (f .items) _ (own-in m (f .items) c b H (S .bal) (S .td) (f .free)) (f .some)
-                  ∙ record-in extent (f .items) next c (f .door .stands)
-                  ∙ bind-yes (addInlineData (c .hit .key .kind) (c .hit .bytes) name amount) _
-                  (body-in (c .hit .key .kind) (c .hit .bytes) b _ l₀ (H .reads) ∙ e)
-                  ∙ ask-yes (leb (length body) (length (c .hit .bytes)) || leb (length body) (inlineLimit nodesize)) 17 _ (lim (eqb (inline m c) 0) refl long .0);
-              holds = room-in sheet (f .items) S m c b H room (grown m c 29) body long (lim (eqb (inline m c) 0) refl long .1) (f .roomy) (f .small);
-            })
-          where
-            c : Cut Item
-            c = f .at
+-- ---- a shared reference
 
-            l₀ : length (c .hit .bytes) ≤ 65535
-            l₀ = length-at sheet (f .items) S m c b H
+-- its size, and what the two kinds say of counts
+shared-size : (kind : ℕ) → T (sharedKind kind) → 1 + payloadLength kind ≡ sharedSize kind
+unfolding sharedKind payloadLength rowIn
+shared-size kind t = go (or-yes (eqb kind 182) (eqb kind 184) t)
+  where
+    go : T (eqb kind 182) ⊎ T (eqb kind 184) → 1 + payloadLength kind ≡ sharedSize kind
+    go (inl h) = let e : kind ≡ 182 = eqb→eq _ _ h in rw e refl
+    go (inr h) = let e : kind ≡ 184 = eqb→eq _ _ h in rw e refl
 
-            lim : (z : Bool) → eqb (inline m c) 0 ≡ z → length body ≡ length (c .hit .bytes) + cond z 29 0
-                → T (leb (length body) (length (c .hit .bytes)) || leb (length body) (inlineLimit nodesize)) × (length body ≤ 65535)
-            lim true q e =
-                let sh = f .short (eqb→eq _ 0 (subst T (sym q) tt)) in
-                let k : length body ≤ inlineLimit nodesize = omega arith in
-                (or-right (leb (length body) (length (c .hit .bytes))) _ (le→leb (length body) (inlineLimit nodesize) k), omega (arith, limit-small nodesize (f .door .most)))
-            lim false q e =
-                let k : length body ≤ length (c .hit .bytes) = omega arith in
-                (or-left (leb (length body) (length (c .hit .bytes))) _ (le→leb (length body) (length (c .hit .bytes)) k), omega (arith, l₀))
+-- a question that is put to 182 only
+only-182 : (kind n k : ℕ) → T (sharedKind kind) → (kind ≡ 182 → n ≡ k) → T (counted kind || eqb n k)
+unfolding sharedKind counted countPosition rowIn
+only-182 kind n k t f = go (or-yes (eqb kind 182) (eqb kind 184) t)
+  where
+    go : T (eqb kind 182) ⊎ T (eqb kind 184) → T (counted kind || eqb n k)
+    go (inl h) = let e : kind ≡ 182 = eqb→eq _ _ h in or-right (counted kind) _ (yes-eqb (f e))
+    go (inr h) = let e : kind ≡ 184 = eqb→eq _ _ h in rw e tt
+
+of-182 : (kind n k : ℕ) → T (counted kind || eqb n k) → kind ≡ 182 → n ≡ k
+unfolding counted countPosition rowIn
+of-182 kind n k t e = eqb→eq n k (subst (λ (x : ℕ). T (counted x || eqb n k)) e t)
+
+pub add-shared : (nodesize : ℕ) (sheet : List ℕ) (extent : ℕ) (name : SharedRef) (amount room : ℕ) → T (areBytes sheet) → Wide (AddShared extent name amount)
+    → Exactly (Accepts nodesize sheet (AddShared extent name amount) room) (AddsShared nodesize sheet extent name amount room)
+unfolding changed applySharedAdd sharedBody addInlineShared
+add-shared nodesize sheet extent name amount room raw wide =
+    record {
+      only = λ acc.
+          (let k = posts-out nodesize sheet (AddShared extent name amount) room acc .kind in
+          plain k (add-only nodesize sheet room raw (AddShared extent name amount) wide k amount call (always nodesize) spot changes (calls k) (spots k) (always-bounded nodesize) acc));
+      enough = λ f.
+          add-enough nodesize sheet room raw (AddShared extent name amount) wide (f .kind) amount call (always nodesize) spot changes (calls (f .kind)) (spots (f .kind))
+          (always-bounded nodesize) (facts f);
+    }
+  where
+    m : Name
+    m = nameOf (AddShared extent name amount)
+
+    call : Item → Answer (List ℕ)
+    call i = addInlineShared (i .key .kind) (i .bytes) name amount
+
+    spot : Body → Spot
+    spot b = spotAnywhere (name .kind) (one (name .parent)) (name .parent) (b .refs)
+
+    changes : (items : List Item) → changed nodesize (AddShared extent name amount) items ≡ added m amount items (onRecord extent items (λ c.
+      bind (call (c .hit)) (λ body. ask (always nodesize (length (c .hit .bytes)) (length body)) 17 (accepted (putBack c body)))))
+    changes items = refl
+
+    calls : T (sharedKind (name .kind)) → (i : Item) (b : Body) → 1 ≤ amount → length (i .bytes) ≤ 65535 → readBody (i .key .kind) (i .bytes) ≡ accepted b
+      → call i ≡ addAt b (ref (name .kind) (one (name .parent)) amount) (spot b)
+    calls k i b h l r = ask-yes (sharedKind (name .kind)) 3 _ k ∙ body-in (i .key .kind) (i .bytes) b _ l r
+
+    spots : T (sharedKind (name .kind)) → (nm : NameOk m) (b : Body) → T (ordered (b .refs)) → T (all long (b .refs))
+      → SpotOk (name .kind) (one (name .parent)) amount (nm .naming) (nm .size) (b .refs) (spot b)
+    spots k nm b o l =
+        subst (λ (at : ℕ). SpotOk (name .kind) (one (name .parent)) amount (nm .naming) (nm .size) (b .refs) (spotAnywhere (name .kind) (one (name .parent)) at (b .refs)))
+        (shared-place (name .kind) (name .parent) k)
+        (spot-anywhere (name .kind) (one (name .parent)) amount (nm .naming) (nm .size) (b .refs) o l)
+
+    plain : T (sharedKind (name .kind)) → AddFacts nodesize sheet m amount room (always nodesize) → AddsShared nodesize sheet extent name amount room
+    plain k f =
+        let e : grown m (f .at) (1 + payloadLength (name .kind)) ≡ grown m (f .at) (sharedSize (name .kind)) = ap (grown m (f .at)) (shared-size (name .kind) k) in
+        let s : length (f .at .hit .bytes) + grown m (f .at) (1 + payloadLength (name .kind)) ≤ inlineLimit nodesize = leb→le _ _ (f .seventeen) in
+        record {
+          items = f .items;
+          at = f .at;
+          kind = k;
+          door = f .door;
+          free = f .own;
+          new = of-182 (name .kind) (inline m (f .at)) 0 (f .nine);
+          some = f .some≤;
+          single = of-182 (name .kind) amount 1 (f .ten);
+          holds = f .eleven;
+          short = subst (λ (x : ℕ). length (f .at .hit .bytes) + x ≤ inlineLimit nodesize) e s;
+          roomy = subst (λ (x : ℕ). length sheet + x ≤ room) e (f .roomy);
+          small = subst (λ (x : ℕ). length sheet + x ≤ 262144) e (f .small);
+        }
+
+    facts : AddsShared nodesize sheet extent name amount room → AddFacts nodesize sheet m amount room (always nodesize)
+    facts f =
+        let k = f .kind in
+        let e : grown m (f .at) (sharedSize (name .kind)) ≡ grown m (f .at) (1 + payloadLength (name .kind)) = ap (grown m (f .at)) (sym (shared-size (name .kind) k)) in
+        let l : ℕ = length (f .at .hit .bytes) in
+        record {
+          items = f .items;
+          at = f .at;
+          door = f .door;
+          own = f .free;
+          nine = only-182 (name .kind) (inline m (f .at)) 0 k (f .new);
+          some≤ = f .some;
+          ten = only-182 (name .kind) amount 1 k (f .single);
+          eleven = f .holds;
+          seventeen = le→leb (l + grown m (f .at) (1 + payloadLength (name .kind))) (inlineLimit nodesize)
+              (subst (λ (x : ℕ). length (f .at .hit .bytes) + x ≤ inlineLimit nodesize) e (f .short));
+          roomy = subst (λ (x : ℕ). length sheet + x ≤ room) e (f .roomy);
+          small = subst (λ (x : ℕ). length sheet + x ≤ 262144) e (f .small);
+        }
