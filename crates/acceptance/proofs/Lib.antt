@@ -1,3 +1,4 @@
 pub mod Posting
 pub mod Counts
 pub mod Adds
+pub mod Drops
