@@ -502,7 +502,7 @@ add-data nodesize sheet extent name amount room raw wide =
 -- ---- a shared reference
 
 -- its size, and what the two kinds say of counts
-shared-size : (kind : ℕ) → T (sharedKind kind) → 1 + payloadLength kind ≡ sharedSize kind
+pub shared-size : (kind : ℕ) → T (sharedKind kind) → 1 + payloadLength kind ≡ sharedSize kind
 unfolding sharedKind payloadLength rowIn
 shared-size kind t = go (or-yes (eqb kind 182) (eqb kind 184) t)
   where

@@ -2,3 +2,4 @@ pub mod Posting
 pub mod Counts
 pub mod Adds
 pub mod Drops
+pub mod DropCalls
