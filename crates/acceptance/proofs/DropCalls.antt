@@ -177,17 +177,17 @@ module _ (sheet : List ℕ) (items : List Item) (S : Scene sheet items) (m : Nam
       )
 
   -- one count off inline
-  less-shorter : (x : Cut Ref) (total : ℕ) → b .refs ≡ x .front ++ x .hit ∷ x .back → T (named (m .kind) (m .fields) (x .hit)) → 1 ≤ x .hit .weight
-      → Shorter sheet (cond (eqb (x .hit .weight) 1) (1 + payloadLength (m .kind)) 0)
-      (putBack c (bodyBytes (bodyWith b total (x .front ++ (less (x .hit) 1 ++ x .back)))))
-  less-shorter x total e t h =
+  less-shorter : (x : Cut Ref) (total gone : ℕ) → b .refs ≡ x .front ++ x .hit ∷ x .back → T (named (m .kind) (m .fields) (x .hit)) → 1 ≤ x .hit .weight
+      → cond (eqb (x .hit .weight) 1) (1 + payloadLength (m .kind)) 0 ≡ gone
+      → Shorter sheet gone (putBack c (bodyBytes (bodyWith b total (x .front ++ (less (x .hit) 1 ++ x .back)))))
+  less-shorter x total gone e t h g =
       let (k, l, p) = size-hit x t in
       let e₁ = length-edit b total (x .front) (x .hit ∷ []) (less (x .hit) 1) (x .back) e in
       let e₂ = length-ref (x .hit) k l in
       let e₃ : length (refsBytes (less (x .hit) 1)) + cond (eqb (x .hit .weight) 1) (1 + payloadLength (m .kind)) 0 ≡ 1 + payloadLength (m .kind) =
       subst (λ (n : ℕ). length (refsBytes (less (x .hit) 1)) + cond (eqb (x .hit .weight) 1) (1 + n) 0 ≡ 1 + n) p (less-length (x .hit) k l h) in
       let e₄ = ap length (bodyBytes-read (c .hit .key .kind) (c .hit .bytes) b (H .bytes) (H .reads)) in
-      shorter-put _ _ (omega arith)
+      shorter-put (bodyBytes (bodyWith b total (x .front ++ (less (x .hit) 1 ++ x .back)))) gone (omega arith)
 
   -- all of it
   gone-length : (x : Cut Ref) (total : ℕ) → b .refs ≡ x .front ++ x .hit ∷ x .back → T (named (m .kind) (m .fields) (x .hit))
@@ -272,8 +272,7 @@ drops-block nodesize sheet extent name room raw wide =
               inline-way (dropInline type d 176 (one (name .tree))) (leb 2 (b .total)) body _ (putBack c body) item
               (inline-found type d b 176 (one (name .tree)) x l₀ (H .reads) e) refl
               ∙ ap (λ (t : ℕ). ask (leb 2 t) 13 (accepted (putBack c body))) (sym (read-total type d b (H .reads))),
-              subst (λ (t : ℕ). Shorter sheet t (putBack c body)) g
-              (less-shorter sheet items S m (is176 refl) refl c b H x (b .total - 1) (f .same) (f .hit) h₂),
+              less-shorter sheet items S m (is176 refl) refl c b H x (b .total - 1) (freed m c 9 21) (f .same) (f .hit) h₂ g,
             )
         go none e =
             let z : inline m c ≡ 0 = inline-none m items c b H (S .bal) (S .td) (cut-none (named 176 (one (name .tree))) (b .refs) e) in
@@ -302,5 +301,147 @@ drops-block nodesize sheet extent name room raw wide =
     plain f = record { items = f .items; at = f .at; door = f .door; named = f .counts; two = leb→le _ _ (f .asked); roomy = f .roomy }
 
     facts : DropsBlock nodesize sheet extent name room → DropFacts nodesize sheet m room (leb 2) gone
+    facts f =
+        record { items = f .items; at = f .at; door = f .door; counts = f .named; asked = le→leb 2 (totalOf (f .at .hit .bytes)) (f .two); roomy = f .roomy }
+
+-- ---- a data reference
+
+pub drops-data : (nodesize : ℕ) (sheet : List ℕ) (extent : ℕ) (name : DataRef) (room : ℕ) → T (areBytes sheet) → Wide (DropData extent name)
+    → Exactly (Accepts nodesize sheet (DropData extent name) room) (DropsData nodesize sheet extent name room)
+unfolding changed dropDataRef dropInlineDataRef dropKeyedDataRef droppedAt bodyFits dataFits isRecord fieldCount counted countPosition payloadLength rowIn
+drops-data nodesize sheet extent name room raw wide =
+    record {
+      only = λ acc. plain (drop-only nodesize sheet room raw (DropData extent name) tt next (leb 2) gone (λ items. refl) stands′ answers acc);
+      enough = λ f. drop-enough nodesize sheet room raw (DropData extent name) tt next (leb 2) gone (λ items. refl) stands′ answers (facts f);
+    }
+  where
+    m : Name
+    m = nameOf (DropData extent name)
+
+    nm : NameOk m
+    nm = name-ok (DropData extent name) wide tt
+
+    next : List Item → Cut Item → Answer (List Item)
+    next items c = dropDataRef name items c
+
+    gone : List Item → Cut Item → ℕ
+    gone items c = cond (eqb (count m items) 1) (freed m c 29 49) 0
+
+    stands′ : (items after : List Item) → Scene sheet items → changed nodesize (DropData extent name) items ≡ accepted after → 1 ≤ count m items
+    stands′ items after S e = one-counted m items after (drop-data extent name items after nm (S .bal) (S .td) e)
+
+    key : Cut Item → Key
+    key c = keyOf (c .hit .key .objectid) 178 (placeOf 178 (triple name))
+
+    answers : (items : List Item) → Scene sheet items → (c : Cut Item) (b : Body) → Here m items c b → 1 ≤ count m items
+        → (after : List Item) × (next items c ≡ ask (leb 2 (totalOf (c .hit .bytes))) 13 (accepted after)) × Shorter sheet (gone items c) after
+    answers items S c b H n = go (cut (named 178 (triple name)) (b .refs)) refl
+      where
+        type : ℕ
+        type = c .hit .key .kind
+
+        d : List ℕ
+        d = c .hit .bytes
+
+        l₀ : length d ≤ 65535
+        l₀ = length-at sheet items S m c b H
+
+        item : Answer (List Item)
+        item =
+            bind (needed 5 (cut (hasKey (key c)) items)) (λ k.
+            bind (lowerTotal d) (λ body.
+            bind (droppedAt k (dropKeyedDataRef (k .hit .bytes) name)) (λ others. replaced (c .hit .key) body others)))
+
+        go : (o : Option (Cut Ref)) → cut (named 178 (triple name)) (b .refs) ≡ o
+            → (after : List Item) × (next items c ≡ ask (leb 2 (totalOf d)) 13 (accepted after)) × Shorter sheet (gone items c) after
+        go (some x) e =
+            let f = cut-some (named 178 (triple name)) (b .refs) e in
+            let i = inline-one m items c b H (S .bal) (S .td) (is178 refl) x (f .same) (f .hit) in
+            let h₁ = i .0 in
+            let h₂ = i .2 in
+            let h₃ = i .1 in
+            let cs = count-split m items c b H (S .bal) (S .td) in
+            let ne : inline m c ≢ 0 = (λ (z : inline m c ≡ 0). omega arith) in
+            let w : x .hit .weight ≡ count m items = omega arith in
+            let body : List ℕ = bodyBytes (bodyWith b (b .total - 1) (x .front ++ (less (x .hit) 1 ++ x .back))) in
+            let g : cond (eqb (x .hit .weight) 1) 29 0 ≡ gone items c =
+            ap (λ (z : ℕ). cond (eqb z 1) 29 0) w ∙ ap (λ (z : ℕ). cond (eqb (count m items) 1) z 0) (sym (cond-no {A = ℕ} (eqb (inline m c) 0) 49 29 (no-eqb ne))) in (
+              putBack c body,
+              inline-way (dropInline type d 178 (triple name)) (leb 2 (b .total)) body _ (putBack c body) item
+              (inline-found type d b 178 (triple name) x l₀ (H .reads) e) refl
+              ∙ ap (λ (t : ℕ). ask (leb 2 t) 13 (accepted (putBack c body))) (sym (read-total type d b (H .reads))),
+              less-shorter sheet items S m (is178 refl) refl c b H x (b .total - 1) (gone items c) (f .same) (f .hit) h₂ g,
+            )
+        go none e =
+            let z : inline m c ≡ 0 = inline-none m items c b H (S .bal) (S .td) (cut-none (named 178 (triple name)) (b .refs) e) in
+            let cs = count-split m items c b H (S .bal) (S .td) in
+            let (k, O, q, fs, l) = data-own m items c b H (S .bal) (S .td) refl (omega arith) in
+            by-item z k O q fs l
+          where
+            by-item : inline m c ≡ 0 → (k : Cut Item) → Own m items k (keyedCount (k .hit .bytes)) → k .hit .key ≡ keyOf extent 178 (placeOf 178 (triple name))
+                → words 3 (k .hit .bytes) ≡ triple name → length (k .hit .bytes) ≡ 28
+                → (after : List Item) × (next items c ≡ ask (leb 2 (totalOf d)) 13 (accepted after)) × Shorter sheet (gone items c) after
+            by-item z k O q fs l = finish (left (eqb w 1) refl)
+              where
+                w : ℕ
+                w = keyedCount (k .hit .bytes)
+
+                d₂ : List ℕ
+                d₂ = written 24 (leBytes 4 (w - 1)) (k .hit .bytes)
+
+                d′ : List ℕ
+                d′ = written 0 (leBytes 8 (totalOf d - 1)) d
+
+                long : 24 ≤ length d
+                long = read-long type d b (H .reads)
+
+                l₂ : length d₂ ≡ 28
+                l₂ = (let n = length-leBytes 4 (w - 1) in length-written 24 (leBytes 4 (w - 1)) (k .hit .bytes) (omega arith) ∙ l)
+
+                nr : T (not (isRecord (k .hit)))
+                nr = naming-no-record (k .hit) (is178 (ap (λ (x : Key). x .kind) q))
+
+                -- questions 3, 15 and 16 of the item
+                asked : dropKeyedDataRef (k .hit .bytes) name ≡ cond (eqb w 1) remove (accepted d₂)
+                asked =
+                    ask-yes (bodyFits (k .hit .bytes)) 3 _ (le→leb (length (k .hit .bytes)) 65535 (omega arith))
+                    ∙ ask-yes (eqb (length (k .hit .bytes)) 28 && same (words 3 (k .hit .bytes)) (triple name)) 15 _
+                    (yes-and (eqb (length (k .hit .bytes)) 28) _ (yes-eqb l) (subst (λ (x : List ℕ). T (same x (triple name))) (sym fs) (same-refl (triple name))))
+                    ∙ ask-yes (leb 1 w) 16 _ (le→leb 1 w (O .some≤))
+
+                -- what stands in the item's place
+                left : (y : Bool) → eqb w 1 ≡ y
+                    → (others : List Item) × (after : List Item) × (droppedAt k (cond y remove (accepted d₂)) ≡ accepted others)
+                    × (replaced (c .hit .key) d′ others ≡ accepted after) × Shorter sheet (cond y 49 0) after
+                left true p =
+                    let (after, r, short) = kept sheet items S m c b H k (O .same) nr [] tt tt 49 (omega arith) (omega arith) d′ (length-total d (totalOf d - 1) long) in
+                    (without k, after, refl, r, short)
+                left false p =
+                    let (after, r, short) = kept sheet items S m c b H k (O .same) nr (withBytes (k .hit) d₂ ∷ []) (yes-and (not (isRecord (k .hit))) true nr tt)
+                    (yes-and (leb (length d₂) 65535) true (le→leb (length d₂) 65535 (omega (arith, l₂))) tt) 0 (omega (arith, l₂)) (omega arith) d′ (length-total d (totalOf d - 1) long) in
+                    (putBack k d₂, after, refl, r, short)
+
+                finish : (others : List Item) × (after : List Item) × (droppedAt k (cond (eqb w 1) remove (accepted d₂)) ≡ accepted others)
+                    × (replaced (c .hit .key) d′ others ≡ accepted after) × Shorter sheet (cond (eqb w 1) 49 0) after
+                    → (after : List Item) × (next items c ≡ ask (leb 2 (totalOf d)) 13 (accepted after)) × Shorter sheet (gone items c) after
+                finish (others, after, dr, r, short) =
+                    let at : cut (hasKey (key c)) items ≡ some k =
+                    key-at sheet items S k (O .same) (key c) (q ∙ ap (λ (x : ℕ). keyOf x 178 (placeOf 178 (triple name))) (sym (H .extent))) in
+                    let g : cond (eqb w 1) 49 0 ≡ gone items c =
+                    ap (λ (x : ℕ). cond (eqb x 1) 49 0) (sym (O .counts))
+                    ∙ ap (λ (x : ℕ). cond (eqb (count m items) 1) x 0) (sym (cond-yes {A = ℕ} (eqb (inline m c) 0) 49 29 (yes-eqb z))) in (
+                      after,
+                      absent-way (dropInline type d 178 (triple name)) _ item (inline-missing type d b 178 (triple name) l₀ (H .reads) e)
+                      ∙ needed-yes (key c) items k _ at
+                      ∙ ask-then (lowerTotal d) (leb 2 (totalOf d)) d′ (λ body. bind (droppedAt k (dropKeyedDataRef (k .hit .bytes) name)) (λ l. replaced (c .hit .key) body l)) after
+                      (lower-in d l₀ long)
+                      (bind-yes (droppedAt k (dropKeyedDataRef (k .hit .bytes) name)) _ (ap (droppedAt k) asked ∙ dr) ∙ r),
+                      subst (λ (t : ℕ). Shorter sheet t after) g short,
+                    )
+
+    plain : DropFacts nodesize sheet m room (leb 2) gone → DropsData nodesize sheet extent name room
+    plain f = record { items = f .items; at = f .at; door = f .door; named = f .counts; two = leb→le _ _ (f .asked); roomy = f .roomy }
+
+    facts : DropsData nodesize sheet extent name room → DropFacts nodesize sheet m room (leb 2) gone
     facts f =
         record { items = f .items; at = f .at; door = f .door; counts = f .named; asked = le→leb 2 (totalOf (f .at .hit .bytes)) (f .two); roomy = f .roomy }
