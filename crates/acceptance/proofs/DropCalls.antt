@@ -33,7 +33,7 @@ use Rattle.format.proofs.Answers.{ask-ok, ask-yes, bind-yes, accepted-inj}
 use Rattle.format.proofs.Refs.{whole, whole-out}
 use Rattle.format.proofs.Bodies.{read-total, read-long, bodyBytes-read, length-bodyBytes, total-bodyBytes, fixed-long}
 use Rattle.history.specs.Demand.{Wide}
-use Rattle.history.proofs.Sums.{sameName-refl}
+use Rattle.history.proofs.Sums.{sameName-refl, empty}
 use Rattle.history.proofs.Naming.{Naming, is176, is178, naming-known, naming-no-record, shared-naming, shared-field}
 use Rattle.history.proofs.Order.{named-yes}
 use Rattle.history.proofs.Edit.{only, worth, count-edit}
@@ -120,6 +120,11 @@ inline-way r t body k a other e q = ap (λ (z : Answer (List ℕ)). ifAbsent (bi
 absent-way : {A : Type 0} (r : Answer A) (k : A → Answer (List Item)) (other : Answer (List Item)) → r ≡ absent → ifAbsent (bind r k) other ≡ other
 unfolding bind ifAbsent
 absent-way r k other e = ap (λ z. ifAbsent (bind z k) other) e
+
+found-way : {A : Type 0} (r : Answer A) (a : A) (k : A → Answer (List Item)) (after : List Item) (other : Answer (List Item)) → r ≡ accepted a
+    → k a ≡ accepted after → ifAbsent (bind r k) other ≡ accepted after
+unfolding ifAbsent
+found-way r a k after other e q = ap (λ (z : Answer (List Item)). ifAbsent z other) (bind-yes r k e ∙ q)
 
 -- a question left in front
 ask-then : {A B : Type 0} (r : Answer A) (t : Bool) (a : A) (k : A → Answer B) (b : B) → r ≡ ask t 13 (accepted a) → k a ≡ accepted b
@@ -346,6 +351,11 @@ drops-data nodesize sheet extent name room raw wide =
         l₀ : length d ≤ 65535
         l₀ = length-at sheet items S m c b H
 
+        goes : (w : ℕ) → w ≡ count m items → inline m c ≢ 0 → cond (eqb w 1) 29 0 ≡ gone items c
+        goes w e ne =
+            ap (λ (x : ℕ). cond (eqb x 1) 29 0) e
+            ∙ ap (λ (x : ℕ). cond (eqb (count m items) 1) x 0) (sym (cond-no {A = ℕ} (eqb (inline m c) 0) 49 29 (no-eqb ne)))
+
         item : Answer (List Item)
         item =
             bind (needed 5 (cut (hasKey (key c)) items)) (λ k.
@@ -364,8 +374,7 @@ drops-data nodesize sheet extent name room raw wide =
             let ne : inline m c ≢ 0 = (λ (z : inline m c ≡ 0). omega arith) in
             let w : x .hit .weight ≡ count m items = omega arith in
             let body : List ℕ = bodyBytes (bodyWith b (b .total - 1) (x .front ++ (less (x .hit) 1 ++ x .back))) in
-            let g : cond (eqb (x .hit .weight) 1) 29 0 ≡ gone items c =
-            ap (λ (z : ℕ). cond (eqb z 1) 29 0) w ∙ ap (λ (z : ℕ). cond (eqb (count m items) 1) z 0) (sym (cond-no {A = ℕ} (eqb (inline m c) 0) 49 29 (no-eqb ne))) in (
+            let g : cond (eqb (x .hit .weight) 1) 29 0 ≡ gone items c = goes (x .hit .weight) w ne in (
               putBack c body,
               inline-way (dropInline type d 178 (triple name)) (leb 2 (b .total)) body _ (putBack c body) item
               (inline-found type d b 178 (triple name) x l₀ (H .reads) e) refl
@@ -445,3 +454,158 @@ drops-data nodesize sheet extent name room raw wide =
     facts : DropsData nodesize sheet extent name room → DropFacts nodesize sheet m room (leb 2) gone
     facts f =
         record { items = f .items; at = f .at; door = f .door; counts = f .named; asked = le→leb 2 (totalOf (f .at .hit .bytes)) (f .two); roomy = f .roomy }
+
+-- ---- a shared reference
+
+-- a step that takes all says that something was counted
+all-counted : (m : Name) (n : ℕ) (items after : List Item) → sum empty (entries items) ≡ 0 → Step m 0 n true items after → 1 ≤ count m items
+all-counted m n items after weigh s =
+    let e = s .edit .sums (stands m) in
+    let (v, q) = s .gone tt .1 in
+    let e₁ : sum (stands m) (only m (s .old)) ≡ 1 = ap (λ (o : Option ℕ). sum (stands m) (only m o)) q ∙ only-stands m v in
+    let e₂ : sum (stands m) (only m (s .new)) ≡ 0 = ap (λ (o : Option ℕ). sum (stands m) (only m o)) (s .gone tt .0) in
+    let h = stood m (entries items) weigh in
+    omega arith
+
+-- an item's head and data
+shared-item : (kind : ℕ) → 21 + cond (eqb kind 184) 4 0 ≡ sharedItem kind
+shared-item kind = go (eqb kind 184)
+  where
+    go : (c : Bool) → 21 + cond c 4 0 ≡ cond c 25 21
+    go true = refl
+    go false = refl
+
+pub drops-shared : (nodesize : ℕ) (sheet : List ℕ) (extent : ℕ) (name : SharedRef) (room : ℕ) → T (areBytes sheet) → Wide (DropShared extent name)
+    → Exactly (Accepts nodesize sheet (DropShared extent name) room) (DropsShared nodesize sheet extent name room)
+unfolding changed dropSharedRef takeInlineShared found bind
+drops-shared nodesize sheet extent name room raw wide =
+    record {
+      only = λ acc.
+          (let k = posts-out nodesize sheet (DropShared extent name) room acc .kind in
+          plain k (drop-only nodesize sheet room raw (DropShared extent name) k next (λ _. true) gone (λ items. refl) (stands′ k) (answers k) acc));
+      enough = λ f.
+          drop-enough nodesize sheet room raw (DropShared extent name) (f .kind) next (λ _. true) gone (λ items. refl) (stands′ (f .kind)) (answers (f .kind)) (facts f);
+    }
+  where
+    m : Name
+    m = nameOf (DropShared extent name)
+
+    next : List Item → Cut Item → Answer (List Item)
+    next items c = dropSharedRef name items c
+
+    gone : List Item → Cut Item → ℕ
+    gone items c = freed m c (sharedSize (name .kind)) (sharedItem (name .kind))
+
+    stands′ : T (sharedKind (name .kind)) → (items after : List Item) → Scene sheet items → changed nodesize (DropShared extent name) items ≡ accepted after
+        → 1 ≤ count m items
+    stands′ sk items after S e =
+        let (n, s) = drop-shared extent name items after sk (name-ok (DropShared extent name) wide sk) (S .bal) (S .td) e in
+        all-counted m n items after (S .bal .weigh) s
+
+    key : Cut Item → Key
+    key c = keyOf (c .hit .key .objectid) (name .kind) (name .parent)
+
+    p : Ref → Bool
+    p = named (name .kind) (one (name .parent))
+
+    answers : T (sharedKind (name .kind)) → (items : List Item) → Scene sheet items → (c : Cut Item) (b : Body) → Here m items c b → 1 ≤ count m items
+        → (after : List Item) × (next items c ≡ ask true 13 (accepted after)) × Shorter sheet (gone items c) after
+    answers sk items S c b H n = go (cut p (b .refs)) refl
+      where
+        type : ℕ
+        type = c .hit .key .kind
+
+        d : List ℕ
+        d = c .hit .bytes
+
+        l₀ : length d ≤ 65535
+        l₀ = length-at sheet items S m c b H
+
+        naming : Naming (name .kind)
+        naming = shared-naming (name .kind) sk
+
+        most : count m items ≤ b .total
+        most = within-total m items c b H (S .bal) (S .td)
+
+        take : Option (Cut Ref) → Answer TakenOut
+        take o = bind (found o) (λ x. accepted (record { bytes = bodyBytes (bodyWith b (b .total) (x .front ++ x .back)); count = x .hit .weight }))
+
+        taken : (o : Option (Cut Ref)) → cut p (b .refs) ≡ o → takeInlineShared type d name ≡ take o
+        taken o e = ask-yes (sharedKind (name .kind)) 3 _ sk ∙ body-in type d b _ l₀ (H .reads) ∙ ap take e
+
+        put : TakenOut → Answer (List Item)
+        put out = bind (reduceTotal (out .bytes) (out .count)) (λ body. accepted (putBack c body))
+
+        item : Answer (List Item)
+        item =
+            bind (needed 5 (cut (hasKey (key c)) items)) (λ k.
+            bind (reduceTotal d (sharedCount (k .hit))) (λ body. replaced (c .hit .key) body (without k)))
+
+        go : (o : Option (Cut Ref)) → cut p (b .refs) ≡ o
+            → (after : List Item) × (next items c ≡ ask true 13 (accepted after)) × Shorter sheet (gone items c) after
+        go (some x) e = inline-gone (cut-some p (b .refs) e)
+          where
+            -- the body without the reference, then with its total lowered
+            rest : List ℕ
+            rest = bodyBytes (bodyWith b (b .total) (x .front ++ x .back))
+
+            body : List ℕ
+            body = written 0 (leBytes 8 (totalOf rest - x .hit .weight)) rest
+
+            inline-gone : Found p (b .refs) x → (after : List Item) × (next items c ≡ ask true 13 (accepted after)) × Shorter sheet (gone items c) after
+            inline-gone f =
+                let i = inline-one m items c b H (S .bal) (S .td) naming x (f .same) (f .hit) in
+                let h₁ = i .0 in
+                let h₂ = i .2 in
+                let cs = count-split m items c b H (S .bal) (S .td) in
+                let ne : inline m c ≢ 0 = (λ (z : inline m c ≡ 0). omega arith) in
+                let lg = gone-length sheet items S m naming (sym (shared-field (name .kind) sk)) c b H x (b .total) (f .same) (f .hit) in
+                let sz = shared-size (name .kind) sk in
+                let fx = fixed-long type b (H .sound) in
+                let lb = length-bodyBytes (bodyWith b (b .total) (x .front ++ x .back)) in
+                let long : 24 ≤ length rest = omega arith in
+                let tl : totalOf rest ≡ b .total = total-bodyBytes (bodyWith b (b .total) (x .front ++ x .back)) (H .sound .fits) in
+                let le : x .hit .weight ≤ totalOf rest = omega (arith, most) in
+                let lt = length-total rest (totalOf rest - x .hit .weight) long in
+                let red : reduceTotal rest (x .hit .weight) ≡ accepted body = reduce-in rest (x .hit .weight) (omega (arith, l₀)) long le in
+                let fr : gone items c ≡ sharedSize (name .kind) = cond-no {A = ℕ} (eqb (inline m c) 0) (sharedItem (name .kind)) (sharedSize (name .kind)) (no-eqb ne) in (
+                  putBack c body,
+                  found-way (takeInlineShared type d name) _ put (putBack c body) item (taken (some x) e)
+                  (bind-yes (reduceTotal rest (x .hit .weight)) (λ z. accepted (putBack c z)) red)
+                  ∙ sym (ask-yes true 13 (accepted (putBack c body)) tt),
+                  shorter-put sheet items S m naming (sym (shared-field (name .kind) sk)) c b H body (gone items c) (omega arith),
+                )
+        go none e =
+            let z : inline m c ≡ 0 = inline-none m items c b H (S .bal) (S .td) (cut-none p (b .refs) e) in
+            let cs = count-split m items c b H (S .bal) (S .td) in
+            let (k, O, q, l) = plain-own m items c b H (S .bal) (S .td) (name .parent) refl (not-178 (name .kind) sk) (omega arith) in
+            by-item z k O q l
+          where
+            by-item : inline m c ≡ 0 → (k : Cut Item) → Own m items k (sharedCount (k .hit)) → k .hit .key ≡ keyOf extent (name .kind) (name .parent)
+                → length (k .hit .bytes) ≡ cond (eqb (name .kind) 184) 4 0
+                → (after : List Item) × (next items c ≡ ask true 13 (accepted after)) × Shorter sheet (gone items c) after
+            by-item z k O q l =
+                let nr : T (not (isRecord (k .hit))) = naming-no-record (k .hit) (subst Naming (sym (ap (λ (x : Key). x .kind) q)) naming) in
+                let long = read-long type d b (H .reads) in
+                let w : ℕ = sharedCount (k .hit) in
+                let tl : totalOf d ≡ b .total = read-total type d b (H .reads) in
+                let wt : w ≤ totalOf d = omega (arith, most, O .counts) in
+                let d′ : List ℕ = written 0 (leBytes 8 (totalOf d - w)) d in
+                let at : cut (hasKey (key c)) items ≡ some k =
+                key-at sheet items S k (O .same) (key c) (q ∙ ap (λ (x : ℕ). keyOf x (name .kind) (name .parent)) (sym (H .extent))) in
+                let fr : gone items c ≡ sharedItem (name .kind) = cond-yes {A = ℕ} (eqb (inline m c) 0) (sharedItem (name .kind)) (sharedSize (name .kind)) (yes-eqb z) in
+                let si = shared-item (name .kind) in
+                let (after, r, short) = kept sheet items S m c b H k (O .same) nr [] tt tt (gone items c) (omega arith) (omega arith) d′ (length-total d (totalOf d - w) long) in (
+                  after,
+                  absent-way (takeInlineShared type d name) put item (taken none e)
+                  ∙ needed-yes (key c) items k _ at
+                  ∙ bind-yes (reduceTotal d w) (λ body. replaced (c .hit .key) body (without k)) (reduce-in d w l₀ long wt) ∙ r
+                  ∙ sym (ask-yes true 13 (accepted after) tt),
+                  short,
+                )
+
+    plain : T (sharedKind (name .kind)) → DropFacts nodesize sheet m room (λ _. true) gone → DropsShared nodesize sheet extent name room
+    plain k f = record { items = f .items; at = f .at; kind = k; door = f .door; named = f .counts; roomy = f .roomy }
+
+    facts : DropsShared nodesize sheet extent name room → DropFacts nodesize sheet m room (λ _. true) gone
+    facts f = record { items = f .items; at = f .at; door = f .door; counts = f .named; asked = tt; roomy = f .roomy }

@@ -3,3 +3,4 @@ pub mod Counts
 pub mod Adds
 pub mod Drops
 pub mod DropCalls
+pub mod Acceptance
