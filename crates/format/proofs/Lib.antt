@@ -5,3 +5,4 @@ pub mod Bodies
 pub mod Keys
 pub mod Items
 pub mod Splices
+pub mod Postings
