@@ -1,4 +1,6 @@
 pub mod Answers
+pub mod Outputs
+pub mod Hash
 pub mod Rows
 pub mod Refs
 pub mod Bodies
