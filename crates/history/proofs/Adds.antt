@@ -1,23 +1,22 @@
 -- The three adds: an accepted one is a step that brings its amount under its name. Assumes nothing.
-use mathlib.Core.Path.{_≡_, refl, sym, ap, ap₂, _∙_, subst}
-use mathlib.Core.Logic.{_≢_, _⊎_, inl, inr}
+use mathlib.Core.Path.{_≡_, refl, sym, ap, _∙_, subst}
+use mathlib.Core.Logic.{_⊎_, inl, inr}
 use Prim.Native.Nat.{ℕ, zero, suc, _+_, _-_, _^_, _≤_, _<_}
 use native.Mathlib.Omega.{arith}
-use mathlib.Core.Bool.{Bool, true, false, not, _&&_, _||_, cond}
-use mathlib.Core.Option.{Option, none, some}
+use mathlib.Core.Bool.{Bool, true, false, not, _||_}
+use mathlib.Core.Option.{none, some}
 use mathlib.Core.List.{List, [], _∷_, _++_}
 use lib.ListN.{length}
 use lib.Dec.{T, leb, ltb, eqb, eqb→eq, leb→le, ltb→lt}
-use mir.Facts.{and-yes, yes-and, or-yes, T-not}
-use Rattle.fields.specs.Lists.{sum, all, Cut, cut}
+use mir.Facts.{or-yes, T-not}
+use Rattle.fields.specs.Lists.{all, Cut}
 use Rattle.fields.proofs.Lists.{all-mid, all-rest, all-put}
 use Rattle.format.specs.declared.BlockRef.{BlockRef}
 use Rattle.format.specs.declared.DataRef.{DataRef}
 use Rattle.format.specs.declared.SharedRef.{SharedRef}
-use Rattle.format.specs.declared.Keyed.{Keyed}
 use Rattle.format.specs.declared.Keyed.the-variants.{Block, Data}
 use Rattle.format.specs.declared.Change.the-variants.{AddBlock, AddData, AddShared}
-use Rattle.format.specs.Questions.{Answer, refused, accepted, ask, bind, also}
+use Rattle.format.specs.Questions.{Answer, accepted, ask}
 use Rattle.format.specs.References.{counted, weightOf, Ref, ref, Body, bodyWith, bodyBytes, placeOf}
 use Rattle.format.specs.Bodies.{one, triple, weighed, sharedKind, raisedBy, Spot, gap, standing, isGap, standingWeight, addedAt, addAt, spotAnywhere, spotByScan, addInlineTreeRef, addInlineData, addInlineShared}
 use Rattle.format.specs.Items.{Item, putBack}
@@ -26,8 +25,8 @@ use Rattle.format.specs.Names.{Name, refEntries}
 use Rattle.format.specs.Ledger.{nameOf, notItsOwn, added}
 use Rattle.format.proofs.Answers.{ask-ok, bind-ok, also-ok, accepted-inj}
 use Rattle.format.proofs.Refs.{whole, Whole, whole-in, whole-out}
-use Rattle.format.proofs.Bodies.{Sound, sound-with}
-use Rattle.history.proofs.Naming.{Naming, not-172, naming-known, weighs-one, shared-place}
+use Rattle.format.proofs.Bodies.{sound-with}
+use Rattle.history.proofs.Naming.{not-172, naming-known, weighs-one, shared-place}
 use Rattle.history.proofs.Order.{named-yes, SpotOk, at-gap, at-standing, spot-anywhere, spot-by-scan, ordered-weighed}
 use Rattle.history.proofs.Edit.{Balanced}
 use Rattle.history.proofs.Facts.{named-entries, not-empty}

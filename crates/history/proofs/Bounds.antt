@@ -2,24 +2,24 @@
 -- no more than 262,144 of them. Assumes nothing.
 use mathlib.Core.Path.{_≡_, refl, sym, ap, ap₂, _∙_, subst}
 use mathlib.Core.Logic.{_⊎_, inl, inr}
-use Prim.Native.Nat.{ℕ, zero, suc, _+_, _-_, _*_, _≤_, _<_}
+use Prim.Native.Nat.{ℕ, _+_, _-_, _*_, _≤_, _<_}
 use native.Mathlib.Omega.{arith}
-use mathlib.Core.Bool.{Bool, true, false, not, _&&_, _||_, cond}
+use mathlib.Core.Bool.{Bool, true, false, not, _&&_, cond}
 use mathlib.Core.List.{List, [], _∷_, _++_}
 use lib.ListN.{length, length-append}
-use lib.Dec.{T, leb, ltb, eqb, eqb→eq}
+use lib.Dec.{T, eqb, eqb→eq}
 use mir.Facts.{and-yes}
 use Rattle.fields.specs.Lists.{sum, all, Cut}
 use Rattle.fields.specs.Numbers.{le, areBytes}
 use Rattle.fields.proofs.Lists.{imp-out, sum-append, all-mid}
 use Rattle.fields.proofs.Numbers.{le-bound}
 use Rattle.format.specs.Questions.{Answer, refused, absent, remove, accepted}
-use Rattle.format.specs.References.{counted, weightOf, Ref, ref, refAt, refBytes, refsBytes, Body, readBody, bodyBytes, place}
-use Rattle.format.specs.Bodies.{one, keyedCount}
-use Rattle.format.specs.Items.{Item, readSheet, itemsBytes, sheetBytes}
+use Rattle.format.specs.References.{counted, weightOf, Ref, ref, refAt, refBytes, refsBytes, Body, readBody, place}
+use Rattle.format.specs.Bodies.{one}
+use Rattle.format.specs.Items.{Item, readSheet}
 use Rattle.format.specs.Apply.{isRecord}
-use Rattle.format.specs.Names.{Name, Entry, View, extentRecord, reference, unrelated, malformed, isRefItem, viewRecord, inForm, viewRefItem, viewOf, refEntry, refEntries, viewEntries, itemEntries, entries, ofExtent, viewTotal, totalled}
-use Rattle.format.proofs.Refs.{yes-or-no, whole, Whole, whole-out, length-refBytes}
+use Rattle.format.specs.Names.{Name, Entry, unrelated, isRefItem, viewRecord, inForm, viewRefItem, viewOf, refEntry, refEntries, viewEntries, itemEntries, entries, ofExtent, viewTotal, totalled}
+use Rattle.format.proofs.Refs.{yes-or-no, whole, whole-out, length-refBytes}
 use Rattle.format.proofs.Bodies.{length-bodyBytes, bodyBytes-read, read-sound}
 use Rattle.format.proofs.Items.{length-itemsBytes, length-sheetBytes, sheet-sane, sheetBytes-read}
 use Rattle.history.proofs.Edit.{Balanced, record-total}

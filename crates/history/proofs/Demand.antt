@@ -1,26 +1,26 @@
 -- Demand 3: from the step that each accepted change makes to any list of postings on any balanced sheet.
 -- Assumes nothing.
-use mathlib.Core.Path.{_≡_, refl, sym, ap, ap₂, _∙_, subst}
-use mathlib.Core.Logic.{_≢_, _⊎_, inl, inr}
-use Prim.Native.Nat.{ℕ, zero, suc, _+_, _-_, _≤_, _<_}
+use mathlib.Core.Path.{_≡_, refl, sym, ap, _∙_, subst}
+use mathlib.Core.Logic.{_≢_}
+use Prim.Native.Nat.{ℕ, _+_, _-_, _≤_}
 use native.Mathlib.Omega.{arith}
-use mathlib.Core.Bool.{Bool, true, false, not, _&&_, _||_, cond}
-use mathlib.Core.Option.{Option, none, some}
-use mathlib.Core.List.{List, [], _∷_, _++_}
+use mathlib.Core.Bool.{Bool, true, false, not, _&&_, cond}
+use mathlib.Core.Option.{Option}
+use mathlib.Core.List.{List, [], _∷_}
 use lib.ListN.{length}
-use lib.Dec.{T, leb, ltb, eqb, eqb-refl, eqb→eq, leb→le, le→leb, ltb→lt, lt→ltb}
+use lib.Dec.{T, leb, ltb, eqb, leb→le, ltb→lt, lt→ltb}
 use mir.Facts.{and-yes, yes-and, or-no, T-not, yes-eqb}
 use Rattle.fields.specs.Lists.{sum, all}
 use Rattle.fields.specs.Numbers.{areBytes}
 use Rattle.fields.proofs.Lists.{cond-yes, cond-no, all-map, all-two}
 use Rattle.format.specs.declared.Change.{Change}
 use Rattle.format.specs.declared.Change.the-variants.{AddBlock, AddData, AddShared, DropBlock, DropData, DropShared}
-use Rattle.format.specs.Questions.{Answer, refused, absent, remove, accepted, ask, bind, held}
+use Rattle.format.specs.Questions.{Answer, refused, absent, remove, accepted, held}
 use Rattle.format.specs.References.{payloadLength, countPosition, counted, fieldCount, rowIn}
 use Rattle.format.specs.Items.{Item, rising, readSheet, sheetBytes, nodesizeFits, dataFits, onSheet, sheetHolds, heldSheet}
 use Rattle.format.specs.Names.{Name, sameName, entries, stands, count, balanced}
 use Rattle.format.specs.Ledger.{nameOf, kindFits, changed, post, posted}
-use Rattle.format.specs.History.{Posting, answerTo, sheetAfter, isAccepted, run, Seen, seen, Tally, gave, took, enter, tally, history, touched, itemsOf, itemsIn, sheetItems, passes, balancedSheet}
+use Rattle.format.specs.History.{Posting, answerTo, sheetAfter, isAccepted, run, Seen, seen, Tally, gave, took, enter, tally, touched, itemsOf, itemsIn, sheetItems, passes, balancedSheet}
 use Rattle.format.proofs.Answers.{ask-ok, bind-ok, held-ok, accepted-inj}
 use Rattle.format.proofs.Items.{sane, sane-in, sane-out, sheet-sane, read-sheetBytes, areBytes-sheetBytes}
 use Rattle.history.specs.Demand.{Wide, Wides, Demand3}

@@ -1,34 +1,34 @@
 -- The three drops: an accepted one is a step that takes one count, or all, from its name. Assumes nothing.
 use mathlib.Core.Path.{_≡_, refl, sym, ap, ap₂, _∙_, subst}
 use mathlib.Core.Logic.{_≢_, _⊎_, inl, inr}
-use Prim.Native.Nat.{ℕ, zero, suc, _+_, _-_, _^_, _≤_, _<_}
+use Prim.Native.Nat.{ℕ, _+_, _-_, _≤_, _<_}
 use native.Mathlib.Omega.{arith}
 use mathlib.Core.Bool.{Bool, true, false, not, _&&_, _||_, cond}
-use mathlib.Core.Option.{Option, none, some}
+use mathlib.Core.Option.{some}
 use mathlib.Core.List.{List, [], _∷_, _++_, append-assoc}
 use lib.ListN.{length, take, drop}
 use lib.Dec.{T, leb, ltb, eqb, eqb→eq, leb→le, ltb→lt, nltb→le}
-use mir.Facts.{and-yes, yes-and, eqb-no}
+use mir.Facts.{and-yes, eqb-no}
 use Rattle.fields.specs.Lists.{all, same, Cut, cut}
 use Rattle.fields.specs.Numbers.{le, leBytes, words, wordBytes, areBytes}
 use Rattle.fields.specs.Parts.{part, written}
 use Rattle.fields.proofs.Lists.{cond-no, all-mid, all-rest, same-yes, Found, cut-some}
-use Rattle.fields.proofs.Parts.{length-part, length-written, part-written}
-use Rattle.fields.proofs.Numbers.{areBytes-part, areBytes-leBytes, areBytes-written, length-leBytes, le-bound, le-leBytes, words-wordBytes, wordBytes-words}
+use Rattle.fields.proofs.Parts.{length-written, part-written}
+use Rattle.fields.proofs.Numbers.{areBytes-leBytes, areBytes-written, length-leBytes, le-leBytes, words-wordBytes, wordBytes-words}
 use Rattle.format.specs.declared.BlockRef.{BlockRef}
 use Rattle.format.specs.declared.DataRef.{DataRef}
 use Rattle.format.specs.declared.SharedRef.{SharedRef}
 use Rattle.format.specs.declared.Key.{Key}
 use Rattle.format.specs.declared.Change.the-variants.{DropBlock, DropData, DropShared}
-use Rattle.format.specs.Questions.{Answer, refused, absent, remove, accepted, ask, bind, needed, found, ifAbsent, TakenOut}
-use Rattle.format.specs.References.{Ref, ref, Body, bodyWith, readBody, bodyBytes, placeOf, place}
+use Rattle.format.specs.Questions.{Answer, absent, remove, accepted, ask, bind, needed, found, TakenOut}
+use Rattle.format.specs.References.{Ref, Body, bodyWith, bodyBytes, placeOf, place}
 use Rattle.format.specs.Bodies.{named, one, triple, weighed, bodyFits, sharedKind, loweredByOne, reducedBy, lowerTotal, reduceTotal, less, dropInline, dropInlineTreeRef, dropInlineDataRef, takeInlineShared, keyedCount, dropKeyedDataRef}
 use Rattle.format.specs.Items.{Item, keyOf, withBytes, putBack, without}
 use Rattle.format.specs.Sheets.{hasKey, deleted}
 use Rattle.format.specs.Apply.{onRecord, replaced, flagged, dropTreeRef}
 use Rattle.format.specs.Names.{Name, itemEntries, good}
 use Rattle.format.specs.Ledger.{nameOf, droppedAt, dropDataRef, sharedCount, dropSharedRef}
-use Rattle.format.proofs.Answers.{ask-ok, bind-ok, needed-ok, found-ok, ifAbsent-ok, accepted-inj, refused-not, absent-not}
+use Rattle.format.proofs.Answers.{ask-ok, bind-ok, needed-ok, found-ok, ifAbsent-ok, accepted-inj, refused-not}
 use Rattle.format.proofs.Refs.{whole}
 use Rattle.format.proofs.Bodies.{Sound, sound-with, read-bodyBytes, areBytes-bodyBytes}
 use Rattle.format.proofs.Keys.{sameKey-yes}

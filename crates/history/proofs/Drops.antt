@@ -1,23 +1,21 @@
 -- What a drop does inline and to an item of its own: one count off, or all of it, and the record's total with it.
 -- Assumes nothing.
 use mathlib.Core.Path.{_≡_, refl, sym, ap, ap₂, _∙_, subst}
-use mathlib.Core.Logic.{_≢_, _⊎_, inl, inr}
-use Prim.Native.Nat.{ℕ, zero, suc, _+_, _-_, _≤_, _<_}
+use Prim.Native.Nat.{ℕ, _+_, _-_, _≤_, _<_}
 use native.Mathlib.Omega.{arith}
 use mathlib.Core.Bool.{Bool, true, false, not, _&&_, _||_, cond}
 use mathlib.Core.Option.{Option, none, some}
 use mathlib.Core.List.{List, [], _∷_, _++_}
-use lib.ListN.{length}
-use lib.Dec.{T, leb, ltb, eqb, eqb→eq, ltb→lt}
+use lib.Dec.{T, eqb}
 use mir.Facts.{and-yes, yes-and, T-not, not-T}
 use Rattle.fields.specs.Lists.{sum, all, Cut, cut}
 use Rattle.fields.specs.Numbers.{areBytes}
 use Rattle.fields.proofs.Lists.{cond-yes, cond-no, some-inj, all-map, all-mid, all-rest, all-put, Found, cut-some}
 use Rattle.format.specs.declared.Key.{Key}
-use Rattle.format.specs.Questions.{Answer, accepted, bind, needed}
-use Rattle.format.specs.References.{counted, weightOf, Ref, Body, bodyWith, readBody, bodyBytes, ordered}
+use Rattle.format.specs.Questions.{accepted, needed}
+use Rattle.format.specs.References.{weightOf, Ref, Body, bodyWith, bodyBytes}
 use Rattle.format.specs.Bodies.{named, weighed}
-use Rattle.format.specs.Items.{Item, sameKey, withBytes, putBack, without}
+use Rattle.format.specs.Items.{Item, withBytes, putBack, without}
 use Rattle.format.specs.Sheets.{hasKey}
 use Rattle.format.specs.Apply.{isRecord, recordOf, replaced}
 use Rattle.format.specs.Names.{Name, Entry, extentRecord, viewOf, refEntries, itemEntries, entries, good, stands}

@@ -1,23 +1,23 @@
 -- What an edit of the items does to sums over entries, to records, and to balance. Knows nothing of bytes.
 -- Assumes nothing.
-use mathlib.Core.Path.{_≡_, refl, sym, ap, ap₂, _∙_, subst}
+use mathlib.Core.Path.{_≡_, refl, sym, ap, _∙_, subst}
 use mathlib.Core.Logic.{_≢_}
-use Prim.Native.Nat.{ℕ, zero, suc, _+_, _-_, _*_, _≤_, _<_}
+use Prim.Native.Nat.{ℕ, _+_, _-_, _≤_}
 use native.Mathlib.Omega.{arith}
 use mathlib.Core.Bool.{Bool, true, false, not, _&&_, _||_, cond}
 use mathlib.Core.Option.{Option, none, some}
 use mathlib.Core.List.{List, [], _∷_, _++_}
-use lib.Dec.{T, leb, ltb, eqb, eqb-refl, eqb→eq, leb→le, le→leb}
+use lib.Dec.{T, eqb, eqb-refl, eqb→eq}
 use mir.Facts.{and-yes, yes-and, T-not, not-T, yes-eqb, no-eqb}
 use Rattle.fields.specs.Lists.{sum, all}
 use Rattle.fields.proofs.Lists.{T-eq, imp-out, imp-in, cond-yes, cond-no, sum-append, all-map, all-two, all-mid, all-rest, all-put, none-counted}
 use Rattle.format.specs.References.{Ref, Body, ordered}
 use Rattle.format.specs.Items.{Item, rising, withBytes}
 use Rattle.format.specs.Apply.{isRecord, recordOf}
-use Rattle.format.specs.Names.{Name, sameName, Entry, View, extentRecord, isRefItem, viewOf, refEntries, viewEntries, itemEntries, entries, under, count, wellFormed, good, isRecordOf, records, paired, stands, single, counts, ofExtent, viewTotal, totalled, balanced}
+use Rattle.format.specs.Names.{Name, sameName, Entry, extentRecord, isRefItem, viewOf, refEntries, viewEntries, itemEntries, entries, under, count, wellFormed, good, isRecordOf, records, paired, stands, single, counts, ofExtent, viewTotal, totalled, balanced}
 use Rattle.format.specs.History.{itemsOf}
 use Rattle.format.proofs.Keys.{rising-drop, rising-swap}
-use Rattle.history.proofs.Sums.{sameName-yes, names-out, names-in, empty, counts-out, counts-in, sum-mid, sum-two, sum-refs}
+use Rattle.history.proofs.Sums.{sameName-yes, names-out, names-in, empty, counts-out, counts-in, sum-mid, sum-refs}
 
 -- ---- one entry, or none, under a name
 

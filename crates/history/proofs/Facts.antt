@@ -1,15 +1,15 @@
 -- What an item says of its entries: a record its references under its own extent, a reference item its one name; and where a
 -- name stands nowhere. Assumes nothing.
 use mathlib.Core.Path.{_≡_, refl, sym, ap, ap₂, _∙_, subst}
-use mathlib.Core.Logic.{_≢_, _⊎_, inl, inr}
-use Prim.Native.Nat.{ℕ, zero, suc, _+_, _-_, _≤_, _<_}
+use mathlib.Core.Logic.{_≢_}
+use Prim.Native.Nat.{ℕ, _+_, _-_, _≤_, _<_}
 use native.Mathlib.Omega.{arith}
 use mathlib.Core.Bool.{Bool, true, false, not, _&&_, _||_, cond}
-use mathlib.Core.Option.{Option, none, some}
+use mathlib.Core.Option.{some}
 use mathlib.Core.List.{List, [], _∷_, _++_}
 use lib.ListN.{length}
-use lib.Dec.{T, leb, ltb, eqb, eqb-refl, eqb→eq, leb→le, le→leb}
-use mir.Facts.{and-yes, yes-and, T-not, not-T, yes-eqb, no-eqb}
+use lib.Dec.{T, leb, eqb, eqb-refl, eqb→eq, leb→le, le→leb}
+use mir.Facts.{and-yes, yes-and, T-not, yes-eqb}
 use Rattle.fields.specs.Lists.{sum, all}
 use Rattle.fields.specs.Numbers.{le, words, areBytes}
 use Rattle.fields.specs.Parts.{part}
@@ -24,7 +24,7 @@ use Rattle.format.specs.Apply.{isRecord, recordOf}
 use Rattle.format.specs.Names.{Name, sameName, Entry, View, extentRecord, reference, unrelated, malformed, isRefItem, viewRecord, inForm, viewRefItem, viewOf, refEntry, refEntries, viewEntries, itemEntries, entries, under, wellFormed, good, stands}
 use Rattle.format.specs.Ledger.{notItsOwn, sharedCount}
 use Rattle.format.proofs.Bodies.{Sound, read-bodyBytes}
-use Rattle.history.proofs.Sums.{sameName-yes, sameName-refl, empty}
+use Rattle.history.proofs.Sums.{sameName-yes, empty}
 use Rattle.history.proofs.Naming.{Naming, is176, is178, is182, is184}
 use Rattle.history.proofs.Order.{yes-named}
 use Rattle.history.proofs.Edit.{only}

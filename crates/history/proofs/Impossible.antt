@@ -1,7 +1,7 @@
 -- On a balanced sheet no posting is refused with 6, 7, 8, 12, 14 or 16: bodies read, no total outgrows 64 bits, none is below a
 -- weight under it, and no data item counts 0. Assumes nothing.
 use mathlib.Core.Path.{_≡_, refl, sym, ap, ap₂, _∙_, subst}
-use mathlib.Core.Logic.{_≢_, _⊎_, inl, inr}
+use mathlib.Core.Logic.{_≢_}
 use mathlib.Core.Bool.{Bool, true, false, not, _&&_, _||_, cond}
 use mathlib.Core.List.{List, [], _∷_, _++_}
 use mathlib.Core.Option.{Option, none, some}
@@ -13,7 +13,7 @@ use mir.Facts.{and-yes}
 use Rattle.fields.specs.Lists.{sum, all, same, Cut, cut}
 use Rattle.fields.specs.Numbers.{leBytes, words, areBytes}
 use Rattle.fields.specs.Parts.{written}
-use Rattle.fields.proofs.Lists.{cond-yes, all-map, all-mid, all-rest, cut-some}
+use Rattle.fields.proofs.Lists.{all-map, all-mid, all-rest, cut-some}
 use Rattle.format.specs.declared.BlockRef.{BlockRef}
 use Rattle.format.specs.declared.DataRef.{DataRef}
 use Rattle.format.specs.declared.SharedRef.{SharedRef}
@@ -23,9 +23,9 @@ use Rattle.format.specs.declared.Key.{Key}
 use Rattle.format.specs.declared.Change.{Change}
 use Rattle.format.specs.declared.Change.the-variants.{AddBlock, AddData, AddShared, DropBlock, DropData, DropShared}
 use Rattle.format.specs.Questions.{Answer, refused, absent, remove, accepted, ask, bind, needed, found, ifAbsent, also, held, TakenOut}
-use Rattle.format.specs.References.{counted, Ref, ref, Body, bodyWith, totalOf, readBody, bodyBytes, placeOf}
+use Rattle.format.specs.References.{counted, Ref, Body, bodyWith, totalOf, readBody, bodyBytes, placeOf}
 use Rattle.format.specs.Bodies.{named, one, triple, bodyFits, sharedKind, onBody, onHead, raisedBy, loweredByOne, reducedBy, onTotal, lowerTotal, reduceTotal, dropInline, dropInlineTreeRef, dropInlineDataRef, takeInlineShared, keyedCount, dropKeyedDataRef, Spot, isGap, standingWeight, addAt, addInlineTreeRef, addInlineData, addInlineShared}
-use Rattle.format.specs.Items.{Item, keyOf, readSheet, onSheet, nodesizeFits, sheetHolds, heldSheet, putBack, without}
+use Rattle.format.specs.Items.{Item, keyOf, readSheet, onSheet, nodesizeFits, sheetHolds, heldSheet}
 use Rattle.format.specs.Sheets.{hasKey, deleted}
 use Rattle.format.specs.Apply.{inlineLimit, recordOf, onRecord, replaced, keyedBody, applyKeyedAdd, sharedBody, applySharedAdd, flagged, dropTreeRef}
 use Rattle.format.specs.Names.{Name, Entry, refEntries, itemEntries, entries, good, ofExtent, balanced}
@@ -36,7 +36,7 @@ use Rattle.format.proofs.Refs.{whole}
 use Rattle.format.proofs.Bodies.{Sound, sound-with, read-bodyBytes, read-long, read-total}
 use Rattle.format.proofs.Items.{sane, sheet-sane}
 use Rattle.history.proofs.Sums.{sum-mid, sum-refs}
-use Rattle.history.proofs.Naming.{Naming, is178, not-172, shared-naming}
+use Rattle.history.proofs.Naming.{Naming, not-172, shared-naming}
 use Rattle.history.proofs.Order.{named-yes}
 use Rattle.history.proofs.Edit.{only, Balanced, balanced-out, extent-self, record-entries}
 use Rattle.history.proofs.Facts.{named-entries, data-entry}
@@ -44,7 +44,7 @@ use Rattle.history.proofs.Steps.{tidy, Here, here-of, on-body}
 use Rattle.history.proofs.Drops.{item-counts}
 use Rattle.history.proofs.DropCalls.{key-found, keyed-entry, not-178}
 use Rattle.history.proofs.Bounds.{total-is, total-bound}
-use Rattle.history.proofs.Demand.{sane-tidy, On, on-of}
+use Rattle.history.proofs.Demand.{sane-tidy, on-of}
 
 -- ---- the refusals that are left
 

@@ -1,24 +1,23 @@
 -- One change of the items under one name, and how a record's references spliced make such a change. Assumes nothing.
-use mathlib.Core.Path.{_≡_, refl, sym, ap, ap₂, _∙_, subst}
-use mathlib.Core.Logic.{_≢_, _⊎_, inl, inr}
-use Prim.Native.Nat.{ℕ, zero, suc, _+_, _-_, _≤_, _<_}
+use mathlib.Core.Path.{_≡_, sym, ap, _∙_, subst}
+use Prim.Native.Nat.{ℕ, _+_, _-_}
 use native.Mathlib.Omega.{arith}
-use mathlib.Core.Bool.{Bool, true, false, not, _&&_, _||_, cond}
+use mathlib.Core.Bool.{Bool, not, _&&_, _||_}
 use mathlib.Core.Option.{Option, none, some}
-use mathlib.Core.List.{List, [], _∷_, _++_}
+use mathlib.Core.List.{List, _∷_, _++_}
 use lib.ListN.{length}
-use lib.Dec.{T, leb, ltb, eqb, eqb→eq}
+use lib.Dec.{T, leb, ltb, eqb→eq}
 use mir.Facts.{and-yes, yes-and, yes-eqb}
 use Rattle.fields.specs.Lists.{sum, all, Cut, cut}
 use Rattle.fields.specs.Numbers.{leBytes, areBytes}
 use Rattle.fields.specs.Parts.{written}
 use Rattle.fields.proofs.Lists.{T-eq, imp-out, all-map, all-mid, all-rest, all-put, Found, cut-some}
-use Rattle.format.specs.Questions.{Answer, accepted, ask, bind, needed}
-use Rattle.format.specs.References.{fieldCount, Ref, ref, Body, bodyWith, totalOf, readBody, bodyBytes, ordered}
+use Rattle.format.specs.Questions.{Answer, accepted, bind, needed}
+use Rattle.format.specs.References.{fieldCount, Body, bodyWith, totalOf, readBody, bodyBytes, ordered}
 use Rattle.format.specs.Bodies.{named, bodyFits, onBody, onHead, onTotal}
 use Rattle.format.specs.Items.{Item, withBytes, putBack}
 use Rattle.format.specs.Apply.{isRecord, recordOf, onRecord}
-use Rattle.format.specs.Names.{Name, Entry, extentRecord, isRefItem, viewOf, refEntries, itemEntries, entries, good, records, paired, stands}
+use Rattle.format.specs.Names.{Name, extentRecord, isRefItem, viewOf, refEntries, itemEntries, entries, good, records, paired, stands}
 use Rattle.format.specs.Ledger.{notItsOwn}
 use Rattle.format.proofs.Answers.{ask-ok, bind-ok, bind-yes, needed-ok, accepted-inj}
 use Rattle.format.proofs.Refs.{whole, whole-out}

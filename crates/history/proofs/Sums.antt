@@ -1,16 +1,15 @@
 -- Names and entries: when two names are the same, that no name stands twice, and what sums over the entries of items and of
 -- references come to. Assumes nothing.
-use mathlib.Core.Path.{_≡_, refl, sym, ap, ap₂, _∙_, subst}
-use mathlib.Core.Logic.{_≢_, _⊎_, inl, inr}
-use Prim.Native.Nat.{ℕ, zero, suc, _+_, _-_, _*_, _≤_, _<_}
+use mathlib.Core.Path.{_≡_, refl, sym, ap, _∙_, subst}
+use mathlib.Core.Logic.{_⊎_, inl, inr}
+use Prim.Native.Nat.{ℕ, _+_, _-_, _≤_}
 use native.Mathlib.Omega.{arith}
-use mathlib.Core.Bool.{Bool, true, false, not, _&&_, _||_, cond}
-use mathlib.Core.Option.{Option, none, some}
+use mathlib.Core.Bool.{Bool, true, false, _&&_, cond}
 use mathlib.Core.List.{List, [], _∷_, _++_, append-assoc}
-use lib.Dec.{T, leb, ltb, eqb, eqb-refl, eqb→eq, leb→le, le→leb}
-use mir.Facts.{and-yes, yes-and, T-not, not-T, leb-yes, yes-leb}
+use lib.Dec.{T, leb, eqb, eqb-refl, eqb→eq}
+use mir.Facts.{and-yes, yes-and, leb-yes, yes-leb}
 use Rattle.fields.specs.Lists.{sum, all, same}
-use Rattle.fields.proofs.Lists.{sum-append, all-every, same-yes, same-refl, eqb-same}
+use Rattle.fields.proofs.Lists.{sum-append, all-every, same-yes, same-refl}
 use Rattle.format.specs.References.{Ref}
 use Rattle.format.specs.Items.{Item}
 use Rattle.format.specs.Names.{Name, sameName, Entry, refEntry, refEntries, itemEntries, entries, stands, single, counts}
