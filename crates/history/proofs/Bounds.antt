@@ -24,7 +24,7 @@ use Rattle.format.proofs.Bodies.{length-bodyBytes, bodyBytes-read, read-sound}
 use Rattle.format.proofs.Items.{length-itemsBytes, length-sheetBytes, sheet-sane, sheetBytes-read}
 use Rattle.history.proofs.Edit.{Balanced, record-total}
 use Rattle.history.proofs.Facts.{refAt-178, count-fits}
-use Rattle.history.proofs.Steps.{tidy, tidy-bytes, Here, bal-at}
+use Rattle.history.proofs.Steps.{tidy, tidy-bytes, Here, balanced-at}
 
 abbrev pub weightIn : Entry → ℕ
 weightIn e = e .weight
@@ -101,9 +101,9 @@ ref-item-bound i t = go (eqb (i .key .kind) 178) (eqb (i .key .kind) 184)
 
     go : (c d : Bool)
         → sum weightIn (viewEntries (i .key .objectid) (cond c
-          (inForm (eqb (length (i .bytes)) 28 && eqb (i .key .offset) (place (refAt 178 (i .bytes)))) (refAt 178 (i .bytes)))
-          (cond d (inForm (eqb (length (i .bytes)) 4) (ref 184 (one (i .key .offset)) (le (i .bytes))))
-          (inForm (eqb (length (i .bytes)) 0) (ref (i .key .kind) (one (i .key .offset)) 1))))) ≤ 4294967296
+        (inForm (eqb (length (i .bytes)) 28 && eqb (i .key .offset) (place (refAt 178 (i .bytes)))) (refAt 178 (i .bytes)))
+        (cond d (inForm (eqb (length (i .bytes)) 4) (ref 184 (one (i .key .offset)) (le (i .bytes))))
+        (inForm (eqb (length (i .bytes)) 0) (ref (i .key .kind) (one (i .key .offset)) 1))))) ≤ 4294967296
     go true d = form-bound (i .key .objectid) _ (refAt 178 (i .bytes)) hash
     go false true = form-bound (i .key .objectid) _ (ref 184 (one (i .key .offset)) (le (i .bytes))) four
     go false false = form-bound (i .key .objectid) _ (ref (i .key .kind) (one (i .key .offset)) 1) (λ _. omega arith)
@@ -142,8 +142,8 @@ extent-bound x (e ∷ l) = go (eqb x (e .name .extent)) (extent-bound x l)
 -- the record's total is the sum
 pub total-is : (m : Name) (items : List Item) (c : Cut Item) (b : Body) → Here m items c b → Balanced items → T (all tidy items)
     → b .total ≡ sum (ofExtent (m .extent)) (entries items)
-total-is m items c b H bal td =
-    let B = bal-at m items c b H bal td in
+total-is m items c b H balance tidies =
+    let B = balanced-at m items c b H balance tidies in
     let l : List Item = c .front ++ c .hit ∷ c .back in
     let t : T (eqb (viewTotal (viewOf (c .hit))) (sum (ofExtent (c .hit .key .objectid)) (entries l))) =
     imp-out (isRecord (c .hit)) _ (all-mid (totalled (entries l)) (c .front) (c .hit) (c .back) (B .totals)) (H .isRec) in
@@ -152,10 +152,10 @@ total-is m items c b H bal td =
 
 pub total-bound : (s : List ℕ) (m : Name) (items : List Item) (c : Cut Item) (b : Body) → T (areBytes s) → readSheet s ≡ accepted items
     → Here m items c b → Balanced items → T (all tidy items) → b .total ≤ 4294967296 * 262144
-total-bound s m items c b raw reads H bal td =
-    let e₁ = total-is m items c b H bal td in
+total-bound s m items c b raw reads H balance tidies =
+    let e₁ = total-is m items c b H balance tidies in
     let e₂ = extent-bound (m .extent) (entries items) in
-    let e₃ = items-bound items td in
+    let e₃ = items-bound items tidies in
     let e₄ = length-itemsBytes items in
     let e₅ = length-sheetBytes items in
     let e₆ = ap length (sheetBytes-read s items raw reads) in

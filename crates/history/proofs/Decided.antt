@@ -45,11 +45,11 @@ stays absent = true
 stays remove = false
 stays (accepted a) = true
 
-abbrev found′ : {A : Type 0} → Answer A → Bool
-found′ (refused n) = true
-found′ absent = false
-found′ remove = true
-found′ (accepted a) = true
+abbrev finds : {A : Type 0} → Answer A → Bool
+finds (refused n) = true
+finds absent = false
+finds remove = true
+finds (accepted a) = true
 
 decides-ask : {A : Type 0} (b : Bool) (n : ℕ) (next : Answer A) → T (decides next) → T (decides (ask b n next))
 unfolding ask
@@ -61,7 +61,7 @@ unfolding ask
 stays-ask true n next t = t
 stays-ask false n next t = tt
 
-found-ask : {A : Type 0} (b : Bool) (n : ℕ) (next : Answer A) → T (found′ next) → T (found′ (ask b n next))
+found-ask : {A : Type 0} (b : Bool) (n : ℕ) (next : Answer A) → T (finds next) → T (finds (ask b n next))
 unfolding ask
 found-ask true n next t = t
 found-ask false n next t = tt
@@ -181,14 +181,14 @@ stays-takeInlineShared type d s =
     (stays-onBody type d _ (λ b.
     stays-bind (found (cut (named (s .kind) (one (s .parent))) (b .refs))) _ (stays-found (cut (named (s .kind) (one (s .parent))) (b .refs))) (λ c. tt)))
 
-found-dropKeyed : (d : List ℕ) (name : DataRef) → T (found′ (dropKeyedDataRef d name))
+found-dropKeyed : (d : List ℕ) (name : DataRef) → T (finds (dropKeyedDataRef d name))
 unfolding dropKeyedDataRef
 found-dropKeyed d name =
     found-ask (bodyFits d) 3 _
     (found-ask (eqb (length d) 28 && same (words 3 d) (triple name)) 15 _
     (found-ask (leb 1 (keyedCount d)) 16 _ (go (eqb (keyedCount d) 1))))
   where
-    go : (c : Bool) → T (found′ (cond c remove (accepted (written 24 (leBytes 4 (keyedCount d - 1)) d))))
+    go : (c : Bool) → T (finds (cond c remove (accepted (written 24 (leBytes 4 (keyedCount d - 1)) d))))
     go true = tt
     go false = tt
 
@@ -231,7 +231,7 @@ decides-applySharedAdd nodesize extent s amount items =
     (decides-ask (sharedKind (s .kind)) 3 _ (decides-onBody (c .hit .key .kind) (c .hit .bytes) _ (λ b. decides-addAt b _ _))) (λ d.
     decides-ask (leb (length d) (inlineLimit nodesize)) 17 _ tt))
 
-decides-droppedAt : (k : Cut Item) (answer : Answer (List ℕ)) → T (found′ answer) → T (decides (droppedAt k answer))
+decides-droppedAt : (k : Cut Item) (answer : Answer (List ℕ)) → T (finds answer) → T (decides (droppedAt k answer))
 unfolding droppedAt
 decides-droppedAt k (refused n) t = tt
 decides-droppedAt k absent t = absurd t

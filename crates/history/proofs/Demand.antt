@@ -110,7 +110,7 @@ pub record Moved (c : Change) (items after : List Item) : Type 0 where
   pub counts : (n : Name) (t : Tally) → Fit (count n items) t → Fit (count n after) (cond (sameName n (nameOf c)) (enter c t) t)
   pub rise : T (rising items) → T (rising after)
   pub others : (x : ℕ) → x ≢ nameOf c .extent → itemsOf x after ≡ itemsOf x items
-  pub bal : Balanced after
+  pub balance : Balanced after
   pub tidied : T (all tidy after)
 
 from-step : (c : Change) (given out : ℕ) (wipe : Bool) (items after : List Item) → Balanced items → Step (nameOf c) given out wipe items after
@@ -120,7 +120,7 @@ from-step c given out wipe items after b s f =
       counts = λ n t h. go n t h (sameName n (nameOf c)) refl;
       rise = s .edit .rise;
       others = s .edit .others;
-      bal = balanced-edit (nameOf c) (s .old) (s .new) items after (s .edit) b (s .pos) (s .free);
+      balance = balanced-edit (nameOf c) (s .old) (s .new) items after (s .edit) b (s .nonempty) (s .free);
       tidied = s .tidied;
     }
   where
@@ -179,7 +179,7 @@ change-step nodesize (DropShared extent name) items after w k b t e =
 pub record On (s : List ℕ) (items : List Item) : Type 0 where
   pub raw : T (areBytes s)
   pub reads : readSheet s ≡ accepted items
-  pub bal : T (balanced items)
+  pub balance : T (balanced items)
 
 on-items : (s : List ℕ) (items : List Item) → On s items → sheetItems s ≡ items
 unfolding itemsIn
@@ -224,7 +224,7 @@ post-step s items p t o w e =
           (record {
             raw = areBytes-sheetBytes after S;
             reads = read-sheetBytes after S (M .rise (sa .2)) (f .0) (f .1);
-            bal = balanced-in after (M .bal);
+            balance = balanced-in after (M .balance);
           });
       moved = subst (λ (z : List Item). Moved (p .change) z after) (sym q) M;
     }
@@ -305,10 +305,10 @@ on-of s b t = go (readSheet s) refl t
     go (refused n) q t = absurd t
     go absent q t = absurd t
     go remove q t = absurd t
-    go (accepted items) q t = (items, record { raw = b; reads = q; bal = t })
+    go (accepted items) q t = (items, record { raw = b; reads = q; balance = t })
 
 on-balanced : (s : List ℕ) (items : List Item) → On s items → T (balancedSheet s)
-on-balanced s items o = subst (λ (r : Answer (List Item)). T (passes r)) (sym (o .reads)) (o .bal)
+on-balanced s items o = subst (λ (r : Answer (List Item)). T (passes r)) (sym (o .reads)) (o .balance)
 
 pub demand-3 : (sheet : List ℕ) (postings : List Posting) → T (areBytes sheet) → T (balancedSheet sheet) → Wides postings → Demand3 sheet postings
 demand-3 sheet postings b t w =

@@ -50,7 +50,7 @@ reduced-out amount total t e = let h = ask-ok (leb amount total) 14 _ e in (leb�
 
 -- ---- what the drops share
 
-module _ (m : Name) (nm : NameOk m) (items : List Item) (c : Cut Item) (b : Body) (H : Here m items c b) (bal : Balanced items) (td : T (all tidy items)) where
+module _ (m : Name) (nameOk : NameOk m) (items : List Item) (c : Cut Item) (b : Body) (H : Here m items c b) (balance : Balanced items) (tidies : T (all tidy items)) where
   -- one count off inline
   drop-inline : (body : List ℕ) → dropInline (c .hit .key .kind) (c .hit .bytes) (m .kind) (m .fields) ≡ accepted body
       → Step m 0 1 false items (putBack c body)
@@ -69,11 +69,11 @@ module _ (m : Name) (nm : NameOk m) (items : List Item) (c : Cut Item) (b : Body
           (putBack c (bodyBytes (bodyWith b (b .total - 1) (x .front ++ (cond d (weighed (x .hit) (x .hit .weight - 1) ∷ []) [] ++ x .back)))))
       go x f two true q =
           let l : 1 < x .hit .weight = ltb→lt 1 (x .hit .weight) (subst T (sym q) tt) in
-          inline-less m (nm .naming) items c b H bal td x (f .same) (f .hit) 1 (omega arith) l (omega arith)
+          inline-less m (nameOk .naming) items c b H balance tidies x (f .same) (f .hit) 1 (omega arith) l (omega arith)
       go x f two false q =
           let l : x .hit .weight ≤ 1 = nltb→le 1 (x .hit .weight) (subst (λ (z : Bool). T (not z)) (sym q) tt) in
-          let l′ = weight-at m (nm .naming) items c b H bal td x (f .same) (f .hit) in
-          inline-gone m (nm .naming) items c b H bal td x (f .same) (f .hit) 1 (omega arith) (omega arith) false
+          let l′ = weight-at m (nameOk .naming) items c b H balance tidies x (f .same) (f .hit) in
+          inline-gone m (nameOk .naming) items c b H balance tidies x (f .same) (f .hit) 1 (omega arith) (omega arith) false
 
 -- the item of a key
 pub key-found : (key : Key) (items : List Item) (k : Cut Item) → needed 5 (cut (hasKey key) items) ≡ accepted k
@@ -95,8 +95,8 @@ keyed-entry i extent kind field e k q g =
 pub drop-block : (extent : ℕ) (name : BlockRef) (items after : List Item) → NameOk (nameOf (DropBlock extent name)) → Balanced items → T (all tidy items)
     → onRecord extent items (dropTreeRef name false items) ≡ accepted after → Step (nameOf (DropBlock extent name)) 0 1 false items after
 unfolding dropTreeRef dropInlineTreeRef flagged bind deleted lowerTotal sharedCount
-drop-block extent name items after nm bal td e =
-    let (c, b, H, e₁) = on-record m items after _ bal td e in
+drop-block extent name items after nameOk balance tidies e =
+    let (c, b, H, e₁) = on-record m items after _ balance tidies e in
     go c b H (ifAbsent-ok (inline c) (item c) e₁)
   where
     m : Name
@@ -117,7 +117,7 @@ drop-block extent name items after nm bal td e =
         → Step m 0 1 false items after
     go c b H (inl e) =
         let h = bind-ok (dropInline (c .hit .key .kind) (c .hit .bytes) 176 (one (name .tree))) _ e in
-        subst (Step m 0 1 false items) (accepted-inj (h .2)) (drop-inline m nm items c b H bal td (h .0) (h .1))
+        subst (Step m 0 1 false items) (accepted-inj (h .2)) (drop-inline m nameOk items c b H balance tidies (h .0) (h .1))
     go c b H (inr (_, e)) =
         let h₁ = bind-ok (deleted (keyOf (c .hit .key .objectid) 176 (name .tree)) items) _ e in
         let h₂ = bind-ok (needed 5 (cut (hasKey (keyOf (c .hit .key .objectid) 176 (name .tree))) items)) _ (h₁ .1) in
@@ -126,12 +126,12 @@ drop-block extent name items after nm bal td e =
         let h₃ = bind-ok (lowerTotal (c .hit .bytes)) _ (h₁ .2) in
         let (t, te, be) = on-total (c .hit .key .kind) (c .hit .bytes) b loweredByOne (h₃ .0) (H .bytes) (H .reads) (h₃ .1) in
         let (two, tt′) = lowered-out (b .total) t te in
-        let g : T (good (k .hit)) = all-mid good (k .front) (k .hit) (k .back) (rw same at (bal .goods)) in
+        let g : T (good (k .hit)) = all-mid good (k .front) (k .hit) (k .back) (rw same at (balance .goods)) in
         let kind : k .hit .key .kind ≡ 176 = ap (λ (key : Key). key .kind) key in
         let ox : k .hit .key .objectid ≡ extent = ap (λ (key : Key). key .objectid) key ∙ H .extent in
         let key′ : k .hit .key ≡ keyOf extent 176 (name .tree) = key ∙ ap (λ (n : ℕ). keyOf n 176 (name .tree)) (H .extent) in
         let one′ : sharedCount (k .hit) ≡ 1 = cond-no (eqb (k .hit .key .kind) 184) (le (k .hit .bytes)) 1 (rw kind tt) in
-        item-gone m items c b H bal td k same (is176 kind) ox (sharedCount (k .hit))
+        item-gone m items c b H balance tidies k same (is176 kind) ox (sharedCount (k .hit))
         (keyed-entry (k .hit) extent 176 (name .tree) key′ (is176 refl) refl g) 1 one′ (omega arith) false after
         (ap₂ (λ (d : List ℕ) (l : List Item). replaced (c .hit .key) d l)
         (ap (λ (n : ℕ). bodyBytes (bodyWith b n (b .refs))) tt′ ∙ be) (accepted-inj (h₂ .2)) ∙ h₃ .2)
@@ -214,8 +214,8 @@ module _ (i : Item) (d : DataRef) (kind : i .key .kind ≡ 178) (offset : i .key
 pub drop-data : (extent : ℕ) (name : DataRef) (items after : List Item) → NameOk (nameOf (DropData extent name)) → Balanced items → T (all tidy items)
     → onRecord extent items (dropDataRef name items) ≡ accepted after → Step (nameOf (DropData extent name)) 0 1 false items after
 unfolding dropDataRef dropInlineDataRef lowerTotal
-drop-data extent name items after nm bal td e =
-    let (c, b, H, e₁) = on-record m items after _ bal td e in
+drop-data extent name items after nameOk balance tidies e =
+    let (c, b, H, e₁) = on-record m items after _ balance tidies e in
     go c b H (ifAbsent-ok (inline c) (item c) e₁)
   where
     m : Name
@@ -234,7 +234,7 @@ drop-data extent name items after nm bal td e =
         → Step m 0 1 false items after
     go c b H (inl e) =
         let h = bind-ok (dropInline (c .hit .key .kind) (c .hit .bytes) 178 (triple name)) _ e in
-        subst (Step m 0 1 false items) (accepted-inj (h .2)) (drop-inline m nm items c b H bal td (h .0) (h .1))
+        subst (Step m 0 1 false items) (accepted-inj (h .2)) (drop-inline m nameOk items c b H balance tidies (h .0) (h .1))
     go c b H (inr (_, e)) =
         let at : ℕ = placeOf 178 (triple name) in
         let h₁ = bind-ok (needed 5 (cut (hasKey (keyOf (c .hit .key .objectid) 178 at)) items)) _ e in
@@ -245,8 +245,8 @@ drop-data extent name items after nm bal td e =
         let (two, tt′) = lowered-out (b .total) t te in
         let h₃ = bind-ok (droppedAt k (dropKeyedDataRef (k .hit .bytes) name)) _ (h₂ .2) in
         let D = dropped-item k name (h₃ .0) (h₃ .1) in
-        let g : T (good (k .hit)) = all-mid good (k .front) (k .hit) (k .back) (rw same at (bal .goods)) in
-        let kb : T (areBytes (k .hit .bytes)) = tidy-bytes (k .hit) (all-mid tidy (k .front) (k .hit) (k .back) (rw same at td)) in
+        let g : T (good (k .hit)) = all-mid good (k .front) (k .hit) (k .back) (rw same at (balance .goods)) in
+        let kb : T (areBytes (k .hit .bytes)) = tidy-bytes (k .hit) (all-mid tidy (k .front) (k .hit) (k .back) (rw same at tidies)) in
         let kind : k .hit .key .kind ≡ 178 = ap (λ (key : Key). key .kind) key in
         let ox : k .hit .key .objectid ≡ extent = ap (λ (key : Key). key .objectid) key ∙ H .extent in
         let off : k .hit .key .offset ≡ at = ap (λ (key : Key). key .offset) key in
@@ -268,17 +268,17 @@ drop-data extent name items after nm bal td e =
             ⊎ ((2 ≤ keyedCount (k .hit .bytes)) × (putBack k (written 24 (leBytes 4 (keyedCount (k .hit .bytes) - 1)) (k .hit .bytes)) ≡ others))
             → Step m 0 1 false items after
         last c b H k same kind ox off g kb size triples ew two others done (inl (w1, eo)) =
-            item-gone m items c b H bal td k same (is178 kind) ox (keyedCount (k .hit .bytes)) ew 1 w1 (omega arith) false after
+            item-gone m items c b H balance tidies k same (is178 kind) ox (keyedCount (k .hit .bytes)) ew 1 w1 (omega arith) false after
             (ap (replaced (c .hit .key) (bodyBytes (bodyWith b (b .total - 1) (b .refs)))) eo ∙ done)
         last c b H k same kind ox off g kb size triples ew two others done (inr (w2, eo)) =
             let w : ℕ = keyedCount (k .hit .bytes) in
             let d : List ℕ = written 24 (leBytes 4 (w - 1)) (k .hit .bytes) in
             let cf = count-fits (k .hit .bytes) size kb in
             let vf : w - 1 < 4294967296 = omega arith in
-            item-less m items c b H bal td k same (is178 kind) ox w ew 1 (omega arith) d (w - 1)
+            item-less m items c b H balance tidies k same (is178 kind) ox w ew 1 (omega arith) d (w - 1)
             (areBytes-written 24 (leBytes 4 (w - 1)) (k .hit .bytes) (areBytes-leBytes 4 (w - 1)) kb)
-            (again-good (k .hit) name kind off size triples (nm .small) kb (w - 1) vf)
-            (again-entry (k .hit) name kind off size triples (nm .small) kb (w - 1) vf
+            (again-good (k .hit) name kind off size triples (nameOk .small) kb (w - 1) vf)
+            (again-entry (k .hit) name kind off size triples (nameOk .small) kb (w - 1) vf
             ∙ ap (λ (x : ℕ). only (record { extent = x; kind = 178; fields = triple name }) (some (w - 1))) ox)
             (omega arith) (omega arith) after
             (ap (replaced (c .hit .key) (bodyBytes (bodyWith b (b .total - 1) (b .refs)))) eo ∙ done)
@@ -299,8 +299,8 @@ pub drop-shared : (extent : ℕ) (name : SharedRef) (items after : List Item) �
     → Balanced items → T (all tidy items) → onRecord extent items (dropSharedRef name items) ≡ accepted after
     → (n : ℕ) × Step (nameOf (DropShared extent name)) 0 n true items after
 unfolding dropSharedRef takeInlineShared reduceTotal
-drop-shared extent name items after sk nm bal td e =
-    let (c, b, H, e₁) = on-record m items after _ bal td e in
+drop-shared extent name items after sk nameOk balance tidies e =
+    let (c, b, H, e₁) = on-record m items after _ balance tidies e in
     go c b H (ifAbsent-ok (inline c) (item c) e₁)
   where
     m : Name
@@ -338,8 +338,8 @@ drop-shared extent name items after sk nm bal td e =
         let (within, tt′) = reduced-out w (b .total) t te in (
           w,
           subst (Step m 0 w true items)
-          (ap (putBack c) (ap (λ (n : ℕ). bodyBytes (bodyWith b n (x .front ++ x .back))) tt′ ∙ be) ∙ accepted-inj (h₄ .2))
-          (inline-gone m (nm .naming) items c b H bal td x (f .same) (f .hit) w refl within true),
+              (ap (putBack c) (ap (λ (n : ℕ). bodyBytes (bodyWith b n (x .front ++ x .back))) tt′ ∙ be) ∙ accepted-inj (h₄ .2))
+              (inline-gone m (nameOk .naming) items c b H balance tidies x (f .same) (f .hit) w refl within true),
         )
     go c b H (inr (_, e)) =
         let key₀ : Key = keyOf (c .hit .key .objectid) (name .kind) (name .parent) in
@@ -350,12 +350,12 @@ drop-shared extent name items after sk nm bal td e =
         let h₂ = bind-ok (reduceTotal (c .hit .bytes) w) _ (h₁ .2) in
         let (t, te, be) = on-total (c .hit .key .kind) (c .hit .bytes) b (reducedBy w) (h₂ .0) (H .bytes) (H .reads) (h₂ .1) in
         let (within, tt′) = reduced-out w (b .total) t te in
-        let g : T (good (k .hit)) = all-mid good (k .front) (k .hit) (k .back) (rw same at (bal .goods)) in
+        let g : T (good (k .hit)) = all-mid good (k .front) (k .hit) (k .back) (rw same at (balance .goods)) in
         let kind : k .hit .key .kind ≡ name .kind = ap (λ (key : Key). key .kind) key in
         let ox : k .hit .key .objectid ≡ extent = ap (λ (key : Key). key .objectid) key ∙ H .extent in
         let key′ : k .hit .key ≡ keyOf extent (name .kind) (name .parent) = key ∙ ap (λ (n : ℕ). keyOf n (name .kind) (name .parent)) (H .extent) in (
           w,
-          item-gone m items c b H bal td k same (subst Naming (sym kind) (nm .naming)) ox w
-          (keyed-entry (k .hit) extent (name .kind) (name .parent) key′ (nm .naming) (not-178 (name .kind) sk) g) w refl within true after
-          (ap (λ (d : List ℕ). replaced (c .hit .key) d (without k)) (ap (λ (n : ℕ). bodyBytes (bodyWith b n (b .refs))) tt′ ∙ be) ∙ h₂ .2),
+          item-gone m items c b H balance tidies k same (subst Naming (sym kind) (nameOk .naming)) ox w
+              (keyed-entry (k .hit) extent (name .kind) (name .parent) key′ (nameOk .naming) (not-178 (name .kind) sk) g) w refl within true after
+              (ap (λ (d : List ℕ). replaced (c .hit .key) d (without k)) (ap (λ (n : ℕ). bodyBytes (bodyWith b n (b .refs))) tt′ ∙ be) ∙ h₂ .2),
         )

@@ -28,11 +28,11 @@ use Rattle.history.proofs.Naming.{Naming, not-172, weighs-one, naming-n
 use Rattle.history.proofs.Order.{named-yes, ordered-weighed, ordered-drop}
 use Rattle.history.proofs.Edit.{only, worth, Balanced, Fresh, Half, half-drop, half-swap, edit-item, record-entries}
 use Rattle.history.proofs.Facts.{named-entries, positive, not-empty, view-written}
-use Rattle.history.proofs.Steps.{tidy, tidy-with, Step, Here, bal-at, ordered-at, inline-step}
+use Rattle.history.proofs.Steps.{tidy, tidy-with, Step, Here, balanced-at, ordered-at, inline-step}
 
 -- ---- inline: the reference at a cut has the name
 
-module _ (m : Name) (naming : Naming (m .kind)) (items : List Item) (c : Cut Item) (b : Body) (H : Here m items c b) (bal : Balanced items) (td : T (all tidy items))
+module _ (m : Name) (naming : Naming (m .kind)) (items : List Item) (c : Cut Item) (b : Body) (H : Here m items c b) (balance : Balanced items) (tidies : T (all tidy items))
     (x : Cut Ref) (e : b .refs ≡ x .front ++ x .hit ∷ x .back) (t : T (named (m .kind) (m .fields) (x .hit))) where
   entries-at : refEntries (m .extent) (x .hit ∷ []) ≡ only m (some (x .hit .weight))
   entries-at =
@@ -41,13 +41,13 @@ module _ (m : Name) (naming : Naming (m .kind)) (items : List Item) (c : Cut Ite
 
   pub weight-at : 1 ≤ x .hit .weight
   weight-at =
-      let B = bal-at m items c b H bal td in
+      let B = balanced-at m items c b H balance tidies in
       let e₁ = sum-mid empty (c .front) (c .hit) (c .back) in
       let e₂ : sum empty (itemEntries (c .hit)) ≡ sum empty (refEntries (m .extent) (x .front ++ (x .hit ∷ [] ++ x .back))) =
       ap (sum empty) (record-entries (c .hit) b (H .view) ∙ ap₂ refEntries (H .extent) e) in
       let e₃ = sum-refs empty (m .extent) (x .front) (x .hit ∷ []) (x .back) in
       let e₄ = ap (sum empty) entries-at in
-      let e₅ = B .weigh in
+      let e₅ = B .nonempty in
       positive m (x .hit .weight) (omega arith)
 
   -- some of its count goes
@@ -75,18 +75,18 @@ module _ (m : Name) (naming : Naming (m .kind)) (items : List Item) (c : Cut Ite
       }) in
       let lt : b .total - n < 18446744073709551616 = omega arith in
       let v : 1 ≤ w - n = omega arith in
-      inline-step m items c b H bal td (some w) (some (w - n)) (bodyWith b (b .total - n) (x .front ++ x′ ∷ x .back))
+      inline-step m items c b H balance tidies (some w) (some (w - n)) (bodyWith b (b .total - n) (x .front ++ x′ ∷ x .back))
       (record {
-        p = x .front;
-        o = x .hit ∷ [];
-        o′ = x′ ∷ [];
-        q = x .back;
+        front = x .front;
+        leaves = x .hit ∷ [];
+        enters = x′ ∷ [];
+        back = x .back;
         was = e;
         now = refl;
-        out = entries-at;
-        into = named-entries m x′ (not-172 (m .kind) naming) k f;
+        leaving = entries-at;
+        entering = named-entries m x′ (not-172 (m .kind) naming) k f;
       })
-      (ordered-weighed (x .front) (x .hit) (w - n) (x .back) (rw e at (ordered-at m items c b H bal td))) (omega arith)
+      (ordered-weighed (x .front) (x .hit) (w - n) (x .back) (rw e at (ordered-at m items c b H balance tidies))) (omega arith)
       (sound-with (c .hit .key .kind) b (b .total - n) (x .front ++ x′ ∷ x .back) S lt
       (all-put whole (x .front) x′ (x .back) (all-rest whole (x .front) (x .hit) (x .back) ws) w′))
       n 0 (omega arith) (not-empty m (w - n) v) tt false (λ z. absurd z)
@@ -101,9 +101,9 @@ module _ (m : Name) (naming : Naming (m .kind)) (items : List Item) (c : Cut Ite
       let fits = S .fits in
       let ws : T (all whole (x .front ++ x .hit ∷ x .back)) = rw e at (S .wholes) in
       let lt : b .total - n < 18446744073709551616 = omega arith in
-      inline-step m items c b H bal td (some w) none (bodyWith b (b .total - n) (x .front ++ x .back))
-      (record { p = x .front; o = x .hit ∷ []; o′ = []; q = x .back; was = e; now = refl; out = entries-at; into = refl })
-      (ordered-drop (x .front) (x .hit) (x .back) (rw e at (ordered-at m items c b H bal td))) (omega arith)
+      inline-step m items c b H balance tidies (some w) none (bodyWith b (b .total - n) (x .front ++ x .back))
+      (record { front = x .front; leaves = x .hit ∷ []; enters = []; back = x .back; was = e; now = refl; leaving = entries-at; entering = refl })
+      (ordered-drop (x .front) (x .hit) (x .back) (rw e at (ordered-at m items c b H balance tidies))) (omega arith)
       (sound-with (c .hit .key .kind) b (b .total - n) (x .front ++ x .back) S lt (all-rest whole (x .front) (x .hit) (x .back) ws))
       n 0 (omega arith) refl tt wipe (λ _. (refl, (w, refl)))
 
@@ -140,22 +140,22 @@ key-record x r i t h =
 -- an item that stands for a name counts something
 pub item-counts : (items : List Item) → Balanced items → (k : Cut Item) → items ≡ k .front ++ k .hit ∷ k .back
     → (m : Name) (w : ℕ) → itemEntries (k .hit) ≡ only m (some w) → 1 ≤ w
-item-counts items bal k ek m w ew =
+item-counts items balance k ek m w ew =
     let e₁ = ap (λ (l : List Item). sum empty (entries l)) ek ∙ sum-mid empty (k .front) (k .hit) (k .back) in
     let e₂ = ap (sum empty) ew in
-    let e₃ = bal .weigh in
+    let e₃ = balance .nonempty in
     positive m w (omega arith)
 
 -- the item at a cut stands for the name with the weight w
 
-module _ (m : Name) (items : List Item) (c : Cut Item) (b : Body) (H : Here m items c b) (bal : Balanced items) (td : T (all tidy items))
+module _ (m : Name) (items : List Item) (c : Cut Item) (b : Body) (H : Here m items c b) (balance : Balanced items) (tidies : T (all tidy items))
     (k : Cut Item) (ek : items ≡ k .front ++ k .hit ∷ k .back) (naming : Naming (k .hit .key .kind)) (ox : k .hit .key .objectid ≡ m .extent)
     (w : ℕ) (ew : itemEntries (k .hit) ≡ only m (some w)) where
-  pub bal-k : Balanced (k .front ++ k .hit ∷ k .back)
-  bal-k = rw ek at bal
+  pub balanced-k : Balanced (k .front ++ k .hit ∷ k .back)
+  balanced-k = rw ek at balance
 
   pub tidy-k : T (all tidy (k .front ++ k .hit ∷ k .back))
-  tidy-k = rw ek at td
+  tidy-k = rw ek at tidies
 
   -- the record found by its key afterwards is the one that was read
   same-record : (o : List Item) → T (all (λ i. not (isRecord i)) o) → (c′ : Cut Item)
@@ -180,7 +180,7 @@ module _ (m : Name) (items : List Item) (c : Cut Item) (b : Body) (H : Here m it
       → (after : List Item) → replaced (c .hit .key) (bodyBytes (bodyWith b (b .total - n) (b .refs))) (k .front ++ (o ++ k .back)) ≡ accepted after
       → Step m 0 n wipe items after
   unfolding replaced
-  finish n within wipe o new nr half tj sums moves pos free gone after e =
+  finish n within wipe o new nr half tj sums moves nonempty free gone after e =
       let js : List Item = k .front ++ (o ++ k .back) in
       let h = bind-ok (needed 5 (cut (hasKey (c .hit .key)) js)) _ e in
       let c′ : Cut Item = h .0 in
@@ -204,7 +204,7 @@ module _ (m : Name) (items : List Item) (c : Cut Item) (b : Body) (H : Here m it
             (view-written (c′ .hit) b′ isRec S′) refl (omega arith)
             (λ g. subst (λ (z : List Item). sum g (entries z) + sum g (only m (some w)) ≡ sum g (entries items) + sum g (only m new)) (f .same) (sums g));
         moves = omega arith;
-        pos = pos;
+        nonempty = nonempty;
         free = free;
         gone = λ a. (gone a, (w, refl));
         tidied = all-put tidy (c′ .front) (withBytes (c′ .hit) (bodyBytes b′)) (c′ .back) (all-rest tidy (c′ .front) (c′ .hit) (c′ .back) tj′)
@@ -216,7 +216,7 @@ module _ (m : Name) (items : List Item) (c : Cut Item) (b : Body) (H : Here m it
       → replaced (c .hit .key) (bodyBytes (bodyWith b (b .total - n) (b .refs))) (without k) ≡ accepted after → Step m 0 n wipe items after
   item-gone n same within wipe after e =
       finish n within wipe [] none tt
-      (rw ek (half-drop (m .extent) (k .front) (k .hit) (k .back) bal-k (naming-no-record (k .hit) naming) ox))
+      (rw ek (half-drop (m .extent) (k .front) (k .hit) (k .back) balanced-k (naming-no-record (k .hit) naming) ox))
       (all-rest tidy (k .front) (k .hit) (k .back) tidy-k)
       (λ g.
       let e₁ = sum-two g (k .front) (k .back) in
@@ -232,7 +232,7 @@ module _ (m : Name) (items : List Item) (c : Cut Item) (b : Body) (H : Here m it
   unfolding isRecord
   item-less n within d v bytes gd ev one≤ rest after e =
       finish n within false (withBytes (k .hit) d ∷ []) (some v) (yes-and (not (isRecord (k .hit))) true (naming-no-record (k .hit) naming) tt)
-      (rw ek (half-swap (m .extent) (k .front) (k .hit) (k .back) d bal-k (naming-no-record (k .hit) naming) ox gd))
+      (rw ek (half-swap (m .extent) (k .front) (k .hit) (k .back) d balanced-k (naming-no-record (k .hit) naming) ox gd))
       (all-put tidy (k .front) (withBytes (k .hit) d) (k .back) (all-rest tidy (k .front) (k .hit) (k .back) tidy-k)
       (tidy-with (k .hit) d (all-mid tidy (k .front) (k .hit) (k .back) tidy-k) bytes))
       (λ g.

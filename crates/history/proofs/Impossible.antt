@@ -206,13 +206,13 @@ clean-replaced key d items = clean-bind (needed 5 (cut (hasKey key) items)) _ (c
 
 -- ---- 14: a weight under a name is within its record's total
 
-module _ (m : Name) (items : List Item) (c : Cut Item) (b : Body) (H : Here m items c b) (bal : Balanced items) (td : T (all tidy items)) where
+module _ (m : Name) (items : List Item) (c : Cut Item) (b : Body) (H : Here m items c b) (balance : Balanced items) (tidies : T (all tidy items)) where
   inline-within : Naming (m .kind) → (x : Cut Ref) → b .refs ≡ x .front ++ x .hit ∷ x .back → T (named (m .kind) (m .fields) (x .hit))
       → x .hit .weight ≤ b .total
   inline-within naming x e t =
       let g : Entry → ℕ = ofExtent (m .extent) in
       let h = named-yes (m .kind) (m .fields) (x .hit) t in
-      let e₁ = total-is m items c b H bal td in
+      let e₁ = total-is m items c b H balance tidies in
       let e₂ = ap (λ (l : List Item). sum g (entries l)) (H .found .same) ∙ sum-mid g (c .front) (c .hit) (c .back) in
       let e₃ : sum g (itemEntries (c .hit)) ≡ sum g (refEntries (m .extent) (x .front ++ (x .hit ∷ [] ++ x .back))) =
       ap (sum g) (record-entries (c .hit) b (H .view) ∙ ap₂ refEntries (H .extent) e) in
@@ -224,7 +224,7 @@ module _ (m : Name) (items : List Item) (c : Cut Item) (b : Body) (H : Here m it
   item-within : (k : Cut Item) → items ≡ k .front ++ k .hit ∷ k .back → (w : ℕ) → itemEntries (k .hit) ≡ only m (some w) → w ≤ b .total
   item-within k ek w ew =
       let g : Entry → ℕ = ofExtent (m .extent) in
-      let e₁ = total-is m items c b H bal td in
+      let e₁ = total-is m items c b H balance tidies in
       let e₂ = ap (λ (l : List Item). sum g (entries l)) ek ∙ sum-mid g (k .front) (k .hit) (k .back) in
       let e₃ = ap (sum g) ew in
       let e₄ = extent-self m (some w) in
@@ -232,14 +232,14 @@ module _ (m : Name) (items : List Item) (c : Cut Item) (b : Body) (H : Here m it
 
 -- ---- the six changes
 
-module _ (items : List Item) (bal : Balanced items) (td : T (all tidy items))
+module _ (items : List Item) (balance : Balanced items) (tidies : T (all tidy items))
     (most : (m : Name) (c : Cut Item) (b : Body) → Here m items c b → b .total ≤ 4294967296 * 262144) where
   clean-onRecord : {A : Type 0} (m : Name) (next : Cut Item → Answer A) → ((c : Cut Item) (b : Body) → Here m items c b → T (clean (next c)))
       → T (clean (onRecord (m .extent) items next))
   unfolding onRecord allowed
   clean-onRecord m next f =
       clean-bind (needed 5 (cut (recordOf (m .extent)) items)) next (clean-needed 5 (cut (recordOf (m .extent)) items) tt) (λ c e.
-      let (b, H) = here-of m items c bal td (needed-ok 5 (cut (recordOf (m .extent)) items) e) in f c b H)
+      let (b, H) = here-of m items c balance tidies (needed-ok 5 (cut (recordOf (m .extent)) items) e) in f c b H)
 
   clean-keyedBody : (m : Name) (c : Cut Item) (b : Body) → Here m items c b → (keyed : Keyed) (amount : ℕ)
       → T (clean (keyedBody (c .hit) keyed amount false))
@@ -301,8 +301,8 @@ module _ (items : List Item) (bal : Balanced items) (td : T (all tidy items))
       count-at k e =
           let (same, key) = key-found (keyOf (c .hit .key .objectid) 178 (placeOf 178 (triple d))) items k e in
           let kind : k .hit .key .kind ≡ 178 = ap (λ (key : Key). key .kind) key in
-          let g : T (good (k .hit)) = all-mid good (k .front) (k .hit) (k .back) (rw same at (bal .goods)) in
-          item-counts items bal k same (record { extent = k .hit .key .objectid; kind = 178; fields = words 3 (k .hit .bytes) })
+          let g : T (good (k .hit)) = all-mid good (k .front) (k .hit) (k .back) (rw same at (balance .goods)) in
+          item-counts items balance k same (record { extent = k .hit .key .objectid; kind = 178; fields = words 3 (k .hit .bytes) })
           (keyedCount (k .hit .bytes)) (data-entry (k .hit) kind g)
 
   clean-dropShared : (extent : ℕ) (s : SharedRef) → T (sharedKind (s .kind)) → (c : Cut Item) (b : Body)
@@ -339,15 +339,15 @@ module _ (items : List Item) (bal : Balanced items) (td : T (all tidy items))
           (all-rest whole (x .front) (x .hit) (x .back) (rw (f .same) at (H .sound .wholes))) in
           subst (λ (o : TakenOut). T (clean (reduceTotal (o .bytes) (o .count)))) (accepted-inj (h₂ .2))
           (clean-reduceTotal (c .hit .key .kind) (bodyBytes b₁) b₁ (x .hit .weight) (read-bodyBytes (c .hit .key .kind) b₁ S₁)
-          (inline-within m items c b H bal td (shared-naming (s .kind) sk) x (f .same) (f .hit)))
+          (inline-within m items c b H balance tidies (shared-naming (s .kind) sk) x (f .same) (f .hit)))
 
       count-at : (k : Cut Item) → needed 5 (cut (hasKey (keyOf (c .hit .key .objectid) (s .kind) (s .parent))) items) ≡ accepted k
           → sharedCount (k .hit) ≤ b .total
       count-at k e =
           let (same, key) = key-found (keyOf (c .hit .key .objectid) (s .kind) (s .parent)) items k e in
-          let g : T (good (k .hit)) = all-mid good (k .front) (k .hit) (k .back) (rw same at (bal .goods)) in
+          let g : T (good (k .hit)) = all-mid good (k .front) (k .hit) (k .back) (rw same at (balance .goods)) in
           let key′ : k .hit .key ≡ keyOf extent (s .kind) (s .parent) = key ∙ ap (λ (n : ℕ). keyOf n (s .kind) (s .parent)) (H .extent) in
-          item-within m items c b H bal td k same (sharedCount (k .hit))
+          item-within m items c b H balance tidies k same (sharedCount (k .hit))
           (keyed-entry (k .hit) extent (s .kind) (s .parent) key′ (shared-naming (s .kind) sk) (not-178 (s .kind) sk) g)
 
   clean-changed : (nodesize : ℕ) (change : Change) → T (kindFits change) → T (clean (changed nodesize change items))
@@ -372,16 +372,16 @@ pub impossible : (sheet : List ℕ) (p : Posting) → T (areBytes sheet) → T (
 unfolding answerTo posted heldSheet post onSheet allowed
 impossible sheet p b t number e =
     let (items, o) = on-of sheet b t in
-    let bal = balanced-out items (o .bal) in
-    let td = all-map sane tidy sane-tidy items (sheet-sane sheet items b (o .reads) .0) in
+    let balance = balanced-out items (o .balance) in
+    let tidies = all-map sane tidy sane-tidy items (sheet-sane sheet items b (o .reads) .0) in
     let most : (m : Name) (c : Cut Item) (b′ : Body) → Here m items c b′ → b′ .total ≤ 4294967296 * 262144 =
-    (λ m c b′ H. total-bound sheet m items c b′ b (o .reads) H bal td) in
+    (λ m c b′ H. total-bound sheet m items c b′ b (o .reads) H balance tidies) in
     let read : T (clean (bind (readSheet sheet) (λ (js : List Item).
     ask (nodesizeFits (p .nodesize) && kindFits (p .change)) 3 (ask (balanced js) 4 (changed (p .nodesize) (p .change) js))))) =
     subst (λ x. T (clean x)) (sym (bind-yes (readSheet sheet) _ (o .reads)))
     (clean-ask (nodesizeFits (p .nodesize) && kindFits (p .change)) 3 _ tt (λ k.
     clean-ask (balanced items) 4 _ tt (λ _.
-    clean-changed items bal td most (p .nodesize) (p .change) (and-yes (nodesizeFits (p .nodesize)) (kindFits (p .change)) k .1)))) in
+    clean-changed items balance tidies most (p .nodesize) (p .change) (and-yes (nodesizeFits (p .nodesize)) (kindFits (p .change)) k .1)))) in
     let c : T (clean (answerTo sheet p)) =
     clean-bind (held (sheetHolds (p .room)) (post (p .nodesize) sheet (p .change))) _
     (clean-held (sheetHolds (p .room)) (post (p .nodesize) sheet (p .change)) read) (λ js _. tt) in

@@ -65,7 +65,7 @@ pub record Step (m : Name) (given out : ℕ) (wipe : Bool) (items after : List I
   pub new : Option ℕ
   pub edit : Edit m old new items after
   pub moves : worth new + out ≡ worth old + given
-  pub pos : sum empty (only m new) ≡ 0
+  pub nonempty : sum empty (only m new) ≡ 0
   pub free : Fresh old new (sum (stands m) (entries items))
   pub gone : T wipe → (new ≡ none) × ((v : ℕ) × (old ≡ some v))
   pub tidied : T (all tidy after)
@@ -84,11 +84,11 @@ pub record Here (m : Name) (items : List Item) (c : Cut Item) (b : Body) : Type 
 -- on a balanced sheet the record that is found reads
 pub here-of : (m : Name) (items : List Item) (c : Cut Item) → Balanced items → T (all tidy items) → cut (recordOf (m .extent)) items ≡ some c
     → (b : Body) × Here m items c b
-here-of m items c bal td e =
+here-of m items c balance tidies e =
     let f = cut-some (recordOf (m .extent)) items e in
     let h = and-yes (isRecord (c .hit)) _ (f .hit) in
-    let g : T (good (c .hit)) = all-mid good (c .front) (c .hit) (c .back) (rw (f .same) at (bal .goods)) in
-    let t : T (areBytes (c .hit .bytes)) = tidy-bytes (c .hit) (all-mid tidy (c .front) (c .hit) (c .back) (rw (f .same) at td)) in
+    let g : T (good (c .hit)) = all-mid good (c .front) (c .hit) (c .back) (rw (f .same) at (balance .goods)) in
+    let t : T (areBytes (c .hit .bytes)) = tidy-bytes (c .hit) (all-mid tidy (c .front) (c .hit) (c .back) (rw (f .same) at tidies)) in
     let (b, r) = good-reads (c .hit) (h .0) g in (
       b,
       record {
@@ -105,9 +105,9 @@ here-of m items c bal td e =
 pub on-record : (m : Name) (items after : List Item) (next : Cut Item → Answer (List Item)) → Balanced items → T (all tidy items)
     → onRecord (m .extent) items next ≡ accepted after → (c : Cut Item) × (b : Body) × Here m items c b × (next c ≡ accepted after)
 unfolding onRecord
-on-record m items after next bal td e =
+on-record m items after next balance tidies e =
     let h = bind-ok (needed 5 (cut (recordOf (m .extent)) items)) next e in
-    let (b, H) = here-of m items (h .0) bal td (needed-ok 5 (cut (recordOf (m .extent)) items) (h .1)) in
+    let (b, H) = here-of m items (h .0) balance tidies (needed-ok 5 (cut (recordOf (m .extent)) items) (h .1)) in
     (h .0, b, H, h .2)
 
 -- ---- calls on a body that reads
@@ -133,15 +133,15 @@ on-total type d b next body t r e =
 
 -- ---- a change inline
 
-module _ (m : Name) (items : List Item) (c : Cut Item) (b : Body) (H : Here m items c b) (bal : Balanced items) (td : T (all tidy items)) where
-  pub bal-at : Balanced (c .front ++ c .hit ∷ c .back)
-  bal-at = rw (H .found .same) at bal
+module _ (m : Name) (items : List Item) (c : Cut Item) (b : Body) (H : Here m items c b) (balance : Balanced items) (tidies : T (all tidy items)) where
+  pub balanced-at : Balanced (c .front ++ c .hit ∷ c .back)
+  balanced-at = rw (H .found .same) at balance
 
   pub tidy-at : T (all tidy (c .front ++ c .hit ∷ c .back))
-  tidy-at = rw (H .found .same) at td
+  tidy-at = rw (H .found .same) at tidies
 
   pub ordered-at : T (ordered (b .refs))
-  ordered-at = good-record (c .hit) b (H .view) (all-mid good (c .front) (c .hit) (c .back) (bal-at .goods))
+  ordered-at = good-record (c .hit) b (H .view) (all-mid good (c .front) (c .hit) (c .back) (balanced-at .goods))
 
   pub long-at : T (all long (b .refs))
   unfolding long
@@ -151,16 +151,16 @@ module _ (m : Name) (items : List Item) (c : Cut Item) (b : Body) (H : Here m it
       → Sound (c .hit .key .kind) b′ → (out given : ℕ) → worth new + out ≡ worth old + given → sum empty (only m new) ≡ 0
       → Fresh old new (sum (stands m) (entries items)) → (wipe : Bool) → (T wipe → (new ≡ none) × ((v : ℕ) × (old ≡ some v)))
       → Step m given out wipe items (putBack c (bodyBytes b′))
-  inline-step old new b′ splice order total sound out given moves pos free wipe gone =
+  inline-step old new b′ splice order total sound out given moves nonempty free wipe gone =
       let d : List ℕ = bodyBytes b′ in
       record {
         old = old;
         new = new;
         edit = rw (H .found .same)
-            (edit-inline m old new (c .front) (c .hit) (c .back) d b b′ bal-at (H .isRec) (H .extent) (H .view)
+            (edit-inline m old new (c .front) (c .hit) (c .back) d b b′ balanced-at (H .isRec) (H .extent) (H .view)
             (view-written (c .hit) b′ (H .isRec) sound) splice order total);
         moves = moves;
-        pos = pos;
+        nonempty = nonempty;
         free = free;
         gone = gone;
         tidied = all-put tidy (c .front) (withBytes (c .hit) d) (c .back) (all-rest tidy (c .front) (c .hit) (c .back) tidy-at)
@@ -172,7 +172,7 @@ module _ (m : Name) (items : List Item) (c : Cut Item) (b : Body) (H : Here m it
   nowhere t u =
       let a : List Item = c .front in let r : Item = c .hit in let z : List Item = c .back in
       let lo : records (r .key .objectid) (a ++ r ∷ z) ≡ 1 =
-      eqb→eq _ 1 (imp-out (isRecord r || isRefItem r) _ (all-mid (paired (a ++ r ∷ z)) a r z (bal-at .pairs)) (rw (T-eq (isRecord r) (H .isRec)) tt)) in
+      eqb→eq _ 1 (imp-out (isRecord r || isRefItem r) _ (all-mid (paired (a ++ r ∷ z)) a r z (balanced-at .pairs)) (rw (T-eq (isRecord r) (H .isRec)) tt)) in
       let l : T (all (λ i. not (recordOf (r .key .objectid) i)) (a ++ z)) = lone a r z (H .isRec) lo in
       let l′ : T (all (λ i. not (recordOf (m .extent) i)) (a ++ z)) = subst (λ (x : ℕ). T (all (λ i. not (recordOf x i)) (a ++ z))) (H .extent) l in
       let u′ : T (all (notItsOwn m) (a ++ z)) = all-rest (notItsOwn m) a r z (rw (H .found .same) at u) in
