@@ -57,7 +57,8 @@ added-out b r spot body e =
     }
 
 -- the new reference is whole
-whole-new : (m : Name) (n : ℕ) → NameOk m → T (counted (m .kind) || eqb n 1) → n < 4294967296 → T (whole (ref (m .kind) (m .fields) n))
+whole-new : (m : Name) (n : ℕ) → NameOk m → T (counted (m .kind) || eqb n 1) → n < 4294967296
+    → T (whole (ref (m .kind) (m .fields) n))
 whole-new m n nameOk t l =
     whole-in (ref (m .kind) (m .fields) n)
     (record {
@@ -78,7 +79,8 @@ or-false false t = t
 
 -- ---- an accepted addition at a good spot is a step
 
-module _ (m : Name) (nameOk : NameOk m) (n : ℕ) (items : List Item) (c : Cut Item) (b : Body) (H : Here m items c b) (balance : Balanced items)
+module _ (m : Name) (nameOk : NameOk m) (n : ℕ) (items : List Item) (c : Cut Item) (b : Body) (H : Here m items c b)
+    (balance : Balanced items)
     (tidies : T (all tidy items)) (own : T (all (notItsOwn m) items)) (one≤ : 1 ≤ n) where
   add-spot : (spot : Spot) → SpotOk (m .kind) (m .fields) n (nameOk .naming) (nameOk .size) (b .refs) spot
       → T (counted (m .kind) || isGap spot) → T (counted (m .kind) || eqb n 1)
@@ -141,7 +143,8 @@ module _ (m : Name) (nameOk : NameOk m) (n : ℕ) (items : List Item) (c : Cut I
       → addAt b (ref (m .kind) (m .fields) n) spot ≡ accepted body → Step m n 0 false items (putBack c body)
   add-at spot ok body e =
       let A = added-out b (ref (m .kind) (m .fields) n) spot body e in
-      subst (λ (d : List ℕ). Step m n 0 false items (putBack c d)) (A .made) (add-spot spot ok (A .nine) (A .ten) (A .eleven) (A .twelve))
+      subst (λ (d : List ℕ). Step m n 0 false items (putBack c d)) (A .made)
+      (add-spot spot ok (A .nine) (A .ten) (A .eleven) (A .twelve))
 
 -- ---- the questions of the ledger around an add
 
@@ -155,7 +158,8 @@ added-questions m amount items answer after e =
 
 -- ---- the three adds
 
-pub add-block : (nodesize extent : ℕ) (name : BlockRef) (items after : List Item) → NameOk (nameOf (AddBlock extent name)) → Balanced items → T (all tidy items)
+pub add-block : (nodesize extent : ℕ) (name : BlockRef) (items after : List Item) → NameOk (nameOf (AddBlock extent name))
+    → Balanced items → T (all tidy items)
     → added (nameOf (AddBlock extent name)) 1 items (applyKeyedAdd nodesize extent (Block name) 1 false items) ≡ accepted after
     → Step (nameOf (AddBlock extent name)) 1 0 false items after
 unfolding applyKeyedAdd keyedBody addInlineTreeRef placeOf
@@ -170,7 +174,8 @@ add-block nodesize extent name items after nameOk balance tidies e =
     (spot-anywhere 176 (one (name .tree)) 1 (nameOk .naming) (nameOk .size) (b .refs) (ordered-at m items c b H balance tidies) (long-at m items c b H balance tidies))
     (h .0) (on-body (c .hit .key .kind) (c .hit .bytes) b _ (H .reads) (h .1)))
 
-pub add-data : (nodesize extent : ℕ) (name : DataRef) (amount : ℕ) (items after : List Item) → NameOk (nameOf (AddData extent name amount)) → Balanced items
+pub add-data : (nodesize extent : ℕ) (name : DataRef) (amount : ℕ) (items after : List Item)
+    → NameOk (nameOf (AddData extent name amount)) → Balanced items
     → T (all tidy items)
     → added (nameOf (AddData extent name amount)) amount items (applyKeyedAdd nodesize extent (Data name) amount false items) ≡ accepted after
     → Step (nameOf (AddData extent name amount)) amount 0 false items after

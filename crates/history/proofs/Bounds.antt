@@ -56,7 +56,8 @@ entry-light x r h = go (eqb (r .kind) 172)
     go true = omega arith
     go false = omega arith
 
-refs-bound : (x : ℕ) (refs : List Ref) → T (all whole refs) → sum weightIn (refEntries x refs) ≤ 4294967296 * length (refsBytes refs)
+refs-bound : (x : ℕ) (refs : List Ref) → T (all whole refs)
+    → sum weightIn (refEntries x refs) ≤ 4294967296 * length (refsBytes refs)
 unfolding refEntries refsBytes
 refs-bound x [] t = omega arith
 refs-bound x (r ∷ refs) t =
@@ -70,7 +71,8 @@ refs-bound x (r ∷ refs) t =
 
 -- ---- one item
 
-form-bound : (x : ℕ) (c : Bool) (r : Ref) → (T c → r .weight < 4294967296) → sum weightIn (viewEntries x (inForm c r)) ≤ 4294967296
+form-bound : (x : ℕ) (c : Bool) (r : Ref) → (T c → r .weight < 4294967296)
+    → sum weightIn (viewEntries x (inForm c r)) ≤ 4294967296
 unfolding inForm viewEntries
 form-bound x true r f = entry-light x r (f tt)
 form-bound x false r f = omega arith
@@ -87,14 +89,16 @@ record-bound i t (accepted b) q =
     let e₃ = ap length (bodyBytes-read (i .key .kind) (i .bytes) b t q) in
     omega arith
 
-ref-item-bound : (i : Item) → T (areBytes (i .bytes)) → sum weightIn (viewEntries (i .key .objectid) (viewRefItem i)) ≤ 4294967296
+ref-item-bound : (i : Item) → T (areBytes (i .bytes))
+    → sum weightIn (viewEntries (i .key .objectid) (viewRefItem i)) ≤ 4294967296
 unfolding viewRefItem
 ref-item-bound i t = go (eqb (i .key .kind) 178) (eqb (i .key .kind) 184)
   where
     four : T (eqb (length (i .bytes)) 4) → le (i .bytes) < 4294967296
     four h = let e : length (i .bytes) ≡ 4 = eqb→eq _ _ h in rw e at (le-bound (i .bytes) t)
 
-    hash : T (eqb (length (i .bytes)) 28 && eqb (i .key .offset) (place (refAt 178 (i .bytes)))) → refAt 178 (i .bytes) .weight < 4294967296
+    hash : T (eqb (length (i .bytes)) 28 && eqb (i .key .offset) (place (refAt 178 (i .bytes))))
+        → refAt 178 (i .bytes) .weight < 4294967296
     hash h =
         subst (λ (r : Ref). r .weight < 4294967296) (sym (refAt-178 (i .bytes)))
         (count-fits (i .bytes) (eqb→eq _ _ (and-yes (eqb (length (i .bytes)) 28) _ h .0)) t)
@@ -121,7 +125,8 @@ item-bound i t = go (isRecord i) (isRefItem i)
 
 -- ---- a sheet
 
-items-bound : (items : List Item) → T (all tidy items) → sum weightIn (entries items) ≤ 4294967296 * sum (λ i. 21 + length (i .bytes)) items
+items-bound : (items : List Item) → T (all tidy items)
+    → sum weightIn (entries items) ≤ 4294967296 * sum (λ i. 21 + length (i .bytes)) items
 unfolding entries
 items-bound [] t = omega arith
 items-bound (i ∷ items) t =
@@ -135,7 +140,8 @@ extent-bound : (x : ℕ) (l : List Entry) → sum (ofExtent x) l ≤ sum weightI
 extent-bound x [] = omega arith
 extent-bound x (e ∷ l) = go (eqb x (e .name .extent)) (extent-bound x l)
   where
-    go : (c : Bool) → sum (ofExtent x) l ≤ sum weightIn l → cond c (e .weight) 0 + sum (ofExtent x) l ≤ e .weight + sum weightIn l
+    go : (c : Bool) → sum (ofExtent x) l ≤ sum weightIn l
+        → cond c (e .weight) 0 + sum (ofExtent x) l ≤ e .weight + sum weightIn l
     go true h = omega arith
     go false h = omega arith
 
@@ -150,7 +156,8 @@ total-is m items c b H balance tidies =
     sym (record-total (c .hit) b (H .view)) ∙ eqb→eq _ _ t
     ∙ ap₂ (λ (x : ℕ) (k : List Item). sum (ofExtent x) (entries k)) (H .extent) (sym (H .found .same))
 
-pub total-bound : (s : List ℕ) (m : Name) (items : List Item) (c : Cut Item) (b : Body) → T (areBytes s) → readSheet s ≡ accepted items
+pub total-bound : (s : List ℕ) (m : Name) (items : List Item) (c : Cut Item) (b : Body) → T (areBytes s)
+    → readSheet s ≡ accepted items
     → Here m items c b → Balanced items → T (all tidy items) → b .total ≤ 4294967296 * 262144
 total-bound s m items c b raw reads H balance tidies =
     let e₁ = total-is m items c b H balance tidies in

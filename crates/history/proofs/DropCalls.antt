@@ -50,21 +50,25 @@ reduced-out amount total t e = let h = ask-ok (leb amount total) 14 _ e in (leb�
 
 -- ---- what the drops share
 
-module _ (m : Name) (nameOk : NameOk m) (items : List Item) (c : Cut Item) (b : Body) (H : Here m items c b) (balance : Balanced items) (tidies : T (all tidy items)) where
+module _ (m : Name) (nameOk : NameOk m) (items : List Item) (c : Cut Item) (b : Body) (H : Here m items c b)
+    (balance : Balanced items) (tidies : T (all tidy items)) where
   -- one count off inline
   drop-inline : (body : List ℕ) → dropInline (c .hit .key .kind) (c .hit .bytes) (m .kind) (m .fields) ≡ accepted body
       → Step m 0 1 false items (putBack c body)
   unfolding dropInline less
   drop-inline body e =
-      let h₁ = bind-ok (found (cut (named (m .kind) (m .fields)) (b .refs))) _ (on-body (c .hit .key .kind) (c .hit .bytes) b _ (H .reads) e) in
+      let h₁ =
+      bind-ok (found (cut (named (m .kind) (m .fields)) (b .refs))) _ (on-body (c .hit .key .kind) (c .hit .bytes) b _ (H .reads) e) in
       let x : Cut Ref = h₁ .0 in
-      let f = cut-some (named (m .kind) (m .fields)) (b .refs) (found-ok (cut (named (m .kind) (m .fields)) (b .refs)) (h₁ .1)) in
+      let f =
+      cut-some (named (m .kind) (m .fields)) (b .refs) (found-ok (cut (named (m .kind) (m .fields)) (b .refs)) (h₁ .1)) in
       let h₂ = bind-ok (loweredByOne (b .total)) _ (h₁ .2) in
       let (two, te) = lowered-out (b .total) (h₂ .0) (h₂ .1) in
       let q = ap (λ (t : ℕ). bodyBytes (bodyWith b t (x .front ++ (less (x .hit) 1 ++ x .back)))) te ∙ accepted-inj (h₂ .2) in
       subst (λ (d : List ℕ). Step m 0 1 false items (putBack c d)) q (go x f two (ltb 1 (x .hit .weight)) refl)
     where
-      go : (x : Cut Ref) → Found (named (m .kind) (m .fields)) (b .refs) x → 2 ≤ b .total → (d : Bool) → ltb 1 (x .hit .weight) ≡ d
+      go : (x : Cut Ref) → Found (named (m .kind) (m .fields)) (b .refs) x → 2 ≤ b .total → (d : Bool)
+          → ltb 1 (x .hit .weight) ≡ d
           → Step m 0 1 false items
           (putBack c (bodyBytes (bodyWith b (b .total - 1) (x .front ++ (cond d (weighed (x .hit) (x .hit .weight - 1) ∷ []) [] ++ x .back)))))
       go x f two true q =
@@ -83,7 +87,8 @@ key-found key items k e =
     (f .same, sameKey-yes (k .hit .key) key (f .hit))
 
 -- the entry of a reference item without three fields, by its key
-pub keyed-entry : (i : Item) (extent kind field : ℕ) → i .key ≡ keyOf extent kind field → Naming kind → eqb kind 178 ≡ false → T (good i)
+pub keyed-entry : (i : Item) (extent kind field : ℕ) → i .key ≡ keyOf extent kind field → Naming kind → eqb kind 178 ≡ false
+    → T (good i)
     → itemEntries i ≡ only (record { extent = extent; kind = kind; fields = one field }) (some (sharedCount i))
 keyed-entry i extent kind field e k q g =
     let ek : i .key .kind ≡ kind = ap (λ (key : Key). key .kind) e in
@@ -92,8 +97,10 @@ keyed-entry i extent kind field e k q g =
 
 -- ---- a block reference
 
-pub drop-block : (extent : ℕ) (name : BlockRef) (items after : List Item) → NameOk (nameOf (DropBlock extent name)) → Balanced items → T (all tidy items)
-    → onRecord extent items (dropTreeRef name false items) ≡ accepted after → Step (nameOf (DropBlock extent name)) 0 1 false items after
+pub drop-block : (extent : ℕ) (name : BlockRef) (items after : List Item) → NameOk (nameOf (DropBlock extent name))
+    → Balanced items → T (all tidy items)
+    → onRecord extent items (dropTreeRef name false items) ≡ accepted after
+    → Step (nameOf (DropBlock extent name)) 0 1 false items after
 unfolding dropTreeRef dropInlineTreeRef flagged bind deleted lowerTotal sharedCount
 drop-block extent name items after nameOk balance tidies e =
     let (c, b, H, e₁) = on-record m items after _ balance tidies e in
@@ -113,7 +120,8 @@ drop-block extent name items after nameOk balance tidies e =
         bind (lowerTotal (c .hit .bytes)) (λ rest.
         bind (flagged false rest) (λ body. replaced (c .hit .key) body others)))
 
-    go : (c : Cut Item) (b : Body) → Here m items c b → (inline c ≡ accepted after) ⊎ ((inline c ≡ absent) × (item c ≡ accepted after))
+    go : (c : Cut Item) (b : Body) → Here m items c b
+        → (inline c ≡ accepted after) ⊎ ((inline c ≡ absent) × (item c ≡ accepted after))
         → Step m 0 1 false items after
     go c b H (inl e) =
         let h = bind-ok (dropInline (c .hit .key .kind) (c .hit .bytes) 176 (one (name .tree))) _ e in
@@ -152,7 +160,8 @@ record DroppedItem (k : Cut Item) (d : DataRef) (others : List Item) : Type 0 wh
   rest : ((keyedCount (k .hit .bytes) ≡ 1) × (without k ≡ others))
       ⊎ ((2 ≤ keyedCount (k .hit .bytes)) × (putBack k (written 24 (leBytes 4 (keyedCount (k .hit .bytes) - 1)) (k .hit .bytes)) ≡ others))
 
-dropped-item : (k : Cut Item) (d : DataRef) (others : List Item) → droppedAt k (dropKeyedDataRef (k .hit .bytes) d) ≡ accepted others → DroppedItem k d others
+dropped-item : (k : Cut Item) (d : DataRef) (others : List Item)
+    → droppedAt k (dropKeyedDataRef (k .hit .bytes) d) ≡ accepted others → DroppedItem k d others
 unfolding dropKeyedDataRef droppedAt
 dropped-item k d others e =
     let bytes : List ℕ = k .hit .bytes in
@@ -177,8 +186,10 @@ dropped-item k d others e =
         inr (omega arith, accepted-inj e)
 
 -- a data item with another count
-module _ (i : Item) (d : DataRef) (kind : i .key .kind ≡ 178) (offset : i .key .offset ≡ placeOf 178 (triple d)) (size : length (i .bytes) ≡ 28)
-    (triples : words 3 (i .bytes) ≡ triple d) (small : T (all (λ w. ltb w 18446744073709551616) (triple d))) (bytes : T (areBytes (i .bytes)))
+module _ (i : Item) (d : DataRef) (kind : i .key .kind ≡ 178) (offset : i .key .offset ≡ placeOf 178 (triple d))
+    (size : length (i .bytes) ≡ 28)
+    (triples : words 3 (i .bytes) ≡ triple d) (small : T (all (λ w. ltb w 18446744073709551616) (triple d)))
+    (bytes : T (areBytes (i .bytes)))
     (v : ℕ) (fits : v < 4294967296) where
   again-size : length (written 24 (leBytes 4 v) (i .bytes)) ≡ 28
   again-size =
@@ -203,7 +214,8 @@ module _ (i : Item) (d : DataRef) (kind : i .key .kind ≡ 178) (offset : i .key
   again-good : T (good (withBytes i (written 24 (leBytes 4 v) (i .bytes))))
   unfolding place
   again-good =
-      data-good (withBytes i (written 24 (leBytes 4 v) (i .bytes))) kind again-size (offset ∙ ap (placeOf 178) (sym again-words))
+      data-good (withBytes i (written 24 (leBytes 4 v) (i .bytes))) kind again-size
+      (offset ∙ ap (placeOf 178) (sym again-words))
 
   again-entry : itemEntries (withBytes i (written 24 (leBytes 4 v) (i .bytes)))
       ≡ only (record { extent = i .key .objectid; kind = 178; fields = triple d }) (some v)
@@ -211,8 +223,10 @@ module _ (i : Item) (d : DataRef) (kind : i .key .kind ≡ 178) (offset : i .key
       data-entry (withBytes i (written 24 (leBytes 4 v) (i .bytes))) kind again-good
       ∙ ap₂ (λ (l : List ℕ) (w : ℕ). only (record { extent = i .key .objectid; kind = 178; fields = l }) (some w)) again-words again-count
 
-pub drop-data : (extent : ℕ) (name : DataRef) (items after : List Item) → NameOk (nameOf (DropData extent name)) → Balanced items → T (all tidy items)
-    → onRecord extent items (dropDataRef name items) ≡ accepted after → Step (nameOf (DropData extent name)) 0 1 false items after
+pub drop-data : (extent : ℕ) (name : DataRef) (items after : List Item) → NameOk (nameOf (DropData extent name))
+    → Balanced items → T (all tidy items)
+    → onRecord extent items (dropDataRef name items) ≡ accepted after
+    → Step (nameOf (DropData extent name)) 0 1 false items after
 unfolding dropDataRef dropInlineDataRef lowerTotal
 drop-data extent name items after nameOk balance tidies e =
     let (c, b, H, e₁) = on-record m items after _ balance tidies e in
@@ -230,7 +244,8 @@ drop-data extent name items after nameOk balance tidies e =
         bind (lowerTotal (c .hit .bytes)) (λ body.
         bind (droppedAt k (dropKeyedDataRef (k .hit .bytes) name)) (λ others. replaced (c .hit .key) body others)))
 
-    go : (c : Cut Item) (b : Body) → Here m items c b → (inline c ≡ accepted after) ⊎ ((inline c ≡ absent) × (item c ≡ accepted after))
+    go : (c : Cut Item) (b : Body) → Here m items c b
+        → (inline c ≡ accepted after) ⊎ ((inline c ≡ absent) × (item c ≡ accepted after))
         → Step m 0 1 false items after
     go c b H (inl e) =
         let h = bind-ok (dropInline (c .hit .key .kind) (c .hit .bytes) 178 (triple name)) _ e in
@@ -246,29 +261,38 @@ drop-data extent name items after nameOk balance tidies e =
         let h₃ = bind-ok (droppedAt k (dropKeyedDataRef (k .hit .bytes) name)) _ (h₂ .2) in
         let D = dropped-item k name (h₃ .0) (h₃ .1) in
         let g : T (good (k .hit)) = all-mid good (k .front) (k .hit) (k .back) (rw same at (balance .goods)) in
-        let kb : T (areBytes (k .hit .bytes)) = tidy-bytes (k .hit) (all-mid tidy (k .front) (k .hit) (k .back) (rw same at tidies)) in
+        let kb : T (areBytes (k .hit .bytes)) =
+        tidy-bytes (k .hit) (all-mid tidy (k .front) (k .hit) (k .back) (rw same at tidies)) in
         let kind : k .hit .key .kind ≡ 178 = ap (λ (key : Key). key .kind) key in
         let ox : k .hit .key .objectid ≡ extent = ap (λ (key : Key). key .objectid) key ∙ H .extent in
         let off : k .hit .key .offset ≡ at = ap (λ (key : Key). key .offset) key in
         let w : ℕ = keyedCount (k .hit .bytes) in
-        let named′ : (n : ℕ) → only (record { extent = k .hit .key .objectid; kind = 178; fields = triple name }) (some n) ≡ only m (some n) =
+        let named′ : (n : ℕ) → only (record { extent = k .hit .key .objectid; kind = 178; fields = triple name })
+        (some n) ≡ only m (some n) =
         (λ n. ap (λ (x : ℕ). only (record { extent = x; kind = 178; fields = triple name }) (some n)) ox) in
         let ew : itemEntries (k .hit) ≡ only m (some w) =
         data-entry (k .hit) kind g
-        ∙ ap (λ (l : List ℕ). only (record { extent = k .hit .key .objectid; kind = 178; fields = l }) (some w)) (D .triples) ∙ named′ w in
+        ∙ ap (λ (l : List ℕ). only (record { extent = k .hit .key .objectid; kind = 178; fields = l }) (some w)) (D .triples)
+        ∙ named′ w in
         let done : replaced (c .hit .key) (bodyBytes (bodyWith b (b .total - 1) (b .refs))) (h₃ .0) ≡ accepted after =
-        ap (λ (l : List ℕ). replaced (c .hit .key) l (h₃ .0)) (ap (λ (n : ℕ). bodyBytes (bodyWith b n (b .refs))) tt′ ∙ be) ∙ h₃ .2 in
+        ap (λ (l : List ℕ). replaced (c .hit .key) l (h₃ .0)) (ap (λ (n : ℕ). bodyBytes (bodyWith b n (b .refs))) tt′ ∙ be)
+        ∙ h₃ .2 in
         last c b H k same kind ox off g kb (D .size) (D .triples) ew two (h₃ .0) done (D .rest)
       where
-        last : (c : Cut Item) (b : Body) → Here m items c b → (k : Cut Item) → items ≡ k .front ++ k .hit ∷ k .back → k .hit .key .kind ≡ 178
-            → k .hit .key .objectid ≡ extent → k .hit .key .offset ≡ placeOf 178 (triple name) → T (good (k .hit)) → T (areBytes (k .hit .bytes))
-            → length (k .hit .bytes) ≡ 28 → words 3 (k .hit .bytes) ≡ triple name → itemEntries (k .hit) ≡ only m (some (keyedCount (k .hit .bytes)))
-            → 2 ≤ b .total → (others : List Item) → replaced (c .hit .key) (bodyBytes (bodyWith b (b .total - 1) (b .refs))) others ≡ accepted after
+        last : (c : Cut Item) (b : Body) → Here m items c b → (k : Cut Item) → items ≡ k .front ++ k .hit ∷ k .back
+            → k .hit .key .kind ≡ 178
+            → k .hit .key .objectid ≡ extent → k .hit .key .offset ≡ placeOf 178 (triple name) → T (good (k .hit))
+            → T (areBytes (k .hit .bytes))
+            → length (k .hit .bytes) ≡ 28 → words 3 (k .hit .bytes) ≡ triple name
+            → itemEntries (k .hit) ≡ only m (some (keyedCount (k .hit .bytes)))
+            → 2 ≤ b .total → (others : List Item)
+            → replaced (c .hit .key) (bodyBytes (bodyWith b (b .total - 1) (b .refs))) others ≡ accepted after
             → ((keyedCount (k .hit .bytes) ≡ 1) × (without k ≡ others))
             ⊎ ((2 ≤ keyedCount (k .hit .bytes)) × (putBack k (written 24 (leBytes 4 (keyedCount (k .hit .bytes) - 1)) (k .hit .bytes)) ≡ others))
             → Step m 0 1 false items after
         last c b H k same kind ox off g kb size triples ew two others done (inl (w1, eo)) =
-            item-gone m items c b H balance tidies k same (is178 kind) ox (keyedCount (k .hit .bytes)) ew 1 w1 (omega arith) false after
+            item-gone m items c b H balance tidies k same (is178 kind) ox (keyedCount (k .hit .bytes)) ew 1 w1
+            (omega arith) false after
             (ap (replaced (c .hit .key) (bodyBytes (bodyWith b (b .total - 1) (b .refs)))) eo ∙ done)
         last c b H k same kind ox off g kb size triples ew two others done (inr (w2, eo)) =
             let w : ℕ = keyedCount (k .hit .bytes) in
@@ -295,7 +319,8 @@ not-178 kind t = go (shared-naming kind t) t
     go (is182 e) t = rw e refl
     go (is184 e) t = rw e refl
 
-pub drop-shared : (extent : ℕ) (name : SharedRef) (items after : List Item) → T (sharedKind (name .kind)) → NameOk (nameOf (DropShared extent name))
+pub drop-shared : (extent : ℕ) (name : SharedRef) (items after : List Item) → T (sharedKind (name .kind))
+    → NameOk (nameOf (DropShared extent name))
     → Balanced items → T (all tidy items) → onRecord extent items (dropSharedRef name items) ≡ accepted after
     → (n : ℕ) × Step (nameOf (DropShared extent name)) 0 n true items after
 unfolding dropSharedRef takeInlineShared reduceTotal
@@ -316,7 +341,8 @@ drop-shared extent name items after sk nameOk balance tidies e =
         bind (needed 5 (cut (hasKey (keyOf (c .hit .key .objectid) (name .kind) (name .parent))) items)) (λ k.
         bind (reduceTotal (c .hit .bytes) (sharedCount (k .hit))) (λ body. replaced (c .hit .key) body (without k)))
 
-    go : (c : Cut Item) (b : Body) → Here m items c b → (inline c ≡ accepted after) ⊎ ((inline c ≡ absent) × (item c ≡ accepted after))
+    go : (c : Cut Item) (b : Body) → Here m items c b
+        → (inline c ≡ accepted after) ⊎ ((inline c ≡ absent) × (item c ≡ accepted after))
         → (n : ℕ) × Step m 0 n true items after
     go c b H (inl e) =
         let h₁ = bind-ok (takeInlineShared (c .hit .key .kind) (c .hit .bytes) name) _ e in
@@ -353,7 +379,8 @@ drop-shared extent name items after sk nameOk balance tidies e =
         let g : T (good (k .hit)) = all-mid good (k .front) (k .hit) (k .back) (rw same at (balance .goods)) in
         let kind : k .hit .key .kind ≡ name .kind = ap (λ (key : Key). key .kind) key in
         let ox : k .hit .key .objectid ≡ extent = ap (λ (key : Key). key .objectid) key ∙ H .extent in
-        let key′ : k .hit .key ≡ keyOf extent (name .kind) (name .parent) = key ∙ ap (λ (n : ℕ). keyOf n (name .kind) (name .parent)) (H .extent) in (
+        let key′ : k .hit .key ≡ keyOf extent (name .kind) (name .parent) =
+        key ∙ ap (λ (n : ℕ). keyOf n (name .kind) (name .parent)) (H .extent) in (
           w,
           item-gone m items c b H balance tidies k same (subst Naming (sym kind) (nameOk .naming)) ox w
               (keyed-entry (k .hit) extent (name .kind) (name .parent) key′ (nameOk .naming) (not-178 (name .kind) sk) g) w refl within true after

@@ -32,7 +32,8 @@ use Rattle.history.proofs.Steps.{tidy, tidy-with, Step, Here, balanced-
 
 -- ---- inline: the reference at a cut has the name
 
-module _ (m : Name) (naming : Naming (m .kind)) (items : List Item) (c : Cut Item) (b : Body) (H : Here m items c b) (balance : Balanced items) (tidies : T (all tidy items))
+module _ (m : Name) (naming : Naming (m .kind)) (items : List Item) (c : Cut Item) (b : Body) (H : Here m items c b)
+    (balance : Balanced items) (tidies : T (all tidy items))
     (x : Cut Ref) (e : b .refs ≡ x .front ++ x .hit ∷ x .back) (t : T (named (m .kind) (m .fields) (x .hit))) where
   entries-at : refEntries (m .extent) (x .hit ∷ []) ≡ only m (some (x .hit .weight))
   entries-at =
@@ -113,7 +114,8 @@ abbrev first : {A : Type 0} → (A → Bool) → List A → Option A
 first p [] = none
 first p (x ∷ l) = cond (p x) (some x) (first p l)
 
-first-at : {A : Type 0} (p : A → Bool) (a : List A) (x : A) (z : List A) → T (all (λ y. not (p y)) a) → T (p x) → first p (a ++ x ∷ z) ≡ some x
+first-at : {A : Type 0} (p : A → Bool) (a : List A) (x : A) (z : List A) → T (all (λ y. not (p y)) a) → T (p x)
+    → first p (a ++ x ∷ z) ≡ some x
 first-at p [] x z t h = cond-yes (p x) (some x) (first p z) h
 first-at p (y ∷ a) x z t h =
     let k = and-yes (not (p y)) _ t in
@@ -122,7 +124,8 @@ first-at p (y ∷ a) x z t h =
 first-found : {A : Type 0} (p : A → Bool) (l : List A) (c : Cut A) → Found p l c → first p l ≡ some (c .hit)
 first-found p l c f = ap (first p) (f .same) ∙ first-at p (c .front) (c .hit) (c .back) (f .miss) (f .hit)
 
-first-skip : {A : Type 0} (p : A → Bool) (a o z : List A) → T (all (λ x. not (p x)) o) → first p (a ++ (o ++ z)) ≡ first p (a ++ z)
+first-skip : {A : Type 0} (p : A → Bool) (a o z : List A) → T (all (λ x. not (p x)) o)
+    → first p (a ++ (o ++ z)) ≡ first p (a ++ z)
 first-skip p [] [] z t = refl
 first-skip p [] (x ∷ o) z t =
     let h = and-yes (not (p x)) _ t in
@@ -133,7 +136,8 @@ first-skip p (y ∷ a) o z t = ap (cond (p y) (some y)) (first-skip p a o z t)
 key-record : (x : ℕ) (r i : Item) → T (recordOf x r) → T (hasKey (r .key) i) → T (recordOf x i)
 unfolding isRecord
 key-record x r i t h =
-    subst (λ (k : Key). T ((eqb (k .kind) 168 || eqb (k .kind) 169) && eqb (k .objectid) x)) (sym (sameKey-yes (i .key) (r .key) h)) t
+    subst (λ (k : Key). T ((eqb (k .kind) 168 || eqb (k .kind) 169) && eqb (k .objectid) x))
+    (sym (sameKey-yes (i .key) (r .key) h)) t
 
 -- ---- as an item
 
@@ -148,8 +152,10 @@ item-counts items balance k ek m w ew =
 
 -- the item at a cut stands for the name with the weight w
 
-module _ (m : Name) (items : List Item) (c : Cut Item) (b : Body) (H : Here m items c b) (balance : Balanced items) (tidies : T (all tidy items))
-    (k : Cut Item) (ek : items ≡ k .front ++ k .hit ∷ k .back) (naming : Naming (k .hit .key .kind)) (ox : k .hit .key .objectid ≡ m .extent)
+module _ (m : Name) (items : List Item) (c : Cut Item) (b : Body) (H : Here m items c b) (balance : Balanced items)
+    (tidies : T (all tidy items))
+    (k : Cut Item) (ek : items ≡ k .front ++ k .hit ∷ k .back) (naming : Naming (k .hit .key .kind))
+    (ox : k .hit .key .objectid ≡ m .extent)
     (w : ℕ) (ew : itemEntries (k .hit) ≡ only m (some w)) where
   pub balanced-k : Balanced (k .front ++ k .hit ∷ k .back)
   balanced-k = rw ek at balance
@@ -169,15 +175,18 @@ module _ (m : Name) (items : List Item) (c : Cut Item) (b : Body) (H : Here m it
       let no-key : (i : Item) → T (not (isRecord i)) → T (not (p i)) =
       (λ i u. not-T (p i) (λ v. T-not (isRecord i) (and-yes (isRecord i) _ (key-record (m .extent) (c .hit) i r v) .0) u)) in
       some-inj (sym (first-at p (c .front) (c .hit) (c .back) front (sameKey-refl (c .hit .key))) ∙ ap (first p) (sym (H .found .same) ∙ ek)
-      ∙ first-skip p (k .front) (k .hit ∷ []) (k .back) (yes-and (not (p (k .hit))) true (no-key (k .hit) (naming-no-record (k .hit) naming)) tt)
+      ∙ first-skip p (k .front) (k .hit ∷ []) (k .back)
+      (yes-and (not (p (k .hit))) true (no-key (k .hit) (naming-no-record (k .hit) naming)) tt)
       ∙ sym (first-skip p (k .front) o (k .back) (all-map (λ i. not (isRecord i)) (λ i. not (p i)) no-key o t))
       ∙ first-found p (k .front ++ (o ++ k .back)) c′ f)
 
   finish : (n : ℕ) → n ≤ b .total → (wipe : Bool) (o : List Item) (new : Option ℕ) → T (all (λ i. not (isRecord i)) o)
       → Half (m .extent) items (k .front ++ (o ++ k .back)) → T (all tidy (k .front ++ (o ++ k .back)))
       → ((g : Entry → ℕ) → sum g (entries (k .front ++ (o ++ k .back))) + sum g (only m (some w)) ≡ sum g (entries items) + sum g (only m new))
-      → worth new + n ≡ w → sum empty (only m new) ≡ 0 → Fresh (some w) new (sum (stands m) (entries items)) → (T wipe → new ≡ none)
-      → (after : List Item) → replaced (c .hit .key) (bodyBytes (bodyWith b (b .total - n) (b .refs))) (k .front ++ (o ++ k .back)) ≡ accepted after
+      → worth new + n ≡ w → sum empty (only m new) ≡ 0 → Fresh (some w) new (sum (stands m) (entries items))
+      → (T wipe → new ≡ none)
+      → (after : List Item)
+      → replaced (c .hit .key) (bodyBytes (bodyWith b (b .total - n) (b .refs))) (k .front ++ (o ++ k .back)) ≡ accepted after
       → Step m 0 n wipe items after
   unfolding replaced
   finish n within wipe o new nr half tj sums moves nonempty free gone after e =
@@ -199,7 +208,8 @@ module _ (m : Name) (items : List Item) (c : Cut Item) (b : Body) (H : Here m it
         old = some w;
         new = new;
         edit = edit-item m (some w) new items (c′ .front) (c′ .hit) (c′ .back) (bodyBytes b′) b b′
-            (subst (Half (m .extent) items) (f .same) half) isRec (subst (λ (z : Item). z .key .objectid ≡ m .extent) r (H .extent))
+            (subst (Half (m .extent) items) (f .same) half) isRec
+            (subst (λ (z : Item). z .key .objectid ≡ m .extent) r (H .extent))
             (subst (λ (z : Item). viewOf z ≡ extentRecord b) r (H .view))
             (view-written (c′ .hit) b′ isRec S′) refl (omega arith)
             (λ g. subst (λ (z : List Item). sum g (entries z) + sum g (only m (some w)) ≡ sum g (entries items) + sum g (only m new)) (f .same) (sums g));
@@ -213,7 +223,8 @@ module _ (m : Name) (items : List Item) (c : Cut Item) (b : Body) (H : Here m it
 
   -- the item goes
   pub item-gone : (n : ℕ) → w ≡ n → n ≤ b .total → (wipe : Bool) (after : List Item)
-      → replaced (c .hit .key) (bodyBytes (bodyWith b (b .total - n) (b .refs))) (without k) ≡ accepted after → Step m 0 n wipe items after
+      → replaced (c .hit .key) (bodyBytes (bodyWith b (b .total - n) (b .refs))) (without k) ≡ accepted after
+      → Step m 0 n wipe items after
   item-gone n same within wipe after e =
       finish n within wipe [] none tt
       (rw ek (half-drop (m .extent) (k .front) (k .hit) (k .back) balanced-k (naming-no-record (k .hit) naming) ox))
@@ -228,10 +239,12 @@ module _ (m : Name) (items : List Item) (c : Cut Item) (b : Body) (H : Here m it
   -- the item has other data, and the name a lower weight
   pub item-less : (n : ℕ) → n ≤ b .total → (d : List ℕ) (v : ℕ) → T (areBytes d) → T (good (withBytes (k .hit) d))
       → itemEntries (withBytes (k .hit) d) ≡ only m (some v) → 1 ≤ v → v + n ≡ w → (after : List Item)
-      → replaced (c .hit .key) (bodyBytes (bodyWith b (b .total - n) (b .refs))) (putBack k d) ≡ accepted after → Step m 0 n false items after
+      → replaced (c .hit .key) (bodyBytes (bodyWith b (b .total - n) (b .refs))) (putBack k d) ≡ accepted after
+      → Step m 0 n false items after
   unfolding isRecord
   item-less n within d v bytes gd ev one≤ rest after e =
-      finish n within false (withBytes (k .hit) d ∷ []) (some v) (yes-and (not (isRecord (k .hit))) true (naming-no-record (k .hit) naming) tt)
+      finish n within false (withBytes (k .hit) d ∷ []) (some v)
+      (yes-and (not (isRecord (k .hit))) true (naming-no-record (k .hit) naming) tt)
       (rw ek (half-swap (m .extent) (k .front) (k .hit) (k .back) d balanced-k (naming-no-record (k .hit) naming) ox gd))
       (all-put tidy (k .front) (withBytes (k .hit) d) (k .back) (all-rest tidy (k .front) (k .hit) (k .back) tidy-k)
       (tidy-with (k .hit) d (all-mid tidy (k .front) (k .hit) (k .back) tidy-k) bytes))

@@ -40,34 +40,44 @@ itemsOf-append x (i ∷ a) b = go (eqb (i .key .objectid) x) (itemsOf-append x a
     go true ih = ap (λ (l : List Item). i ∷ l) ih
     go false ih = ih
 
-pub itemsOf-skip : (x : ℕ) (a : List Item) (i : Item) (b : List Item) → x ≢ i .key .objectid → itemsOf x (a ++ i ∷ b) ≡ itemsOf x (a ++ b)
+pub itemsOf-skip : (x : ℕ) (a : List Item) (i : Item) (b : List Item) → x ≢ i .key .objectid
+    → itemsOf x (a ++ i ∷ b) ≡ itemsOf x (a ++ b)
 itemsOf-skip x a i b h =
     itemsOf-append x a (i ∷ b)
-    ∙ ap (λ (l : List Item). itemsOf x a ++ l) (cond-no (eqb (i .key .objectid) x) (i ∷ itemsOf x b) (itemsOf x b) (no-eqb (λ e. h (sym e))))
+    ∙ ap (λ (l : List Item). itemsOf x a ++ l)
+    (cond-no (eqb (i .key .objectid) x) (i ∷ itemsOf x b) (itemsOf x b) (no-eqb (λ e. h (sym e))))
     ∙ sym (itemsOf-append x a b)
 
 -- ---- totals: records of other extents keep their sums, and the edited record has its own
 
 -- `r` is the only record of its extent in a ++ r ∷ b
-pub lone : (a : List Item) (r : Item) (b : List Item) → T (isRecord r) → records (r .key .objectid) (a ++ r ∷ b) ≡ 1 → T (all (λ i. not (recordOf (r .key .objectid) i)) (a ++ b))
+pub lone : (a : List Item) (r : Item) (b : List Item) → T (isRecord r) → records (r .key .objectid) (a ++ r ∷ b) ≡ 1
+    → T (all (λ i. not (recordOf (r .key .objectid) i)) (a ++ b))
 lone a r b t e =
-    let me : isRecordOf (r .key .objectid) r ≡ 1 = cond-yes (recordOf (r .key .objectid) r) 1 0 (yes-and (isRecord r) _ t (eqb-refl (r .key .objectid))) in
-    let s : records (r .key .objectid) (a ++ r ∷ b) ≡ records (r .key .objectid) a + records (r .key .objectid) (r ∷ b) = sum-append (isRecordOf (r .key .objectid)) a (r ∷ b) in
-    let z : records (r .key .objectid) (a ++ b) ≡ records (r .key .objectid) a + records (r .key .objectid) b = sum-append (isRecordOf (r .key .objectid)) a b in
+    let me : isRecordOf (r .key .objectid) r ≡ 1 =
+    cond-yes (recordOf (r .key .objectid) r) 1 0 (yes-and (isRecord r) _ t (eqb-refl (r .key .objectid))) in
+    let s : records (r .key .objectid) (a ++ r ∷ b) ≡ records (r .key .objectid) a + records (r .key .objectid) (r ∷ b) =
+    sum-append (isRecordOf (r .key .objectid)) a (r ∷ b) in
+    let z : records (r .key .objectid) (a ++ b) ≡ records (r .key .objectid) a + records (r .key .objectid) b =
+    sum-append (isRecordOf (r .key .objectid)) a b in
     none-counted (recordOf (r .key .objectid)) (a ++ b) (omega arith)
 
 -- sums of every extent but x agree
 abbrev pub Agree : ℕ → List Entry → List Entry → Type 0
 Agree x l l′ = (y : ℕ) → y ≢ x → sum (ofExtent y) l′ ≡ sum (ofExtent y) l
 
-keep-total : (x : ℕ) (l l′ : List Entry) → Agree x l l′ → (i : Item) → T (totalled l i) → T (not (recordOf x i)) → T (totalled l′ i)
+keep-total : (x : ℕ) (l l′ : List Entry) → Agree x l l′ → (i : Item) → T (totalled l i) → T (not (recordOf x i))
+    → T (totalled l′ i)
 keep-total x l l′ agree i t k =
     imp-in (isRecord i) (eqb (viewTotal (viewOf i)) (sum (ofExtent (i .key .objectid)) l′)) (λ r.
-    let ne : i .key .objectid ≢ x = (λ e. T-not (recordOf x i) (yes-and (isRecord i) (eqb (i .key .objectid) x) r (yes-eqb e)) k) in
-    rw (agree (i .key .objectid) ne) (imp-out (isRecord i) (eqb (viewTotal (viewOf i)) (sum (ofExtent (i .key .objectid)) l)) t r))
+    let ne : i .key .objectid ≢ x =
+    (λ e. T-not (recordOf x i) (yes-and (isRecord i) (eqb (i .key .objectid) x) r (yes-eqb e)) k) in
+    rw (agree (i .key .objectid) ne)
+    (imp-out (isRecord i) (eqb (viewTotal (viewOf i)) (sum (ofExtent (i .key .objectid)) l)) t r))
 
 pub totals-swap : (a : List Item) (r r′ : Item) (b : List Item) (l l′ : List Entry)
-    → T (isRecord r) → records (r .key .objectid) (a ++ r ∷ b) ≡ 1 → r′ .key .objectid ≡ r .key .objectid → T (all (totalled l) (a ++ r ∷ b)) → Agree (r .key .objectid) l l′
+    → T (isRecord r) → records (r .key .objectid) (a ++ r ∷ b) ≡ 1 → r′ .key .objectid ≡ r .key .objectid
+    → T (all (totalled l) (a ++ r ∷ b)) → Agree (r .key .objectid) l l′
     → viewTotal (viewOf r′) ≡ sum (ofExtent (r .key .objectid)) l′ → T (all (totalled l′) (a ++ r′ ∷ b))
 totals-swap a r r′ b l l′ t alone same before agree me =
     all-put (totalled l′) a r′ b
@@ -205,7 +215,8 @@ unfolding wellFormed
 good-record r b e t = rw e at t
 
 -- what holds of a list in which one item has another body
-pub records-swap : (x : ℕ) (a : List Item) (r : Item) (b : List Item) (d : List ℕ) → records x (a ++ withBytes r d ∷ b) ≡ records x (a ++ r ∷ b)
+pub records-swap : (x : ℕ) (a : List Item) (r : Item) (b : List Item) (d : List ℕ)
+    → records x (a ++ withBytes r d ∷ b) ≡ records x (a ++ r ∷ b)
 unfolding isRecord
 records-swap x a r b d =
     sum-append (isRecordOf x) a (withBytes r d ∷ b) ∙ sym (sum-append (isRecordOf x) a (r ∷ b))
@@ -214,7 +225,8 @@ pub paired-swap : (items : List Item) (r : Item) (d : List ℕ) → T (paired it
 unfolding isRecord isRefItem
 paired-swap items r d t = t
 
-pub others-swap : (x : ℕ) (a : List Item) (r : Item) (b : List Item) (d : List ℕ) → x ≢ r .key .objectid → itemsOf x (a ++ withBytes r d ∷ b) ≡ itemsOf x (a ++ r ∷ b)
+pub others-swap : (x : ℕ) (a : List Item) (r : Item) (b : List Item) (d : List ℕ) → x ≢ r .key .objectid
+    → itemsOf x (a ++ withBytes r d ∷ b) ≡ itemsOf x (a ++ r ∷ b)
 others-swap x a r b d h =
     itemsOf-skip x a (withBytes r d) b h ∙ sym (itemsOf-skip x a r b h)
 
@@ -232,8 +244,12 @@ pub record Splice (m : Name) (old new : Option ℕ) (b b′ : Body) : Type 0 whe
 pub splice-sums : (m : Name) (old new : Option ℕ) (b b′ : Body) → Splice m old new b b′ → (g : Entry → ℕ)
     → sum g (refEntries (m .extent) (b′ .refs)) + sum g (only m old) ≡ sum g (refEntries (m .extent) (b .refs)) + sum g (only m new)
 splice-sums m old new b b′ s g =
-    let e₁ = ap (λ (l : List Ref). sum g (refEntries (m .extent) l)) (s .was) ∙ sum-refs g (m .extent) (s .front) (s .leaves) (s .back) in
-    let e₂ = ap (λ (l : List Ref). sum g (refEntries (m .extent) l)) (s .now) ∙ sum-refs g (m .extent) (s .front) (s .enters) (s .back) in
+    let e₁ =
+    ap (λ (l : List Ref). sum g (refEntries (m .extent) l)) (s .was)
+    ∙ sum-refs g (m .extent) (s .front) (s .leaves) (s .back) in
+    let e₂ =
+    ap (λ (l : List Ref). sum g (refEntries (m .extent) l)) (s .now)
+    ∙ sum-refs g (m .extent) (s .front) (s .enters) (s .back) in
     let e₃ = ap (sum g) (s .leaving) in
     let e₄ = ap (sum g) (s .entering) in
     omega arith
@@ -248,11 +264,13 @@ pub record Half (x : ℕ) (items js : List Item) : Type 0 where
   pub totals : T (all (totalled (entries items)) js)
 
 pub half-same : (x : ℕ) (items : List Item) → Balanced items → Half x items items
-half-same x items b = record { recorded = λ y. refl; others = λ y h. refl; rise = λ t. t; goods = b .goods; pairs = b .pairs; totals = b .totals }
+half-same x items b =
+    record { recorded = λ y. refl; others = λ y h. refl; rise = λ t. t; goods = b .goods; pairs = b .pairs; totals = b .totals }
 
 -- then the record r of the extent has another body
 module _ (m : Name) (old new : Option ℕ) (items a : List Item) (r : Item) (c : List Item) (d : List ℕ)
-    (half : Half (m .extent) items (a ++ r ∷ c)) (isRec : T (isRecord r)) (extent : r .key .objectid ≡ m .extent) (good′ : T (good (withBytes r d)))
+    (half : Half (m .extent) items (a ++ r ∷ c)) (isRec : T (isRecord r)) (extent : r .key .objectid ≡ m .extent)
+    (good′ : T (good (withBytes r d)))
     (total : viewTotal (viewOf (withBytes r d)) + worth old ≡ viewTotal (viewOf r) + worth new)
     (sums : (g : Entry → ℕ) → sum g (entries (a ++ withBytes r d ∷ c)) + sum g (only m old) ≡ sum g (entries items) + sum g (only m new)) where
   in-lone : records (r .key .objectid) (a ++ r ∷ c) ≡ 1
@@ -294,12 +312,15 @@ module _ (m : Name) (old new : Option ℕ) (items a : List Item) (r : Item) (c :
 module _ (m : Name) (old new : Option ℕ) (a : List Item) (r : Item) (c : List Item) (d : List ℕ) (b b′ : Body)
     (balance : Balanced (a ++ r ∷ c)) (isRec : T (isRecord r)) (extent : r .key .objectid ≡ m .extent)
     (was : viewOf r ≡ extentRecord b) (now : viewOf (withBytes r d) ≡ extentRecord b′)
-    (splice : Splice m old new b b′) (order : T (ordered (b′ .refs))) (total : b′ .total + worth old ≡ b .total + worth new) where
-  inline-sums : (g : Entry → ℕ) → sum g (entries (a ++ withBytes r d ∷ c)) + sum g (only m old) ≡ sum g (entries (a ++ r ∷ c)) + sum g (only m new)
+    (splice : Splice m old new b b′) (order : T (ordered (b′ .refs)))
+    (total : b′ .total + worth old ≡ b .total + worth new) where
+  inline-sums : (g : Entry → ℕ)
+      → sum g (entries (a ++ withBytes r d ∷ c)) + sum g (only m old) ≡ sum g (entries (a ++ r ∷ c)) + sum g (only m new)
   inline-sums g =
       let e₁ = sum-mid g a (withBytes r d) c in
       let e₂ = sum-mid g a r c in
-      let e₃ : sum g (itemEntries r) ≡ sum g (refEntries (m .extent) (b .refs)) = ap (sum g) (record-entries r b was) ∙ ap (λ (x : ℕ). sum g (refEntries x (b .refs))) extent in
+      let e₃ : sum g (itemEntries r) ≡ sum g (refEntries (m .extent) (b .refs)) =
+      ap (sum g) (record-entries r b was) ∙ ap (λ (x : ℕ). sum g (refEntries x (b .refs))) extent in
       let e₄ : sum g (itemEntries (withBytes r d)) ≡ sum g (refEntries (m .extent) (b′ .refs)) =
       ap (sum g) (record-entries (withBytes r d) b′ now) ∙ ap (λ (x : ℕ). sum g (refEntries x (b′ .refs))) extent in
       let e₅ = splice-sums m old new b b′ splice g in
@@ -307,7 +328,8 @@ module _ (m : Name) (old new : Option ℕ) (a : List Item) (r : Item) (c : List 
 
   pub edit-inline : Edit m old new (a ++ r ∷ c) (a ++ withBytes r d ∷ c)
   edit-inline =
-      edit-record m old new (a ++ r ∷ c) a r c d (half-same (m .extent) (a ++ r ∷ c) balance) isRec extent (record-good (withBytes r d) b′ now order)
+      edit-record m old new (a ++ r ∷ c) a r c d (half-same (m .extent) (a ++ r ∷ c) balance) isRec extent
+      (record-good (withBytes r d) b′ now order)
       (let k₁ = record-total r b was in let k₂ = record-total (withBytes r d) b′ now in omega arith) inline-sums
 
 -- ---- a change of an item: the item k of the extent goes, or has another body; then the record's total moves
@@ -317,7 +339,8 @@ pub not-rec : (k : Item) (n : ℕ) → k .key .kind ≡ n → T (not (eqb n 168 
 unfolding isRecord
 not-rec k n e t = rw e t
 
-pub half-drop : (x : ℕ) (a : List Item) (k : Item) (c : List Item) → Balanced (a ++ k ∷ c) → T (not (isRecord k)) → k .key .objectid ≡ x → Half x (a ++ k ∷ c) (a ++ c)
+pub half-drop : (x : ℕ) (a : List Item) (k : Item) (c : List Item) → Balanced (a ++ k ∷ c) → T (not (isRecord k))
+    → k .key .objectid ≡ x → Half x (a ++ k ∷ c) (a ++ c)
 half-drop x a k c b t e =
     record {
       recorded = λ y.
@@ -330,7 +353,8 @@ half-drop x a k c b t e =
       totals = all-rest (totalled (entries (a ++ k ∷ c))) a k c (b .totals);
     }
 
-pub half-swap : (x : ℕ) (a : List Item) (k : Item) (c : List Item) (d : List ℕ) → Balanced (a ++ k ∷ c) → T (not (isRecord k)) → k .key .objectid ≡ x
+pub half-swap : (x : ℕ) (a : List Item) (k : Item) (c : List Item) (d : List ℕ) → Balanced (a ++ k ∷ c) → T (not (isRecord k))
+    → k .key .objectid ≡ x
     → T (good (withBytes k d)) → Half x (a ++ k ∷ c) (a ++ withBytes k d ∷ c)
 unfolding isRecord
 half-swap x a k c d b t e g =
@@ -354,7 +378,8 @@ module _ (m : Name) (old new : Option ℕ) (items a : List Item) (r : Item) (c :
   item-entries : itemEntries (withBytes r d) ≡ itemEntries r
   item-entries = record-entries (withBytes r d) b′ now ∙ ap (refEntries (r .key .objectid)) same ∙ sym (record-entries r b was)
 
-  item-sums : (g : Entry → ℕ) → sum g (entries (a ++ withBytes r d ∷ c)) + sum g (only m old) ≡ sum g (entries items) + sum g (only m new)
+  item-sums : (g : Entry → ℕ)
+      → sum g (entries (a ++ withBytes r d ∷ c)) + sum g (only m old) ≡ sum g (entries items) + sum g (only m new)
   item-sums g =
       let e₁ = sum-mid g a (withBytes r d) c in
       let e₂ = sum-mid g a r c in

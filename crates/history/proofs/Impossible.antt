@@ -79,7 +79,8 @@ clean (accepted a) = true
 
 -- ---- questions: those that may be refused, and those that never are
 
-clean-ask : {A : Type 0} (b : Bool) (n : ℕ) (next : Answer A) → T (allowed n) → (T b → T (clean next)) → T (clean (ask b n next))
+clean-ask : {A : Type 0} (b : Bool) (n : ℕ) (next : Answer A) → T (allowed n) → (T b → T (clean next))
+    → T (clean (ask b n next))
 unfolding ask
 clean-ask true n next t f = f tt
 clean-ask false n next t f = t
@@ -132,13 +133,15 @@ clean-held holds r t = clean-bind r _ t (λ a _. clean-ask (holds a) 21 (accepte
 
 -- ---- calls on a body that reads
 
-clean-onBody : {A : Type 0} (type : ℕ) (d : List ℕ) (b : Body) (next : Body → Answer A) → readBody type d ≡ accepted b → T (clean (next b))
+clean-onBody : {A : Type 0} (type : ℕ) (d : List ℕ) (b : Body) (next : Body → Answer A) → readBody type d ≡ accepted b
+    → T (clean (next b))
     → T (clean (onBody type d next))
 unfolding onBody allowed
 clean-onBody type d b next r t =
     clean-ask (bodyFits d) 3 _ tt (λ _. subst (λ x. T (clean x)) (sym (bind-yes (readBody type d) next r)) t)
 
-clean-onTotal : (type : ℕ) (d : List ℕ) (b : Body) (next : ℕ → Answer ℕ) → readBody type d ≡ accepted b → T (clean (next (b .total)))
+clean-onTotal : (type : ℕ) (d : List ℕ) (b : Body) (next : ℕ → Answer ℕ) → readBody type d ≡ accepted b
+    → T (clean (next (b .total)))
     → T (clean (onTotal d next))
 unfolding onTotal onHead allowed
 clean-onTotal type d b next r t =
@@ -158,7 +161,8 @@ clean-lowerTotal : (type : ℕ) (d : List ℕ) (b : Body) → readBody type d �
 unfolding lowerTotal
 clean-lowerTotal type d b r = clean-onTotal type d b loweredByOne r (clean-lowered (b .total))
 
-clean-reduceTotal : (type : ℕ) (d : List ℕ) (b : Body) (amount : ℕ) → readBody type d ≡ accepted b → amount ≤ b .total → T (clean (reduceTotal d amount))
+clean-reduceTotal : (type : ℕ) (d : List ℕ) (b : Body) (amount : ℕ) → readBody type d ≡ accepted b → amount ≤ b .total
+    → T (clean (reduceTotal d amount))
 unfolding reduceTotal
 clean-reduceTotal type d b amount r h = clean-onTotal type d b (reducedBy amount) r (clean-reduced amount (b .total) h)
 
@@ -172,9 +176,11 @@ clean-addAt b r spot h =
     clean-bind (ask (ltb (b .total + r .weight) (2 ^ 64)) 12 (accepted (b .total + r .weight))) _
     (let l : standingWeight spot + r .weight < 4294967296 = ltb→lt _ _ e in
     let k : b .total + r .weight < 18446744073709551616 = omega arith in
-    clean-sure (ltb (b .total + r .weight) (2 ^ 64)) 12 _ (lt→ltb (b .total + r .weight) 18446744073709551616 k) tt) (λ t _. tt))))
+    clean-sure (ltb (b .total + r .weight) (2 ^ 64)) 12 _
+    (lt→ltb (b .total + r .weight) 18446744073709551616 k) tt) (λ t _. tt))))
 
-clean-dropInline : (type : ℕ) (d : List ℕ) (b : Body) (kind : ℕ) (fields : List ℕ) → readBody type d ≡ accepted b → T (clean (dropInline type d kind fields))
+clean-dropInline : (type : ℕ) (d : List ℕ) (b : Body) (kind : ℕ) (fields : List ℕ) → readBody type d ≡ accepted b
+    → T (clean (dropInline type d kind fields))
 unfolding dropInline
 clean-dropInline type d b kind fields r =
     clean-onBody type d b _ r
@@ -202,12 +208,15 @@ clean-droppedAt k (accepted d) t = tt
 
 clean-replaced : (key : Key) (d : List ℕ) (items : List Item) → T (clean (replaced key d items))
 unfolding replaced allowed
-clean-replaced key d items = clean-bind (needed 5 (cut (hasKey key) items)) _ (clean-needed 5 (cut (hasKey key) items) tt) (λ c _. tt)
+clean-replaced key d items =
+    clean-bind (needed 5 (cut (hasKey key) items)) _ (clean-needed 5 (cut (hasKey key) items) tt) (λ c _. tt)
 
 -- ---- 14: a weight under a name is within its record's total
 
-module _ (m : Name) (items : List Item) (c : Cut Item) (b : Body) (H : Here m items c b) (balance : Balanced items) (tidies : T (all tidy items)) where
-  inline-within : Naming (m .kind) → (x : Cut Ref) → b .refs ≡ x .front ++ x .hit ∷ x .back → T (named (m .kind) (m .fields) (x .hit))
+module _ (m : Name) (items : List Item) (c : Cut Item) (b : Body) (H : Here m items c b) (balance : Balanced items)
+    (tidies : T (all tidy items)) where
+  inline-within : Naming (m .kind) → (x : Cut Ref) → b .refs ≡ x .front ++ x .hit ∷ x .back
+      → T (named (m .kind) (m .fields) (x .hit))
       → x .hit .weight ≤ b .total
   inline-within naming x e t =
       let g : Entry → ℕ = ofExtent (m .extent) in
@@ -221,7 +230,8 @@ module _ (m : Name) (items : List Item) (c : Cut Item) (b : Body) (H : Here m it
       let e₆ = extent-self m (some (x .hit .weight)) in
       omega arith
 
-  item-within : (k : Cut Item) → items ≡ k .front ++ k .hit ∷ k .back → (w : ℕ) → itemEntries (k .hit) ≡ only m (some w) → w ≤ b .total
+  item-within : (k : Cut Item) → items ≡ k .front ++ k .hit ∷ k .back → (w : ℕ) → itemEntries (k .hit) ≡ only m (some w)
+      → w ≤ b .total
   item-within k ek w ew =
       let g : Entry → ℕ = ofExtent (m .extent) in
       let e₁ = total-is m items c b H balance tidies in
@@ -234,11 +244,13 @@ module _ (m : Name) (items : List Item) (c : Cut Item) (b : Body) (H : Here m it
 
 module _ (items : List Item) (balance : Balanced items) (tidies : T (all tidy items))
     (most : (m : Name) (c : Cut Item) (b : Body) → Here m items c b → b .total ≤ 4294967296 * 262144) where
-  clean-onRecord : {A : Type 0} (m : Name) (next : Cut Item → Answer A) → ((c : Cut Item) (b : Body) → Here m items c b → T (clean (next c)))
+  clean-onRecord : {A : Type 0} (m : Name) (next : Cut Item → Answer A)
+      → ((c : Cut Item) (b : Body) → Here m items c b → T (clean (next c)))
       → T (clean (onRecord (m .extent) items next))
   unfolding onRecord allowed
   clean-onRecord m next f =
-      clean-bind (needed 5 (cut (recordOf (m .extent)) items)) next (clean-needed 5 (cut (recordOf (m .extent)) items) tt) (λ c e.
+      clean-bind (needed 5 (cut (recordOf (m .extent)) items)) next (clean-needed 5 (cut (recordOf (m .extent)) items) tt)
+      (λ c e.
       let (b, H) = here-of m items c balance tidies (needed-ok 5 (cut (recordOf (m .extent)) items) e) in f c b H)
 
   clean-keyedBody : (m : Name) (c : Cut Item) (b : Body) → Here m items c b → (keyed : Keyed) (amount : ℕ)
@@ -250,14 +262,16 @@ module _ (items : List Item) (balance : Balanced items) (tidies : T (all tidy it
   clean-keyedBody m c b H (Data d) (suc amount) =
       clean-onBody (c .hit .key .kind) (c .hit .bytes) b _ (H .reads) (clean-addAt b _ _ (most m c b H))
 
-  clean-keyedAdd : (nodesize : ℕ) (m : Name) (keyed : Keyed) (amount : ℕ) → T (clean (applyKeyedAdd nodesize (m .extent) keyed amount false items))
+  clean-keyedAdd : (nodesize : ℕ) (m : Name) (keyed : Keyed) (amount : ℕ)
+      → T (clean (applyKeyedAdd nodesize (m .extent) keyed amount false items))
   unfolding applyKeyedAdd allowed
   clean-keyedAdd nodesize m keyed amount =
       clean-onRecord m _ (λ c b H.
       clean-bind (keyedBody (c .hit) keyed amount false) _ (clean-keyedBody m c b H keyed amount) (λ d _.
       clean-ask (leb (length d) (length (c .hit .bytes)) || leb (length d) (inlineLimit nodesize)) 17 _ tt (λ _. tt)))
 
-  clean-sharedAdd : (nodesize : ℕ) (m : Name) (s : SharedRef) (amount : ℕ) → T (clean (applySharedAdd nodesize (m .extent) s amount false items))
+  clean-sharedAdd : (nodesize : ℕ) (m : Name) (s : SharedRef) (amount : ℕ)
+      → T (clean (applySharedAdd nodesize (m .extent) s amount false items))
   unfolding applySharedAdd sharedBody addInlineShared allowed
   clean-sharedAdd nodesize m s amount =
       clean-onRecord m _ (λ c b H.
@@ -266,11 +280,13 @@ module _ (items : List Item) (balance : Balanced items) (tidies : T (all tidy it
       clean-onBody (c .hit .key .kind) (c .hit .bytes) b _ (H .reads) (clean-addAt b _ _ (most m c b H)))) (λ d _.
       clean-ask (leb (length d) (inlineLimit nodesize)) 17 _ tt (λ _. tt)))
 
-  clean-added : (m : Name) (amount : ℕ) (answer : Answer (List Item)) → T (clean answer) → T (clean (added m amount items answer))
+  clean-added : (m : Name) (amount : ℕ) (answer : Answer (List Item)) → T (clean answer)
+      → T (clean (added m amount items answer))
   unfolding added allowed
   clean-added m amount answer t = clean-also (all (notItsOwn m) items) 9 _ tt (clean-also (leb 1 amount) 10 answer tt t)
 
-  clean-dropTree : (m : Name) (block : BlockRef) (c : Cut Item) (b : Body) → Here m items c b → T (clean (dropTreeRef block false items c))
+  clean-dropTree : (m : Name) (block : BlockRef) (c : Cut Item) (b : Body) → Here m items c b
+      → T (clean (dropTreeRef block false items c))
   unfolding dropTreeRef dropInlineTreeRef flagged deleted allowed
   clean-dropTree m block c b H =
       clean-ifAbsent _ _
@@ -296,13 +312,15 @@ module _ (items : List Item) (balance : Balanced items) (tidies : T (all tidy it
       (clean-droppedAt k _ (clean-dropKeyed (k .hit .bytes) d (count-at k e))) (λ others _.
       clean-replaced (c .hit .key) z others))))
     where
-      count-at : (k : Cut Item) → needed 5 (cut (hasKey (keyOf (c .hit .key .objectid) 178 (placeOf 178 (triple d)))) items) ≡ accepted k
+      count-at : (k : Cut Item)
+          → needed 5 (cut (hasKey (keyOf (c .hit .key .objectid) 178 (placeOf 178 (triple d)))) items) ≡ accepted k
           → 1 ≤ keyedCount (k .hit .bytes)
       count-at k e =
           let (same, key) = key-found (keyOf (c .hit .key .objectid) 178 (placeOf 178 (triple d))) items k e in
           let kind : k .hit .key .kind ≡ 178 = ap (λ (key : Key). key .kind) key in
           let g : T (good (k .hit)) = all-mid good (k .front) (k .hit) (k .back) (rw same at (balance .goods)) in
-          item-counts items balance k same (record { extent = k .hit .key .objectid; kind = 178; fields = words 3 (k .hit .bytes) })
+          item-counts items balance k same
+          (record { extent = k .hit .key .objectid; kind = 178; fields = words 3 (k .hit .bytes) })
           (keyedCount (k .hit .bytes)) (data-entry (k .hit) kind g)
 
   clean-dropShared : (extent : ℕ) (s : SharedRef) → T (sharedKind (s .kind)) → (c : Cut Item) (b : Body)
@@ -327,7 +345,8 @@ module _ (items : List Item) (balance : Balanced items) (tidies : T (all tidy it
       p : Ref → Bool
       p = named (s .kind) (one (s .parent))
 
-      reduce-at : (out : TakenOut) → takeInlineShared (c .hit .key .kind) (c .hit .bytes) s ≡ accepted out → T (clean (reduceTotal (out .bytes) (out .count)))
+      reduce-at : (out : TakenOut) → takeInlineShared (c .hit .key .kind) (c .hit .bytes) s ≡ accepted out
+          → T (clean (reduceTotal (out .bytes) (out .count)))
       reduce-at out e =
           let h₃ = ask-ok (sharedKind (s .kind)) 3 _ e in
           let h₂ = bind-ok (found (cut p (b .refs))) _ (on-body (c .hit .key .kind) (c .hit .bytes) b _ (H .reads) (h₃ .1)) in
@@ -341,12 +360,14 @@ module _ (items : List Item) (balance : Balanced items) (tidies : T (all tidy it
           (clean-reduceTotal (c .hit .key .kind) (bodyBytes b₁) b₁ (x .hit .weight) (read-bodyBytes (c .hit .key .kind) b₁ S₁)
           (inline-within m items c b H balance tidies (shared-naming (s .kind) sk) x (f .same) (f .hit)))
 
-      count-at : (k : Cut Item) → needed 5 (cut (hasKey (keyOf (c .hit .key .objectid) (s .kind) (s .parent))) items) ≡ accepted k
+      count-at : (k : Cut Item)
+          → needed 5 (cut (hasKey (keyOf (c .hit .key .objectid) (s .kind) (s .parent))) items) ≡ accepted k
           → sharedCount (k .hit) ≤ b .total
       count-at k e =
           let (same, key) = key-found (keyOf (c .hit .key .objectid) (s .kind) (s .parent)) items k e in
           let g : T (good (k .hit)) = all-mid good (k .front) (k .hit) (k .back) (rw same at (balance .goods)) in
-          let key′ : k .hit .key ≡ keyOf extent (s .kind) (s .parent) = key ∙ ap (λ (n : ℕ). keyOf n (s .kind) (s .parent)) (H .extent) in
+          let key′ : k .hit .key ≡ keyOf extent (s .kind) (s .parent) =
+          key ∙ ap (λ (n : ℕ). keyOf n (s .kind) (s .parent)) (H .extent) in
           item-within m items c b H balance tidies k same (sharedCount (k .hit))
           (keyed-entry (k .hit) extent (s .kind) (s .parent) key′ (shared-naming (s .kind) sk) (not-178 (s .kind) sk) g)
 
@@ -355,7 +376,8 @@ module _ (items : List Item) (balance : Balanced items) (tidies : T (all tidy it
   clean-changed nodesize (AddBlock extent name) t =
       let m : Name = nameOf (AddBlock extent name) in clean-added m 1 _ (clean-keyedAdd nodesize m (Block name) 1)
   clean-changed nodesize (AddData extent name amount) t =
-      let m : Name = nameOf (AddData extent name amount) in clean-added m amount _ (clean-keyedAdd nodesize m (Data name) amount)
+      let m : Name =
+      nameOf (AddData extent name amount) in clean-added m amount _ (clean-keyedAdd nodesize m (Data name) amount)
   clean-changed nodesize (AddShared extent name amount) t =
       let m : Name = nameOf (AddShared extent name amount) in clean-added m amount _ (clean-sharedAdd nodesize m name amount)
   clean-changed nodesize (DropBlock extent name) t =
@@ -367,7 +389,8 @@ module _ (items : List Item) (balance : Balanced items) (tidies : T (all tidy it
 
 -- ---- a posting
 
-pub impossible : (sheet : List ℕ) (p : Posting) → T (areBytes sheet) → T (balancedSheet sheet) → (number : ℕ) → answerTo sheet p ≡ refused number
+pub impossible : (sheet : List ℕ) (p : Posting) → T (areBytes sheet) → T (balancedSheet sheet) → (number : ℕ)
+    → answerTo sheet p ≡ refused number
     → Possible number
 unfolding answerTo posted heldSheet post onSheet allowed
 impossible sheet p b t number e =

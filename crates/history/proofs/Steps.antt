@@ -82,13 +82,15 @@ pub record Here (m : Name) (items : List Item) (c : Cut Item) (b : Body) : Type 
   pub sound : Sound (c .hit .key .kind) b
 
 -- on a balanced sheet the record that is found reads
-pub here-of : (m : Name) (items : List Item) (c : Cut Item) → Balanced items → T (all tidy items) → cut (recordOf (m .extent)) items ≡ some c
+pub here-of : (m : Name) (items : List Item) (c : Cut Item) → Balanced items → T (all tidy items)
+    → cut (recordOf (m .extent)) items ≡ some c
     → (b : Body) × Here m items c b
 here-of m items c balance tidies e =
     let f = cut-some (recordOf (m .extent)) items e in
     let h = and-yes (isRecord (c .hit)) _ (f .hit) in
     let g : T (good (c .hit)) = all-mid good (c .front) (c .hit) (c .back) (rw (f .same) at (balance .goods)) in
-    let t : T (areBytes (c .hit .bytes)) = tidy-bytes (c .hit) (all-mid tidy (c .front) (c .hit) (c .back) (rw (f .same) at tidies)) in
+    let t : T (areBytes (c .hit .bytes)) =
+    tidy-bytes (c .hit) (all-mid tidy (c .front) (c .hit) (c .back) (rw (f .same) at tidies)) in
     let (b, r) = good-reads (c .hit) (h .0) g in (
       b,
       record {
@@ -102,8 +104,10 @@ here-of m items c balance tidies e =
       },
     )
 
-pub on-record : (m : Name) (items after : List Item) (next : Cut Item → Answer (List Item)) → Balanced items → T (all tidy items)
-    → onRecord (m .extent) items next ≡ accepted after → (c : Cut Item) × (b : Body) × Here m items c b × (next c ≡ accepted after)
+pub on-record : (m : Name) (items after : List Item) (next : Cut Item → Answer (List Item)) → Balanced items
+    → T (all tidy items)
+    → onRecord (m .extent) items next ≡ accepted after
+    → (c : Cut Item) × (b : Body) × Here m items c b × (next c ≡ accepted after)
 unfolding onRecord
 on-record m items after next balance tidies e =
     let h = bind-ok (needed 5 (cut (recordOf (m .extent)) items)) next e in
@@ -118,8 +122,10 @@ unfolding onBody
 on-body type d b next r e = sym (bind-yes (readBody type d) next r) ∙ ask-ok (bodyFits d) 3 (bind (readBody type d) next) e .1
 
 -- a total moved: the references stand
-pub on-total : (type : ℕ) (d : List ℕ) (b : Body) (next : ℕ → Answer ℕ) (body : List ℕ) → T (areBytes d) → readBody type d ≡ accepted b
-    → onTotal d next ≡ accepted body → (total : ℕ) × (next (b .total) ≡ accepted total) × (bodyBytes (bodyWith b total (b .refs)) ≡ body)
+pub on-total : (type : ℕ) (d : List ℕ) (b : Body) (next : ℕ → Answer ℕ) (body : List ℕ) → T (areBytes d)
+    → readBody type d ≡ accepted b
+    → onTotal d next ≡ accepted body
+    → (total : ℕ) × (next (b .total) ≡ accepted total) × (bodyBytes (bodyWith b total (b .refs)) ≡ body)
 unfolding onTotal onHead
 on-total type d b next body t r e =
     let h₁ = ask-ok (bodyFits d) 3 _ e in
@@ -133,7 +139,8 @@ on-total type d b next body t r e =
 
 -- ---- a change inline
 
-module _ (m : Name) (items : List Item) (c : Cut Item) (b : Body) (H : Here m items c b) (balance : Balanced items) (tidies : T (all tidy items)) where
+module _ (m : Name) (items : List Item) (c : Cut Item) (b : Body) (H : Here m items c b) (balance : Balanced items)
+    (tidies : T (all tidy items)) where
   pub balanced-at : Balanced (c .front ++ c .hit ∷ c .back)
   balanced-at = rw (H .found .same) at balance
 
@@ -147,7 +154,8 @@ module _ (m : Name) (items : List Item) (c : Cut Item) (b : Body) (H : Here m it
   unfolding long
   long-at = all-map whole long (λ r t. (yes-eqb (whole-out r t .fieldsLong))) (b .refs) (H .sound .wholes)
 
-  pub inline-step : (old new : Option ℕ) (b′ : Body) → Splice m old new b b′ → T (ordered (b′ .refs)) → b′ .total + worth old ≡ b .total + worth new
+  pub inline-step : (old new : Option ℕ) (b′ : Body) → Splice m old new b b′ → T (ordered (b′ .refs))
+      → b′ .total + worth old ≡ b .total + worth new
       → Sound (c .hit .key .kind) b′ → (out given : ℕ) → worth new + out ≡ worth old + given → sum empty (only m new) ≡ 0
       → Fresh old new (sum (stands m) (entries items)) → (wipe : Bool) → (T wipe → (new ≡ none) × ((v : ℕ) × (old ≡ some v)))
       → Step m given out wipe items (putBack c (bodyBytes b′))
@@ -168,17 +176,20 @@ module _ (m : Name) (items : List Item) (c : Cut Item) (b : Body) (H : Here m it
       }
 
   -- the name stands nowhere
-  pub nowhere : T (all (λ r. not (named (m .kind) (m .fields) r)) (b .refs)) → T (all (notItsOwn m) items) → sum (stands m) (entries items) ≡ 0
+  pub nowhere : T (all (λ r. not (named (m .kind) (m .fields) r)) (b .refs)) → T (all (notItsOwn m) items)
+      → sum (stands m) (entries items) ≡ 0
   nowhere t u =
       let a : List Item = c .front in let r : Item = c .hit in let z : List Item = c .back in
       let lo : records (r .key .objectid) (a ++ r ∷ z) ≡ 1 =
       eqb→eq _ 1 (imp-out (isRecord r || isRefItem r) _ (all-mid (paired (a ++ r ∷ z)) a r z (balanced-at .pairs)) (rw (T-eq (isRecord r) (H .isRec)) tt)) in
       let l : T (all (λ i. not (recordOf (r .key .objectid) i)) (a ++ z)) = lone a r z (H .isRec) lo in
-      let l′ : T (all (λ i. not (recordOf (m .extent) i)) (a ++ z)) = subst (λ (x : ℕ). T (all (λ i. not (recordOf x i)) (a ++ z))) (H .extent) l in
+      let l′ : T (all (λ i. not (recordOf (m .extent) i)) (a ++ z)) =
+      subst (λ (x : ℕ). T (all (λ i. not (recordOf x i)) (a ++ z))) (H .extent) l in
       let u′ : T (all (notItsOwn m) (a ++ z)) = all-rest (notItsOwn m) a r z (rw (H .found .same) at u) in
       let e₁ = rest-none m (a ++ z) l′ u′ in
       let e₂ : sum (stands m) (itemEntries r) ≡ 0 =
-      ap (sum (stands m)) (record-entries r b (H .view) ∙ ap (λ (x : ℕ). refEntries x (b .refs)) (H .extent)) ∙ refs-none m (b .refs) t in
+      ap (sum (stands m)) (record-entries r b (H .view) ∙ ap (λ (x : ℕ). refEntries x (b .refs)) (H .extent))
+      ∙ refs-none m (b .refs) t in
       let e₃ = sum-mid (stands m) a r z in
       let e₄ = sum-two (stands m) a z in
       ap (λ (l : List Item). sum (stands m) (entries l)) (H .found .same) ∙ omega arith
