@@ -21,7 +21,7 @@ use Rattle.format.specs.declared.SharedRef.{SharedRef}
 use Rattle.format.specs.declared.Key.{Key}
 use Rattle.format.specs.declared.Change.the-variants.{DropBlock, DropData, DropShared}
 use Rattle.format.specs.Questions.{Answer, absent, remove, accepted, ask, bind, needed, found, TakenOut}
-use Rattle.format.specs.References.{Ref, Body, bodyWith, bodyBytes, placeOf, place}
+use Rattle.format.specs.References.{Ref, Body, bodyWith, readBody, bodyBytes, placeOf, place}
 use Rattle.format.specs.Bodies.{named, one, triple, weighed, bodyFits, sharedKind, loweredByOne, reducedBy, lowerTotal, reduceTotal, less, dropInline, dropInlineTreeRef, dropInlineDataRef, takeInlineShared, keyedCount, dropKeyedDataRef}
 use Rattle.format.specs.Items.{Item, keyOf, withBytes, putBack, without}
 use Rattle.format.specs.Sheets.{hasKey, deleted}
@@ -78,6 +78,26 @@ module _ (m : Name) (nameOk : NameOk m) (items : List Item) (c : Cut Item) (b : 
           let l : x .hit .weight ≤ 1 = nltb→le 1 (x .hit .weight) (subst (λ (z : Bool). T (not z)) (sym q) tt) in
           let l′ = weight-at m (nameOk .naming) items c b H balance tidies x (f .same) (f .hit) in
           inline-gone m (nameOk .naming) items c b H balance tidies x (f .same) (f .hit) 1 (omega arith) (omega arith) false
+
+-- a shared reference taken out: which one, and what is left
+abbrev pub outOf : Body → Cut Ref → TakenOut
+outOf b x = record { bytes = bodyBytes (bodyWith b (b .total) (x .front ++ x .back)); count = x .hit .weight }
+
+pub shared-found : (type : ℕ) (d : List ℕ) (b : Body) (s : SharedRef) (out : TakenOut) → readBody type d ≡ accepted b
+    → takeInlineShared type d s ≡ accepted out
+    → (x : Cut Ref) × Found (named (s .kind) (one (s .parent))) (b .refs) x × (outOf b x ≡ out)
+unfolding takeInlineShared
+shared-found type d b s out r e =
+    let p : Ref → Bool = named (s .kind) (one (s .parent)) in
+    let h₃ = ask-ok (sharedKind (s .kind)) 3 _ e in
+    let h = bind-ok (found (cut p (b .refs))) _ (on-body type d b _ r (h₃ .1)) in
+    (h .0, cut-some p (b .refs) (found-ok (cut p (b .refs)) (h .1)), accepted-inj (h .2))
+
+pub sound-without : (type : ℕ) (b : Body) (p : Ref → Bool) (x : Cut Ref) → Sound type b → Found p (b .refs) x
+    → Sound type (bodyWith b (b .total) (x .front ++ x .back))
+sound-without type b p x s f =
+    sound-with type b (b .total) (x .front ++ x .back) s (s .fits)
+    (all-rest whole (x .front) (x .hit) (x .back) (rw (f .same) at (s .wholes)))
 
 -- the item of a key
 pub key-found : (key : Key) (items : List Item) (k : Cut Item) → needed 5 (cut (hasKey key) items) ≡ accepted k
@@ -323,7 +343,7 @@ pub drop-shared : (extent : ℕ) (name : SharedRef) (items after : List Item) �
     → NameOk (nameOf (DropShared extent name))
     → Balanced items → T (all tidy items) → onRecord extent items (dropSharedRef name items) ≡ accepted after
     → (n : ℕ) × Step (nameOf (DropShared extent name)) 0 n true items after
-unfolding dropSharedRef takeInlineShared reduceTotal
+unfolding dropSharedRef reduceTotal
 drop-shared extent name items after sk nameOk balance tidies e =
     let (c, b, H, e₁) = on-record m items after _ balance tidies e in
     go c b H (ifAbsent-ok (inline c) (item c) e₁)
@@ -341,32 +361,34 @@ drop-shared extent name items after sk nameOk balance tidies e =
         bind (needed 5 (cut (hasKey (keyOf (c .hit .key .objectid) (name .kind) (name .parent))) items)) (λ k.
         bind (reduceTotal (c .hit .bytes) (sharedCount (k .hit))) (λ body. replaced (c .hit .key) body (without k)))
 
+    taken : (c : Cut Item) (b : Body) → Here m items c b → (x : Cut Ref)
+        → Found (named (name .kind) (one (name .parent))) (b .refs) x
+        → (out : TakenOut) → outOf b x ≡ out → (body : List ℕ) → reduceTotal (out .bytes) (out .count) ≡ accepted body
+        → putBack c body ≡ after → (n : ℕ) × Step m 0 n true items after
+    taken c b H x f out o body e last =
+        let w : ℕ = x .hit .weight in
+        let type : ℕ = c .hit .key .kind in
+        let b₁ : Body = bodyWith b (b .total) (x .front ++ x .back) in
+        let S₁ : Sound type b₁ = sound-without type b (named (name .kind) (one (name .parent))) x (H .sound) f in
+        let e₁ : reduceTotal (bodyBytes b₁) w ≡ accepted body =
+        ap (λ (z : TakenOut). reduceTotal (z .bytes) (z .count)) o ∙ e in
+        let (t, te, be) = on-total type (bodyBytes b₁) b₁ (reducedBy w) body (areBytes-bodyBytes type b₁ S₁)
+        (read-bodyBytes type b₁ S₁) e₁ in
+        let (within, tt′) = reduced-out w (b .total) t te in (
+          w,
+          subst (Step m 0 w true items)
+              (ap (putBack c) (ap (λ (n : ℕ). bodyBytes (bodyWith b n (x .front ++ x .back))) tt′ ∙ be) ∙ last)
+              (inline-gone m (nameOk .naming) items c b H balance tidies x (f .same) (f .hit) w refl within true),
+        )
+
     go : (c : Cut Item) (b : Body) → Here m items c b
         → (inline c ≡ accepted after) ⊎ ((inline c ≡ absent) × (item c ≡ accepted after))
         → (n : ℕ) × Step m 0 n true items after
     go c b H (inl e) =
         let h₁ = bind-ok (takeInlineShared (c .hit .key .kind) (c .hit .bytes) name) _ e in
-        let h₃ = ask-ok (sharedKind (name .kind)) 3 _ (h₁ .1) in
-        let p : Ref → Bool = named (name .kind) (one (name .parent)) in
-        let h₂ = bind-ok (found (cut p (b .refs))) _ (on-body (c .hit .key .kind) (c .hit .bytes) b _ (H .reads) (h₃ .1)) in
-        let x : Cut Ref = h₂ .0 in
-        let f = cut-some p (b .refs) (found-ok (cut p (b .refs)) (h₂ .1)) in
-        let w : ℕ = x .hit .weight in
-        let b₁ : Body = bodyWith b (b .total) (x .front ++ x .back) in
-        let h₄ = bind-ok (reduceTotal (h₁ .0 .bytes) (h₁ .0 .count)) _ (h₁ .2) in
-        let e₄ : reduceTotal (bodyBytes b₁) w ≡ accepted (h₄ .0) =
-        ap (λ (o : TakenOut). reduceTotal (o .bytes) (o .count)) (accepted-inj (h₂ .2)) ∙ h₄ .1 in
-        let S₁ : Sound (c .hit .key .kind) b₁ =
-        sound-with (c .hit .key .kind) b (b .total) (x .front ++ x .back) (H .sound) (H .sound .fits)
-        (all-rest whole (x .front) (x .hit) (x .back) (rw (f .same) at (H .sound .wholes))) in
-        let (t, te, be) = on-total (c .hit .key .kind) (bodyBytes b₁) b₁ (reducedBy w) (h₄ .0)
-        (areBytes-bodyBytes (c .hit .key .kind) b₁ S₁) (read-bodyBytes (c .hit .key .kind) b₁ S₁) e₄ in
-        let (within, tt′) = reduced-out w (b .total) t te in (
-          w,
-          subst (Step m 0 w true items)
-              (ap (putBack c) (ap (λ (n : ℕ). bodyBytes (bodyWith b n (x .front ++ x .back))) tt′ ∙ be) ∙ accepted-inj (h₄ .2))
-              (inline-gone m (nameOk .naming) items c b H balance tidies x (f .same) (f .hit) w refl within true),
-        )
+        let h₂ = bind-ok (reduceTotal (h₁ .0 .bytes) (h₁ .0 .count)) _ (h₁ .2) in
+        let (x, f, o) = shared-found (c .hit .key .kind) (c .hit .bytes) b name (h₁ .0) (H .reads) (h₁ .1) in
+        taken c b H x f (h₁ .0) o (h₂ .0) (h₂ .1) (accepted-inj (h₂ .2))
     go c b H (inr (_, e)) =
         let key₀ : Key = keyOf (c .hit .key .objectid) (name .kind) (name .parent) in
         let h₁ = bind-ok (needed 5 (cut (hasKey key₀) items)) _ e in

@@ -13,7 +13,7 @@ use mir.Facts.{and-yes}
 use Rattle.fields.specs.Lists.{sum, all, same, Cut, cut}
 use Rattle.fields.specs.Numbers.{leBytes, words, areBytes}
 use Rattle.fields.specs.Parts.{written}
-use Rattle.fields.proofs.Lists.{all-map, all-mid, all-rest, cut-some}
+use Rattle.fields.proofs.Lists.{all-map, all-mid}
 use Rattle.format.specs.declared.BlockRef.{BlockRef}
 use Rattle.format.specs.declared.DataRef.{DataRef}
 use Rattle.format.specs.declared.SharedRef.{SharedRef}
@@ -31,18 +31,17 @@ use Rattle.format.specs.Apply.{inlineLimit, recordOf, onRecord, replaced, keyed
 use Rattle.format.specs.Names.{Name, Entry, refEntries, itemEntries, entries, good, ofExtent, balanced}
 use Rattle.format.specs.Ledger.{nameOf, notItsOwn, kindFits, added, droppedAt, dropDataRef, sharedCount, dropSharedRef, changed, post, posted}
 use Rattle.format.specs.History.{Posting, answerTo, balancedSheet}
-use Rattle.format.proofs.Answers.{ask-ok, bind-ok, bind-yes, needed-ok, found-ok, accepted-inj}
-use Rattle.format.proofs.Refs.{whole}
-use Rattle.format.proofs.Bodies.{Sound, sound-with, read-bodyBytes, read-long, read-total}
+use Rattle.format.proofs.Answers.{bind-yes, needed-ok}
+use Rattle.format.proofs.Bodies.{Sound, read-bodyBytes, read-long, read-total}
 use Rattle.format.proofs.Items.{sane, sheet-sane}
 use Rattle.history.proofs.Sums.{sum-mid, sum-refs}
 use Rattle.history.proofs.Naming.{Naming, not-172, shared-naming}
 use Rattle.history.proofs.Order.{named-yes}
 use Rattle.history.proofs.Edit.{only, Balanced, balanced-out, extent-self, record-entries}
 use Rattle.history.proofs.Facts.{named-entries, data-entry}
-use Rattle.history.proofs.Steps.{tidy, Here, here-of, on-body}
+use Rattle.history.proofs.Steps.{tidy, Here, here-of}
 use Rattle.history.proofs.Drops.{item-counts}
-use Rattle.history.proofs.DropCalls.{key-found, keyed-entry, not-178}
+use Rattle.history.proofs.DropCalls.{shared-found, sound-without, key-found, keyed-entry, not-178}
 use Rattle.history.proofs.Bounds.{total-is, total-bound}
 use Rattle.history.proofs.Demand.{sane-tidy, on-of}
 
@@ -348,16 +347,12 @@ module _ (items : List Item) (balance : Balanced items) (tidies : T (all tidy it
       reduce-at : (out : TakenOut) → takeInlineShared (c .hit .key .kind) (c .hit .bytes) s ≡ accepted out
           → T (clean (reduceTotal (out .bytes) (out .count)))
       reduce-at out e =
-          let h₃ = ask-ok (sharedKind (s .kind)) 3 _ e in
-          let h₂ = bind-ok (found (cut p (b .refs))) _ (on-body (c .hit .key .kind) (c .hit .bytes) b _ (H .reads) (h₃ .1)) in
-          let x : Cut Ref = h₂ .0 in
-          let f = cut-some p (b .refs) (found-ok (cut p (b .refs)) (h₂ .1)) in
+          let type : ℕ = c .hit .key .kind in
+          let (x, f, o) = shared-found type (c .hit .bytes) b s out (H .reads) e in
           let b₁ : Body = bodyWith b (b .total) (x .front ++ x .back) in
-          let S₁ : Sound (c .hit .key .kind) b₁ =
-          sound-with (c .hit .key .kind) b (b .total) (x .front ++ x .back) (H .sound) (H .sound .fits)
-          (all-rest whole (x .front) (x .hit) (x .back) (rw (f .same) at (H .sound .wholes))) in
-          subst (λ (o : TakenOut). T (clean (reduceTotal (o .bytes) (o .count)))) (accepted-inj (h₂ .2))
-          (clean-reduceTotal (c .hit .key .kind) (bodyBytes b₁) b₁ (x .hit .weight) (read-bodyBytes (c .hit .key .kind) b₁ S₁)
+          let S₁ : Sound type b₁ = sound-without type b (named (s .kind) (one (s .parent))) x (H .sound) f in
+          subst (λ (z : TakenOut). T (clean (reduceTotal (z .bytes) (z .count)))) o
+          (clean-reduceTotal type (bodyBytes b₁) b₁ (x .hit .weight) (read-bodyBytes type b₁ S₁)
           (inline-within m items c b H balance tidies (shared-naming (s .kind) sk) x (f .same) (f .hit)))
 
       count-at : (k : Cut Item)
