@@ -35,7 +35,7 @@ sound-with type b total refs s h t = record { fits = h; starts = s .starts; fixe
 
 -- ---- where the references start
 
-start-cases : (c : Bool) → 24 ≤ cond c 42 24
+pub start-cases : (c : Bool) → 24 ≤ cond c 42 24
 start-cases true = omega arith
 start-cases false = omega arith
 
@@ -50,7 +50,7 @@ pub fixed-long : (type : ℕ) (b : Body) → Sound type b → 16 ≤ length (b .
 fixed-long type b s = omega (arith, startFixed-least type (b .fixed), s .starts)
 
 -- eight bytes at 16, in front of anything, are eight bytes at 8 of what follows the first eight
-part-after : (first l more : List ℕ) → length first ≡ 8 → 16 ≤ length l → part 16 8 (first ++ (l ++ more)) ≡ part 8 8 l
+pub part-after : (first l more : List ℕ) → length first ≡ 8 → 16 ≤ length l → part 16 8 (first ++ (l ++ more)) ≡ part 8 8 l
 part-after first l more e h =
     ap (take 8) (sym (drop-drop 8 8 (first ++ (l ++ more))) ∙ ap (drop 8) (drop-at first (l ++ more) 8 e) ∙ drop-append-le 8 l more (omega arith))
     ∙ take-append-le 8 (drop 8 l) more (omega (arith, length-drop 8 l))

@@ -222,13 +222,13 @@ readItems-count (suc n) (b ∷ l) items e =
 
 -- ---- written and read back
 
-beBytes-one : (n : ℕ) → n < 256 → beBytes 1 n ≡ n ∷ []
+pub beBytes-one : (n : ℕ) → n < 256 → beBytes 1 n ≡ n ∷ []
 unfolding beBytes leBytes
 beBytes-one n h = let e : n % 256 ≡ n = omega arith in ap (λ (k : ℕ). k ∷ []) e
 
 module _ (i : Item) (more : List ℕ) where
   -- the fields of an item's bytes, one after the other
-  itemBytes-parts : itemBytes i ++ more
+  pub itemBytes-parts : itemBytes i ++ more
       ≡ beBytes 4 (17 + length (i .bytes))
       ++ (beBytes 8 (i .key .objectid) ++ (beBytes 1 (i .key .kind) ++ (beBytes 8 (i .key .offset) ++ (i .bytes ++ more))))
   unfolding itemBytes keyBytes
@@ -255,7 +255,7 @@ module _ (i : Item) (more : List ℕ) where
       sym (drop-drop 1 12 (itemBytes i ++ more)) ∙ ap (drop 1) back-12
       ∙ drop-at (beBytes 1 (i .key .kind)) _ 1 (length-beBytes 1 (i .key .kind))
 
-  back-21 : drop 21 (itemBytes i ++ more) ≡ i .bytes ++ more
+  pub back-21 : drop 21 (itemBytes i ++ more) ≡ i .bytes ++ more
   back-21 =
       sym (drop-drop 8 13 (itemBytes i ++ more)) ∙ ap (drop 8) back-13
       ∙ drop-at (beBytes 8 (i .key .offset)) (i .bytes ++ more) 8 (length-beBytes 8 (i .key .offset))
@@ -326,12 +326,12 @@ read-sheetBytes items t r h n =
 
 -- ---- what is read is sane
 
-getD-small : (l : List ℕ) (n : ℕ) → T (areBytes l) → getD l n 0 < 256
+pub getD-small : (l : List ℕ) (n : ℕ) → T (areBytes l) → getD l n 0 < 256
 getD-small [] n t = omega arith
 getD-small (b ∷ l) zero t = ltb→lt b 256 (and-yes (ltb b 256) _ t .0)
 getD-small (b ∷ l) (suc n) t = getD-small l n (and-yes (ltb b 256) _ t .1)
 
-be-part : (at : ℕ) (l : List ℕ) → T (areBytes l) → at + 8 ≤ length l → be (part at 8 l) < 18446744073709551616
+pub be-part : (at : ℕ) (l : List ℕ) → T (areBytes l) → at + 8 ≤ length l → be (part at 8 l) < 18446744073709551616
 be-part at l t h =
     let e : length (part at 8 l) ≡ 8 = length-part 8 at l h in
     rw e at (be-bound (part at 8 l) (areBytes-part at 8 l t))

@@ -68,7 +68,7 @@ below-in a b (inr (e, inr (f, h))) =
     (yes-and (eqb (a .objectid) (b .objectid)) _ (yes-eqb e)
     (or-right (ltb (a .kind) (b .kind)) _ (yes-and (eqb (a .kind) (b .kind)) _ (yes-eqb f) (lt→ltb _ _ h))))
 
-before-trans : (a b c : Key) → Before a b → Before b c → Before a c
+pub before-trans : (a b c : Key) → Before a b → Before b c → Before a c
 before-trans a b c (inl h) (inl k) = inl (omega arith)
 before-trans a b c (inl h) (inr (e, k)) = inl (omega arith)
 before-trans a b c (inr (e, h)) (inl k) = inl (omega arith)
@@ -80,7 +80,7 @@ before-trans a b c (inr (e, inr (g, h))) (inr (f, inr (l, k))) = inr (e ∙ f, i
 pub below-trans : (a b c : Key) → T (keyBelow a b) → T (keyBelow b c) → T (keyBelow a c)
 below-trans a b c s t = below-in a c (before-trans a b c (below-out a b s) (below-out b c t))
 
-before-irrefl : (a : Key) → Before a a → ⊥
+pub before-irrefl : (a : Key) → Before a a → ⊥
 before-irrefl a (inl h) = absurd (omega arith)
 before-irrefl a (inr (e, inl h)) = absurd (omega arith)
 before-irrefl a (inr (e, inr (f, h))) = absurd (omega arith)
@@ -169,7 +169,7 @@ rising-put (w ∷ v ∷ a) x b t s h =
     let k = and-yes (keyBelow (w .key) (v .key)) _ t in
     yes-and (keyBelow (w .key) (v .key)) _ (k .0) (rising-put (v ∷ a) x b (k .1) (and-yes (keyBelow (w .key) (x .key)) _ s .1) h)
 
-above-drop : (w x : Item) (b : List Item) → T (keyBelow (w .key) (x .key)) → T (above x b) → T (above w b)
+pub above-drop : (w x : Item) (b : List Item) → T (keyBelow (w .key) (x .key)) → T (above x b) → T (above w b)
 above-drop w x [] h k = tt
 above-drop w x (y ∷ b) h k = below-trans (w .key) (x .key) (y .key) h k
 
@@ -182,7 +182,7 @@ rising-drop (w ∷ []) x b t =
 rising-drop (w ∷ v ∷ a) x b t =
     let h = and-yes (keyBelow (w .key) (v .key)) _ t in yes-and (keyBelow (w .key) (v .key)) _ (h .0) (rising-drop (v ∷ a) x b (h .1))
 
-above-swap : (x : Item) (bytes : List ℕ) (b : List Item) → T (above x b) → T (above (withBytes x bytes) b)
+pub above-swap : (x : Item) (bytes : List ℕ) (b : List Item) → T (above x b) → T (above (withBytes x bytes) b)
 above-swap x bytes [] h = tt
 above-swap x bytes (y ∷ b) h = h
 

@@ -88,7 +88,7 @@ weightOf-fixed k n m t = cond-no (counted k) n _ t ∙ sym (cond-no (counted k) 
 abbrev pub countBytes : Ref → List ℕ
 countBytes r = cond (counted (r .kind)) (leBytes 4 (r .weight)) []
 
-length-countBytes : (r : Ref) → length (countBytes r) ≡ cond (counted (r .kind)) 4 0
+pub length-countBytes : (r : Ref) → length (countBytes r) ≡ cond (counted (r .kind)) 4 0
 length-countBytes r = go (counted (r .kind))
   where
     go : (b : Bool) → length (cond b (leBytes 4 (r .weight)) []) ≡ cond b 4 0
@@ -120,7 +120,7 @@ pub refsBytes-cons : (r : Ref) (refs : List Ref)
 unfolding refsBytes refBytes
 refsBytes-cons r refs = ap (λ (l : List ℕ). r .kind ∷ l) (append-assoc (wordBytes (r .fields)) (countBytes r) (refsBytes refs))
 
-areBytes-countBytes : (c : Bool) (n : ℕ) → T (areBytes (cond c (leBytes 4 n) []))
+pub areBytes-countBytes : (c : Bool) (n : ℕ) → T (areBytes (cond c (leBytes 4 n) []))
 areBytes-countBytes true n = areBytes-leBytes 4 n
 areBytes-countBytes false n = tt
 
@@ -289,10 +289,10 @@ read-refsBytes (suc n) (r ∷ refs) t h =
 -- ---- read and written again
 
 -- the bytes of the fields, and of the count where there is one, are inside the payload
-fields-inside : (kind : ℕ) (l : List ℕ) → T (known kind) → payloadLength kind ≤ length l → 8 * fieldCount kind ≤ length l
+pub fields-inside : (kind : ℕ) (l : List ℕ) → T (known kind) → payloadLength kind ≤ length l → 8 * fieldCount kind ≤ length l
 fields-inside kind l t h = omega (arith, payload-fields kind t)
 
-count-inside : (kind : ℕ) (l : List ℕ) → T (known kind) → T (counted kind) → payloadLength kind ≤ length l
+pub count-inside : (kind : ℕ) (l : List ℕ) → T (known kind) → T (counted kind) → payloadLength kind ≤ length l
     → countPosition kind + 4 ≤ length l
 count-inside kind l t c h =
     let e : _≡_ {A = ℕ} (cond (counted kind) 4 0) 4 = cond-yes (counted kind) 4 0 c in
@@ -328,7 +328,7 @@ readRefs-whole (suc n) (kind ∷ l) refs t e =
     (yes-and (whole (refAt kind l)) _ (refAt-whole kind l (b .1) (h₁ .0) (leb→le _ _ (h₂ .0))) ih)
 
 -- the count's bytes and what follows the payload are what follows the fields
-count-again : (kind : ℕ) (l : List ℕ) → T (areBytes l) → T (known kind) → payloadLength kind ≤ length l
+pub count-again : (kind : ℕ) (l : List ℕ) → T (areBytes l) → T (known kind) → payloadLength kind ≤ length l
     → T (counted kind) ⊎ T (not (counted kind))
     → countBytes (refAt kind l) ++ drop (payloadLength kind) l ≡ drop (8 * fieldCount kind) l
 unfolding refAt

@@ -17,7 +17,7 @@ use Rattle.format.specs.Items.{Item, withBytes, keyBytes, itemBytes, ite
 use Rattle.format.proofs.Rows.{count-after-fields}
 use Rattle.format.proofs.Refs.{whole, whole-out, countBytes, refsBytes-append, refsBytes-cons}
 use Rattle.format.proofs.Bodies.{bodyBytes-grouped, set-total}
-use Rattle.format.proofs.Items.{length-keyBytes, length-itemBytes, itemsBytes-append}
+use Rattle.format.proofs.Items.{back-21, length-keyBytes, length-itemBytes, itemsBytes-append}
 
 -- ---- bytes
 
@@ -76,11 +76,11 @@ pub sheet-from : (front back : List Item) → drop (itemAt front) (sheetBytes (f
 unfolding sheetBytes
 sheet-from front back = drop-list itemsBytes itemsBytes-append (1 ∷ []) front back (itemAt front) (omega arith)
 
-sheet-join : (front : List Item) (i : Item) (back : List Item) → sheetBytes (front ++ i ∷ back) ≡ sheetBytes front ++ (itemBytes i ++ itemsBytes back)
+pub sheet-join : (front : List Item) (i : Item) (back : List Item) → sheetBytes (front ++ i ∷ back) ≡ sheetBytes front ++ (itemBytes i ++ itemsBytes back)
 unfolding sheetBytes itemsBytes
 sheet-join front i back = ap (λ (l : List ℕ). 1 ∷ l) (itemsBytes-append front (i ∷ back))
 
-item-ends : (front : List Item) (i : Item) → itemAt front + length (itemsBytes (i ∷ [])) ≡ itemEnd front i
+pub item-ends : (front : List Item) (i : Item) → itemAt front + length (itemsBytes (i ∷ [])) ≡ itemEnd front i
 item-ends front i = omega (arith, ap length (itemsBytes-one i), length-itemBytes i)
 
 -- another item in its place
@@ -114,7 +114,7 @@ sheet-put items front new back e =
 -- ---- an item's data, 21 bytes on
 
 -- length and key, then the data
-itemBytes-head : (i : Item) (more : List ℕ) → itemBytes i ++ more ≡ (beBytes 4 (17 + length (i .bytes)) ++ keyBytes (i .key)) ++ (i .bytes ++ more)
+pub itemBytes-head : (i : Item) (more : List ℕ) → itemBytes i ++ more ≡ (beBytes 4 (17 + length (i .bytes)) ++ keyBytes (i .key)) ++ (i .bytes ++ more)
 unfolding itemBytes
 itemBytes-head i more =
     let n : List ℕ = beBytes 4 (17 + length (i .bytes)) in
@@ -122,13 +122,11 @@ itemBytes-head i more =
     append-assoc n (k ++ i .bytes) more ∙ ap (λ (l : List ℕ). n ++ l) (append-assoc k (i .bytes) more)
     ∙ sym (append-assoc n k (i .bytes ++ more))
 
-length-head : (n : ℕ) (i : Item) → length (beBytes 4 n ++ keyBytes (i .key)) ≡ 21
+pub length-head : (n : ℕ) (i : Item) → length (beBytes 4 n ++ keyBytes (i .key)) ≡ 21
 length-head n i = length-append (beBytes 4 n) (keyBytes (i .key)) ∙ omega (arith, length-beBytes 4 n, length-keyBytes (i .key))
 
 pub data-at : (i : Item) (more : List ℕ) → drop 21 (itemBytes i ++ more) ≡ i .bytes ++ more
-data-at i more =
-    ap (drop 21) (itemBytes-head i more)
-    ∙ drop-at (beBytes 4 (17 + length (i .bytes)) ++ keyBytes (i .key)) (i .bytes ++ more) 21 (length-head (17 + length (i .bytes)) i)
+data-at i more = back-21 i more
 
 -- "the part of the sheet that is its data"
 pub sheet-data : (items front : List Item) (i : Item) (back : List Item) → items ≡ front ++ i ∷ back
@@ -172,7 +170,7 @@ refsBytes-one r = append-nil (refBytes r)
 abbrev pub refPlace : Body → List Ref → ℕ
 refPlace b front = 8 + length (b .fixed) + length (refsBytes front)
 
-before-refs : (b : Body) (t : ℕ) → length (leBytes 8 t ++ b .fixed) ≡ 8 + length (b .fixed)
+pub before-refs : (b : Body) (t : ℕ) → length (leBytes 8 t ++ b .fixed) ≡ 8 + length (b .fixed)
 before-refs b t = length-append (leBytes 8 t) (b .fixed) ∙ ap (λ (n : ℕ). n + length (b .fixed)) (length-leBytes 8 t)
 
 pub body-splice : (b : Body) (t : ℕ) (front old new back : List Ref) (p q : ℕ) → refPlace b front ≡ p → p + length (refsBytes old) ≡ q
@@ -213,11 +211,11 @@ body-edit-after b t front old new back p q e at to =
 
 -- ---- a reference's count is a write of 4 bytes
 
-weighed-count : (r : Ref) (w : ℕ) → T (counted (r .kind)) → countBytes (weighed r w) ≡ leBytes 4 w
+pub weighed-count : (r : Ref) (w : ℕ) → T (counted (r .kind)) → countBytes (weighed r w) ≡ leBytes 4 w
 weighed-count r w c = cond-yes (counted (r .kind)) (leBytes 4 w) [] c
 
 -- type and fields, then the count and what follows
-weighed-bytes : (r : Ref) (w : ℕ) (back : List Ref) → T (counted (r .kind))
+pub weighed-bytes : (r : Ref) (w : ℕ) (back : List Ref) → T (counted (r .kind))
     → refsBytes (weighed r w ∷ back) ≡ (r .kind ∷ wordBytes (r .fields)) ++ (leBytes 4 w ++ refsBytes back)
 weighed-bytes r w back c =
     refsBytes-cons (weighed r w) back
