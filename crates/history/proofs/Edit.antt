@@ -254,7 +254,8 @@ splice-sums m old new b b′ s g =
     let e₄ = ap (sum g) (s .entering) in
     omega arith
 
--- what holds of the list js that comes before the record's turn: is itself, or is with a reference item of the extent x removed or changed
+-- what holds of a list before the record's turn: the items themselves, or the items with a reference item of the extent x gone or
+-- changed. Its totals are still held to the entries of the items
 pub record Half (x : ℕ) (items js : List Item) : Type 0 where
   pub recorded : (y : ℕ) → records y js ≡ records y items
   pub others : (y : ℕ) → y ≢ x → itemsOf y js ≡ itemsOf y items
@@ -333,11 +334,6 @@ module _ (m : Name) (old new : Option ℕ) (a : List Item) (r : Item) (c : List 
       (let k₁ = record-total r b was in let k₂ = record-total (withBytes r d) b′ now in omega arith) inline-sums
 
 -- ---- a change of an item: the item k of the extent goes, or has another body; then the record's total moves
-
--- an item of another type is no record
-pub not-rec : (k : Item) (n : ℕ) → k .key .kind ≡ n → T (not (eqb n 168 || eqb n 169)) → T (not (isRecord k))
-unfolding isRecord
-not-rec k n e t = rw e t
 
 pub half-drop : (x : ℕ) (a : List Item) (k : Item) (c : List Item) → Balanced (a ++ k ∷ c) → T (not (isRecord k))
     → k .key .objectid ≡ x → Half x (a ++ k ∷ c) (a ++ c)
