@@ -1,0 +1,13 @@
+pub mod Sums
+pub mod Naming
+pub mod Order
+pub mod Edit
+pub mod Facts
+pub mod Steps
+pub mod Adds
+pub mod Drops
+pub mod DropCalls
+pub mod Decided
+pub mod Demand
+pub mod Bounds
+pub mod Impossible
