@@ -8,7 +8,7 @@ use Prim.Native.Nat.{ℕ, zero, suc, _+_}
 use lib.Dec.{T}
 use Rattle.fields.specs.Lists.{same}
 use Rattle.fields.specs.Numbers.{le, leBytes, be, beBytes, words, wordBytes}
-use Rattle.crc32c.specs.Register.{step, steps, byteStep} 
+use Rattle.crc32c.specs.Register.{step, steps, byteStep}
 use Rattle.crc32c.specs.Register.{run as crcRun}
 use Rattle.format.specs.declared.Change.{Change}
 use Rattle.format.specs.declared.Change.the-variants.{AddBlock, AddData, AddShared, DropBlock, DropData, DropShared}

@@ -228,8 +228,7 @@ module _ (i : Item) (d : DataRef) (kind : i .key .kind ≡ 178) (offset : i .key
   again-count : keyedCount (written 24 (leBytes 4 v) (i .bytes)) ≡ v
   unfolding keyedCount
   again-count =
-      ap (λ (n : ℕ). le (part 24 n (written 24 (leBytes 4 v) (i .bytes)))) (sym (length-leBytes 4 v))
-      ∙ ap le (part-written 24 (leBytes 4 v) (i .bytes) (omega arith)) ∙ le-leBytes 4 v fits
+      ap le (part-written 24 4 (leBytes 4 v) (i .bytes) (length-leBytes 4 v) (omega arith)) ∙ le-leBytes 4 v fits
 
   again-good : T (good (withBytes i (written 24 (leBytes 4 v) (i .bytes))))
   unfolding place
