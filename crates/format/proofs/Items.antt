@@ -222,7 +222,7 @@ readItems-count (suc n) (b ∷ l) items e =
 
 -- ---- written and read back
 
-beBytes-one : (n : ℕ) → n < 256 → beBytes 1 n ≡ n ∷ []
+pub beBytes-one : (n : ℕ) → n < 256 → beBytes 1 n ≡ n ∷ []
 unfolding beBytes leBytes
 beBytes-one n h = let e : n % 256 ≡ n = omega arith in ap (λ (k : ℕ). k ∷ []) e
 

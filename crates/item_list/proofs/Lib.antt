@@ -1,3 +1,5 @@
 pub mod Steps
 pub mod Reading
 pub mod Walks
+pub mod Places
+pub mod Writes

@@ -1,4 +1,4 @@
--- The pass of questions 1 and 2, on plain values, and what an accepted item list is. Assumes nothing.
+-- The pass of questions 1 and 2, on plain values. Assumes nothing.
 use mathlib.Core.Path.{_≡_, refl, sym, ap, _∙_, subst}
 use mathlib.Core.Bool.{Bool, true, false, _&&_, cond}
 use mathlib.Core.List.{List, [], _∷_}
@@ -7,12 +7,11 @@ use native.Mathlib.Numerals.{add-one}
 use native.Mathlib.Omega.{arith}
 use lib.Dec.{T, leb, eqb}
 use lib.ListN.{length, drop, getD}
-use mir.Facts.{and-yes, leb-yes, eqb-yes}
 use borrow.Author.Tests.{le-leb, lt-leb, eq-eqb, ne-eqb}
 use Rattle.format.specs.declared.Key.{Key}
 use Rattle.format.specs.Questions.{Answer, refused, absent, remove, accepted, ask, bind}
 use Rattle.format.specs.Items.{Item, keyBelow, above, rising, readItems, readSheet}
-use Rattle.format.proofs.Answers.{refused-not, absent-not, remove-not, accepted-inj, ask-ok, bind-ok}
+use Rattle.format.proofs.Answers.{refused-not, absent-not, remove-not}
 use Rattle.item_list.specs.declared.Step.{Step}
 use Rattle.item_list.specs.declared.Step.the-variants.{Whole, Broken, End}
 use Rattle.item_list.specs.declared.Checked.{Checked}
@@ -127,33 +126,6 @@ pub sheet-read : (s : List ℕ) → 1 ≤ length s → length s ≤ 262144 → g
 unfolding readSheet ask
 sheet-read [] a b v = absurd (omega arith)
 sheet-read (x ∷ s) a b v = rw (eq-eqb x 1 v, le-leb (1 + length s) 262144 (omega arith))
-
--- ---- what an accepted item list is
-
-pub record Good (s : List ℕ) (items : List Item) : Type 0 where
-  pub reads : readItems 4096 (drop 1 s) ≡ accepted items
-  pub rises : T (rising items)
-  pub some-bytes : 1 ≤ length s
-  pub few-bytes : length s ≤ 262144
-  pub version : getD s 0 0 ≡ 1
-
-pub good : (s : List ℕ) (items : List Item) → readSheet s ≡ accepted items → Good s items
-unfolding readSheet
-good [] items e = refused-not e
-good (v ∷ s) items e =
-    let door = ask-ok (eqb v 1 && leb (1 + length s) 262144) 1 _ e in
-    let d = and-yes (eqb v 1) _ (door .0) in
-    let b = bind-ok (readItems 4096 s) _ (door .1) in
-    let o = ask-ok (rising (b .0)) 2 (accepted (b .0)) (b .2) in
-    let same : b .0 ≡ items = accepted-inj (o .1) in
-    let short : 1 + length s ≤ 262144 = leb-yes (d .1) in
-    record {
-      reads = b .1 ∙ ap accepted same;
-      rises = subst (λ (l : List Item). T (rising l)) same (o .0);
-      some-bytes = omega arith;
-      few-bytes = omega arith;
-      version = eqb-yes (d .0);
-    }
 
 -- ---- from the answer of `check` back
 

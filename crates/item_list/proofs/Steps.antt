@@ -7,13 +7,13 @@ use native.Mathlib.Omega.{arith}
 use lib.Dec.{T, leb, ltb, eqb}
 use lib.ListN.{length, take, drop, getD, length-drop, drop-of-length-le}
 use lib.Seq.{drop-drop, getD-drop, length-take-le}
-use mir.Facts.{and-yes, leb-yes}
 use borrow.Author.Tests.{le-leb, lt-leb, le-ltb, eq-eqb, ne-eqb, leb-true, leb-false}
 use Rattle.fields.specs.Numbers.{be}
 use Rattle.fields.specs.Parts.{part}
 use Rattle.format.specs.Questions.{Answer, refused, accepted, ask, bind}
 use Rattle.format.specs.declared.Key.{Key}
 use Rattle.format.specs.Items.{Item, keyOf, keyBelow, itemLength, wholeItem, firstItem, readItems}
+use Rattle.format.proofs.Items.{readItems-nil, readItems-full, readItems-more, wholeItem-out}
 use Rattle.item_list.specs.declared.Step.{Step}
 use Rattle.item_list.specs.declared.Step.the-variants.{Whole, Broken, End}
 use Rattle.item_list.specs.Steps.{itemAt, nextAt, stepAt}
@@ -122,17 +122,16 @@ broken-tests false true n e = let z : _≡_ {A = ℕ} 0 1 = cc in absurd (omega 
 broken-tests false false n e = (refl, refl)
 
 pub whole-at : (s : List ℕ) (at next : ℕ) → stepAt s at ≡ Whole next → WholeAt s at next
-unfolding stepAt nextAt wholeItem
+unfolding stepAt nextAt
 whole-at s at next e =
     let t = step-tests (leb (length s) at) (wholeItem (drop at s)) (nextAt s at) next e in
-    let l : ℕ = itemLength (drop at s) in
-    let w : T (leb 17 l && leb l 65552 && leb (4 + l) (length (drop at s))) = subst T (sym (t .1)) tt in
-    let u = and-yes (leb 17 l && leb l 65552) _ w in
-    let v = and-yes (leb 17 l) _ (u .0) in
+    let w = wholeItem-out (drop at s) (subst T (sym (t .1)) tt) in
+    let low = w .0 in
+    let high = w .1 in
     let before : at < length s = leb-false (length s) at (t .0) in
-    let room : 4 + l ≤ length s - at = subst (λ (k : ℕ). 4 + l ≤ k) (length-drop at s) (leb-yes (u .1)) in
-    let size : next ≡ at + 4 + l = sym (t .2) in
-    record { before = before; size = size; low = leb-yes (v .0); high = leb-yes (v .1); within = omega arith }
+    let room : 4 + itemLength (drop at s) ≤ length s - at = subst (λ (k : ℕ). 4 + itemLength (drop at s) ≤ k) (length-drop at s) (w .2) in
+    let size : next ≡ at + 4 + itemLength (drop at s) = sym (t .2) in
+    record { before = before; size = size; low = low; high = high; within = omega arith }
 
 pub ended : (s : List ℕ) (at : ℕ) → stepAt s at ≡ End → length s ≤ at
 unfolding stepAt
@@ -140,30 +139,14 @@ ended s at e = leb-true (length s) at (end-tests (leb (length s) at) (wholeItem 
 
 -- ---- from a step to the items
 
-read-empty : (n : ℕ) → readItems n [] ≡ accepted []
-unfolding readItems
-read-empty zero = refl
-read-empty (suc n) = refl
-
-read-over : (l : List ℕ) → 0 < length l → readItems zero l ≡ refused 1
-unfolding readItems
-read-over [] h = absurd (omega arith)
-read-over (b ∷ l) h = refl
-
-read-more : (n : ℕ) (l : List ℕ) → 0 < length l
-    → readItems (suc n) l ≡ ask (wholeItem l) 1 (bind (readItems n (drop (4 + itemLength l) l)) (λ items. accepted (firstItem l ∷ items)))
-unfolding readItems
-read-more n [] h = absurd (omega arith)
-read-more n (b ∷ l) h = refl
-
 some-left : (s : List ℕ) (at : ℕ) → at < length s → 0 < length (drop at s)
 some-left s at h = simp length-drop (omega arith)
 
 pub items-end : (n : ℕ) (s : List ℕ) (at : ℕ) → stepAt s at ≡ End → readItems n (drop at s) ≡ accepted []
-items-end n s at e = ap (readItems n) (drop-of-length-le s (ended s at e)) ∙ read-empty n
+items-end n s at e = ap (readItems n) (drop-of-length-le s (ended s at e)) ∙ readItems-nil n
 
 pub items-over : (s : List ℕ) (at : ℕ) → at < length s → readItems zero (drop at s) ≡ refused 1
-items-over s at h = read-over (drop at s) (some-left s at h)
+items-over s at h = readItems-full (drop at s) (some-left s at h)
 
 pub items-broken : (n : ℕ) (s : List ℕ) (at : ℕ) → stepAt s at ≡ Broken → readItems n (drop at s) ≡ refused 1
 unfolding stepAt ask
@@ -172,7 +155,7 @@ items-broken zero s at e =
     items-over s at (leb-false (length s) at (t .0))
 items-broken (suc n) s at e =
     let t = broken-tests (leb (length s) at) (wholeItem (drop at s)) (nextAt s at) e in
-    read-more n (drop at s) (some-left s at (leb-false (length s) at (t .0)))
+    readItems-more n (drop at s) (some-left s at (leb-false (length s) at (t .0)))
     ∙ ap (λ (b : Bool). ask b 1 (bind (readItems n (drop (4 + itemLength (drop at s)) (drop at s))) (λ items. accepted (firstItem (drop at s) ∷ items)))) (t .1)
 
 pub items-item : (n : ℕ) (s : List ℕ) (at next : ℕ) → stepAt s at ≡ Whole next
@@ -184,7 +167,7 @@ items-item n s at next e =
     let k : at + (4 + itemLength (drop at s)) ≡ next = omega arith in
     let d : drop (4 + itemLength (drop at s)) (drop at s) ≡ drop next s =
     drop-drop (4 + itemLength (drop at s)) at s ∙ ap (λ (i : ℕ). drop i s) k in
-    read-more n (drop at s) (some-left s at (leb-false (length s) at (t .0)))
+    readItems-more n (drop at s) (some-left s at (leb-false (length s) at (t .0)))
     ∙ ap (λ (b : Bool). ask b 1 (bind (readItems n (drop (4 + itemLength (drop at s)) (drop at s))) (λ items. accepted (firstItem (drop at s) ∷ items)))) (t .1)
     ∙ ap (λ (l : List ℕ). bind (readItems n l) (λ items. accepted (firstItem (drop at s) ∷ items))) d
 

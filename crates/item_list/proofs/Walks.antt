@@ -12,6 +12,7 @@ use Rattle.format.specs.Questions.{Answer, refused, accepted, bind}
 use Rattle.format.specs.Items.{Item, keyBelow, readItems}
 use Rattle.format.specs.Apply.{isRecord, recordOf}
 use Rattle.format.proofs.Answers.{refused-not, accepted-inj, bind-ok}
+use Rattle.format.proofs.Items.{sheet-out}
 use Rattle.item_list.specs.declared.Step.{Step}
 use Rattle.item_list.specs.declared.Step.the-variants.{Whole, Broken, End}
 use Rattle.item_list.specs.declared.Place.{Place}
@@ -21,7 +22,6 @@ use Rattle.item_list.specs.declared.Sought.the-variants.{Present, Absent
 use Rattle.item_list.specs.Steps.{itemAt, stepAt, itemsOf, Listed}
 use Rattle.item_list.specs.Seeks.{sizeOf, placeIn, seekIn}
 use Rattle.item_list.proofs.Steps.{WholeAt, whole-at, data-long, items-end, items-broken, items-over, items-item}
-use Rattle.item_list.proofs.Reading.{good}
 
 -- from a position on, the bytes are these items
 pub record Rest (s : List ℕ) (at : ℕ) (items : List Item) : Type 0 where
@@ -29,7 +29,9 @@ pub record Rest (s : List ℕ) (at : ℕ) (items : List Item) : Type 0 where
   pub reads : readItems most (drop at s) ≡ accepted items
 
 pub rest-all : (s : List ℕ) → Listed s → Rest s 1 (itemsOf s)
-rest-all s l = record { most = 4096; reads = good s (itemsOf s) (l .reads) .reads }
+rest-all s l =
+    let h = sheet-out s (itemsOf s) (l .reads) in
+    record { most = 4096; reads = ap (λ (x : List ℕ). readItems 4096 (drop 1 x)) (h .1) ∙ h .2 }
 
 pub rest-end : (s : List ℕ) (at : ℕ) (items : List Item) → Rest s at items → stepAt s at ≡ End → items ≡ []
 rest-end s at items r e = accepted-inj (sym (r .reads) ∙ items-end (r .most) s at e)

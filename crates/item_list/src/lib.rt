@@ -3,6 +3,7 @@
 mod checking;
 mod search;
 mod stepping;
+mod writing;
 
 pub use checking::check;
 pub use search::locate;
@@ -10,6 +11,11 @@ pub use search::record_at;
 pub use search::seek;
 pub use stepping::key_at;
 pub use stepping::step_at;
+pub use writing::append;
+pub use writing::append_head;
+pub use writing::put_item;
+pub use writing::remove_item;
+pub use writing::room_for;
 
 // What stands at a position.
 pub enum Step {
