@@ -8,10 +8,12 @@ use native.Mathlib.Omega.{arith}
 use lib.Dec.{T, leb, eqb}
 use lib.ListN.{length, drop, getD}
 use borrow.Author.Tests.{le-leb, lt-leb, eq-eqb, ne-eqb}
+use Rattle.fields.specs.Lists.{all}
+use Rattle.fields.specs.Numbers.{areBytes}
 use Rattle.format.specs.declared.Key.{Key}
 use Rattle.format.specs.Questions.{Answer, refused, absent, remove, accepted, ask, bind}
-use Rattle.format.specs.Items.{Item, keyBelow, above, rising, readItems, readSheet}
-use Rattle.format.proofs.Answers.{refused-not, absent-not, remove-not}
+use Rattle.format.specs.Items.{Item, keyBelow, above, rising, readItems, readSheet, sheetBytes}
+use Rattle.format.proofs.Items.{ReadsSheet, sheet, broken, unsorted, readSheet-decides, sane, sheet-sane, sheetBytes-read}
 use Rattle.item_list.specs.declared.Step.{Step}
 use Rattle.item_list.specs.declared.Step.the-variants.{Whole, Broken, End}
 use Rattle.item_list.specs.declared.Checked.{Checked}
@@ -129,16 +131,45 @@ sheet-read (x ∷ s) a b v = rw (eq-eqb x 1 v, le-leb (1 + length s) 262144 (ome
 
 -- ---- from the answer of `check` back
 
-pub checked-refused : (r : Answer (List Item)) (k : ℕ) → checkedOf r ≡ Refused k → (r ≡ accepted (itemsIn r) → ⊥)
+pub sheet-refused : (s : List ℕ) (k : ℕ) → checkedOf (readSheet s) ≡ Refused k → readSheet s ≡ refused k
 unfolding checkedOf
-checked-refused (refused j) k e h = refused-not h
-checked-refused absent k e h = absent-not h
-checked-refused remove k e h = remove-not h
-checked-refused (accepted items) k e h = let z : _≡_ {A = ℕ} 0 1 = cc in absurd (omega arith)
+sheet-refused s k e = go (readSheet-decides s)
+  where
+    go : ReadsSheet (readSheet s) → readSheet s ≡ refused k
+    go (sheet items h) = let z : _≡_ {A = ℕ} 0 1 = let f : Count (length items) ≡ Refused k = sym (ap checkedOf h) ∙ e in cc in absurd (omega arith)
+    go (broken h) = h ∙ ap refused (let f : Refused 1 ≡ Refused k = sym (ap checkedOf h) ∙ e in let g : 1 ≡ k = cc in g)
+    go (unsorted h) = h ∙ ap refused (let f : Refused 2 ≡ Refused k = sym (ap checkedOf h) ∙ e in let g : 2 ≡ k = cc in g)
 
-pub checked-count : (r : Answer (List Item)) (n : ℕ) → checkedOf r ≡ Count n → (r ≡ accepted (itemsIn r)) × (length (itemsIn r) ≡ n)
+-- what an accepted item list of so many items is
+pub record Counted (s : List ℕ) (n : ℕ) : Type 0 where
+  pub reads : readSheet s ≡ accepted (itemsOf s)
+  pub count : length (itemsOf s) ≡ n
+  pub few : n ≤ 4096
+  pub small : length s ≤ 262144
+  pub rises : T (rising (itemsOf s))
+  pub sane-all : T (all sane (itemsOf s))
+  pub bytes-are : sheetBytes (itemsOf s) ≡ s
+
+checked-count : (r : Answer (List Item)) (n : ℕ) → checkedOf r ≡ Count n → (r ≡ accepted (itemsIn r)) × (length (itemsIn r) ≡ n)
 unfolding checkedOf itemsIn
 checked-count (refused j) n e = let z : _≡_ {A = ℕ} 0 1 = cc in absurd (omega arith)
 checked-count absent n e = let z : _≡_ {A = ℕ} 0 1 = cc in absurd (omega arith)
 checked-count remove n e = let z : _≡_ {A = ℕ} 0 1 = cc in absurd (omega arith)
 checked-count (accepted items) n e = (refl, cc)
+
+pub counted : (s : List ℕ) (n : ℕ) → T (areBytes s) → checkedOf (readSheet s) ≡ Count n → Counted s n
+counted s n t e =
+    let h = checked-count (readSheet s) n e in
+    let k = sheet-sane s (itemsOf s) t (h .0) in
+    record {
+      reads = h .0;
+      count = h .1;
+      few = subst (λ (m : ℕ). m ≤ 4096) (h .1) (k .1);
+      small = k .3;
+      rises = k .2;
+      sane-all = k .0;
+      bytes-are = sheetBytes-read s (itemsOf s) t (h .0);
+    }
+
+pub listed : (s : List ℕ) (n : ℕ) → checkedOf (readSheet s) ≡ Count n → Listed s
+listed s n e = record { reads = checked-count (readSheet s) n e .0 }

@@ -3,7 +3,7 @@ ghost use mathlib.Core.Path.{_≡_};
 ghost use mathlib.Core.Bool.{_&&_};
 ghost use lib.ListN.{drop};
 ghost use Rattle.format.specs.Questions.{bind, ask, accepted};
-ghost use Rattle.format.specs.Items.{readItems, readSheet, rising};
+ghost use Rattle.format.specs.Items.{readItems, readSheet, rising, nodesizeFits};
 ghost use Rattle.item_list.specs.Steps.{following, verdictOf, checkedOf};
 use super::Checked;
 use super::Step;
@@ -78,4 +78,14 @@ pub fn check(sheet: &[u8]) -> Checked
         return walk(sheet);
     }
     Checked::Refused(1)
+}
+
+// Question 3 of a nodesize.
+pub fn nodesize_fits(nodesize: u32) -> bool
+    ensures { λ r. ⌜ r ≡ nodesizeFits nodesize ⌝ }
+{
+    if nodesize < 501 {
+        return false;
+    }
+    nodesize <= 65536
 }

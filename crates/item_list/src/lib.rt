@@ -6,6 +6,7 @@ mod stepping;
 mod writing;
 
 pub use checking::check;
+pub use checking::nodesize_fits;
 pub use search::locate;
 pub use search::record_at;
 pub use search::seek;
