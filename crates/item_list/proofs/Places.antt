@@ -16,7 +16,7 @@ use Rattle.fields.proofs.Lists.{T-eq, all-map, some-inj, no-some}
 use Rattle.format.specs.declared.Key.{Key}
 use Rattle.format.specs.Items.{Item, sameKey, keyBelow, above, rising, itemBytes, itemsBytes, sheetBytes}
 use Rattle.format.specs.Sheets.{hasKey, putBefore}
-use Rattle.format.proofs.Items.{length-itemBytes, length-sheetBytes}
+use Rattle.format.proofs.Items.{length-itemBytes, length-sheetBytes, itemsBytes-append}
 use Rattle.format.proofs.Keys.{beyond, below-trans, below-irrefl, below-or, below-not-same, above-not-same, rising-after}
 use Rattle.item_list.specs.declared.Place.{Place}
 use Rattle.item_list.specs.declared.Place.the-variants.{At, Missing}
@@ -245,3 +245,41 @@ gap key at (i ∷ items) start r e =
         }
     go false true h k f ih = gap-first key at start i items r k cc
     go false false h k f ih = let z : _≡_ {A = ℕ} 0 1 = cc in absurd (omega arith)
+
+-- ---- places in the bytes
+
+pub record Inside (s : List ℕ) (front : List Item) (hit : Item) (start end : ℕ) : Type 0 where
+  pub starts : length (sheetBytes front) ≡ start
+  pub ends : length (sheetBytes front) + (21 + length (hit .bytes)) ≡ end
+  pub ordered : start + 21 ≤ end
+  pub within : end ≤ length s
+
+bytes-from : (hit : Item) (back : List Item) → length (itemsBytes (hit ∷ back)) ≡ 21 + length (hit .bytes) + length (itemsBytes back)
+unfolding itemsBytes
+bytes-from hit back = length-append (itemBytes hit) (itemsBytes back) ∙ omega (arith, length-itemBytes hit)
+
+pub inside : (s : List ℕ) (items front : List Item) (hit : Item) (back : List Item) (start end : ℕ) → sheetBytes items ≡ s
+    → items ≡ front ++ hit ∷ back → Stands 1 front hit start end → Inside s front hit start end
+inside s items front hit back start end b e h =
+    let p = h .starts in
+    let q = h .ends in
+    let l₁ = length-sheetBytes front in
+    let l₂ : length s ≡ 1 + length (itemsBytes (front ++ hit ∷ back)) =
+    ap length (sym b) ∙ ap (λ (l : List Item). length (sheetBytes l)) e ∙ length-sheetBytes (front ++ hit ∷ back) in
+    let l₃ = ap length (itemsBytes-append front (hit ∷ back)) ∙ length-append (itemsBytes front) (itemsBytes (hit ∷ back)) in
+    let l₄ = bytes-from hit back in
+    record {
+      starts = omega (arith, p, l₁);
+      ends = omega (arith, p, q, l₁);
+      ordered = omega (arith, q);
+      within = omega (arith, p, q, l₂, l₃, l₄);
+    }
+
+pub inside-gap : (s : List ℕ) (items front back : List Item) (start : ℕ) → sheetBytes items ≡ s → items ≡ front ++ back
+    → start ≡ 1 + length (itemsBytes front) → (length (sheetBytes front) ≡ start) × (start ≤ length s)
+inside-gap s items front back start b e p =
+    let l₁ = length-sheetBytes front in
+    let l₂ : length s ≡ 1 + length (itemsBytes (front ++ back)) =
+    ap length (sym b) ∙ ap (λ (l : List Item). length (sheetBytes l)) e ∙ length-sheetBytes (front ++ back) in
+    let l₃ = ap length (itemsBytes-append front back) ∙ length-append (itemsBytes front) (itemsBytes back) in
+    (omega (arith, p, l₁), omega (arith, p, l₂, l₃))

@@ -199,3 +199,21 @@ module _ (s : List ℕ) (p q : ℕ) (fits : p ≤ length s) (room count : ℕ) (
 
   pub rest-refused : roomFor room (p + (length s - q)) count ≡ false → Answered (heldBytes room count (spliced p q [] s)) (Refused 21) old old
   rest-refused h = held-refused room count (p + (length s - q)) (spliced p q [] s) old new (rest-long s p q fits) h
+
+-- ---- from the bytes to the items
+
+pub answered-no : (a : Answer (List Item)) (room k : ℕ) (old : List ℕ) → a ≡ refused k → Answered (heldSheet room a) (Refused k) old old
+unfolding heldSheet held bind editedOf lent
+answered-no a room k old e =
+    record {
+      result = sym (ap (λ (x : Answer (List Item)). editedOf (heldSheet room x)) e);
+      output = sym (ap (λ (x : Answer (List Item)). lent (heldSheet room x) old) e);
+    }
+
+pub answered-by : (a : Answer (List Item)) (room count : ℕ) (items : List Item) (bytes : List ℕ) (r : Edited) (old new : List ℕ)
+    → a ≡ accepted items → sheetBytes items ≡ bytes → length items ≡ count → T (all (λ i. dataFits (i .bytes)) items)
+    → Answered (heldBytes room count bytes) r old new
+    → Answered (heldSheet room a) r old new
+answered-by a room count items bytes r old new e b n t w =
+    let h : heldSheet room a ≡ heldBytes room count bytes = ap (heldSheet room) e ∙ held-sheet room count items bytes b n t in
+    record { result = w .result ∙ sym (ap editedOf h); output = w .output ∙ sym (ap (λ (x : Answer (List ℕ)). lent x old) h) }
