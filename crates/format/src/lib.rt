@@ -34,12 +34,32 @@ pub enum Keyed {
 
 // A change of the ledger (document 01's books). To add a reference is document 01's "give", to drop one its "take".
 pub enum Change {
-    AddBlock { extent: u64, name: BlockRef },
-    AddData { extent: u64, name: DataRef, amount: u32 },
-    AddShared { extent: u64, name: SharedRef, amount: u32 },
-    DropBlock { extent: u64, name: BlockRef },
-    DropData { extent: u64, name: DataRef },
-    DropShared { extent: u64, name: SharedRef },
+    AddBlock {
+        extent: u64,
+        name: BlockRef,
+    },
+    AddData {
+        extent: u64,
+        name: DataRef,
+        amount: u32,
+    },
+    AddShared {
+        extent: u64,
+        name: SharedRef,
+        amount: u32,
+    },
+    DropBlock {
+        extent: u64,
+        name: BlockRef,
+    },
+    DropData {
+        extent: u64,
+        name: DataRef,
+    },
+    DropShared {
+        extent: u64,
+        name: SharedRef,
+    },
 }
 
 // What a call that writes to a lent output answers: the result's length, or why there is none.

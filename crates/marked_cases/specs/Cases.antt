@@ -93,7 +93,7 @@ cases =
     ∷ case f (addInlineTreeRef 169 (blocks 1 (5 ∷ [])) (block 7)) (accepted (blocks 2 (5 ∷ 7 ∷ [])))
     ∷ case f (addInlineTreeRef 169 (blocks 1 (5 ∷ [])) (block 3)) (accepted (blocks 2 (3 ∷ 5 ∷ [])))
     ∷ case g (addInlineShared 168 bodyE (record { kind = 184; parent = 4096 }) 0)
-        (accepted (bytesE 1 1 ++ (184 ∷ (leBytes 8 4096 ++ leBytes 4 0))))
+    (accepted (bytesE 1 1 ++ (184 ∷ (leBytes 8 4096 ++ leBytes 4 0))))
     ∷ case h (number (maxInlineExtentItem 4096)) (accepted (224 ∷ []))
     ∷ case h (number (maxInlineExtentItem 16384)) (accepted (992 ∷ []))
     ∷ case h (number (maxInlineExtentItem 501)) (accepted (0 ∷ []))
