@@ -1,6 +1,6 @@
 -- References as bytes: what is written is read back, what is read is written as it stood, and the steps of the reading.
 -- Assumes nothing.
-use mathlib.Core.Path.{_≡_, refl, sym, ap, ap₂, _∙_, subst}
+use mathlib.Core.Path.{_≡_, refl, sym, ap, _∙_, subst}
 use mathlib.Core.Logic.{_⊎_, inl, inr}
 use mathlib.Core.Bool.{Bool, true, false, not, _&&_, cond}
 use mathlib.Core.List.{List, [], _∷_, _++_, append-assoc}
@@ -17,8 +17,8 @@ use Rattle.fields.proofs.Lists.{cond-yes, cond-no}
 use Rattle.fields.proofs.Numbers.{areBytes-drop, areBytes-part, areBytes-append, areBytes-leBytes, areBytes-wordBytes, length-leBytes, length-wordBytes, le-bound, le-leBytes, leBytes-le-at, length-words, words-wordBytes, wordBytes-words, words-bound}
 use Rattle.fields.proofs.Parts.{length-part}
 use Rattle.format.specs.Questions.{Answer, refused, accepted, ask, bind}
-use Rattle.format.specs.References.{known, payloadLength, countPosition, counted, fieldCount, Ref, ref, weightOf, refAt, readRefs, refBytes, refsBytes}
-use Rattle.format.proofs.Answers.{accepted-inj, ask-ok, ask-yes, ask-no, bind-ok}
+use Rattle.format.specs.References.{known, payloadLength, countPosition, counted, fieldCount, Ref, weightOf, refAt, readRefs, refBytes, refsBytes}
+use Rattle.format.proofs.Answers.{accepted-inj, ask-ok, ask-yes, bind-ok}
 use Rattle.format.proofs.Rows.{payload-fields, count-after-fields, kind-small}
 
 pub yes-or-no : (b : Bool) → T b ⊎ T (not b)
