@@ -1,10 +1,16 @@
 // The reader of inline references: the table of the five kinds, a cursor that reads one reference after the other, and the
 // one scan that all calls on a body share.
 mod kinds;
+mod scan;
 mod step;
+mod wanted;
 
-pub use kinds::Row;
 pub use kinds::row_of;
 pub use kinds::rows;
+pub use kinds::Row;
+pub use scan::Scan;
+pub use scan::Seen;
 pub use step::Cursor;
 pub use step::Step;
+pub use wanted::kind_of;
+pub use wanted::Wanted;
