@@ -5,3 +5,5 @@ pub mod Bodies
 pub mod Keys
 pub mod Items
 pub mod Splices
+pub mod Hash
+pub mod Outputs

@@ -1,0 +1,11 @@
+use borrow.Author.Needs.{needs}
+use Rattle.format.specs.Hash.{dataRefHash}
+use Rattle.extent_write.proofs.hash_with.Statement.{statement}
+use Rattle.extent_write.proofs.hash_with.Tie as tie
+
+returns : tie.Need-returns
+unfolding dataRefHash
+returns c = cc
+
+pub hash-with-spec : {M : Type 1} → statement M
+hash-with-spec = tie.close (tie.spec (λ c κs. search needs) (λ c κs. search needs) returns)
