@@ -2,15 +2,20 @@
 // one scan that all calls on a body share.
 mod kinds;
 mod scan;
+mod start;
 mod step;
 mod wanted;
 
+pub use kinds::Row;
 pub use kinds::row_of;
 pub use kinds::rows;
-pub use kinds::Row;
 pub use scan::Scan;
 pub use scan::Seen;
+pub use scan::scan_body;
+pub use scan::scan_from;
+pub use start::Start;
+pub use start::open_body;
 pub use step::Cursor;
 pub use step::Step;
-pub use wanted::kind_of;
 pub use wanted::Wanted;
+pub use wanted::kind_of;

@@ -2,10 +2,11 @@
 use format::BlockRef;
 use format::DataRef;
 ghost use mathlib.Core.Path.{_≡_};
-ghost use mathlib.Core.List.{_∷_};
+ghost use mathlib.Core.Bool.{_||_};
 ghost use Prim.Native.Nat.{_+_, _≤_};
-ghost use lib.Dec.{T};
+ghost use lib.Dec.{T, eqb};
 ghost use lib.ListN.{length, drop};
+ghost use Rattle.crc32c.specs.Register.{crc32c, tableOf};
 ghost use Rattle.format.specs.References.{known, payloadLength, refAt, place};
 ghost use Rattle.format.specs.Bodies.{named, stops, triple};
 ghost use Rattle.fields.specs.Lists.{same};
@@ -60,4 +61,59 @@ pub fn names(wanted: Wanted, body: &[u8], kind: u8, start: usize) -> bool
         Wanted::SharedBlock(parent) => fields::get_u64_le(body, start) == parent,
         Wanted::SharedData(parent) => fields::get_u64_le(body, start) == parent,
     }
+}
+// What the references of one kind are ordered by: the hash of a triple, else the first field.
+pub fn place_at(table: &[u32; 256], body: &[u8], kind: u8, start: usize) -> u64
+    requires { ⌜ now table ≡ tableOf crc32c ⌝ }
+    requires { ⌜ T (known kind) × (start + payloadLength kind ≤ length (now body)) ⌝ }
+    ensures { λ r. ⌜ r ≡ place (refAt kind (drop start (now (body .entry)))) ⌝ }
+{
+    if kind != 178 {
+        return fields::get_u64_le(body, start);
+    }
+    extent_write::hash_with(
+        table,
+        fields::get_u64_le(body, start),
+        fields::get_u64_le(body, start + 8),
+        fields::get_u64_le(body, start + 16),
+    )
+}
+
+// Whether a new reference of kind `wanted` with a place goes before this one. Nothing has a place below 0, so that place
+// costs no hash.
+pub fn stops_at(
+    table: &[u32; 256],
+    wanted: u8,
+    place: u64,
+    body: &[u8],
+    kind: u8,
+    start: usize,
+) -> bool
+    requires { ⌜ now table ≡ tableOf crc32c ⌝ }
+    requires { ⌜ T (known kind) × (start + payloadLength kind ≤ length (now body)) ⌝ }
+    ensures { λ r. ⌜ r ≡ stops wanted place (refAt kind (drop start (now (body .entry)))) ⌝ }
+{
+    if kind == 172 {
+        return false;
+    }
+    if wanted < kind {
+        return true;
+    }
+    if wanted != kind {
+        return false;
+    }
+    if place == 0 {
+        return false;
+    }
+    place_at(table, body, kind, start) < place
+}
+
+// Whether one of the wanted kind stands, with one more reference.
+pub fn akin(stood: bool, wanted: Wanted, kind: u8) -> bool
+    ensures { λ r. ⌜ r ≡ stood || eqb kind (kindOf wanted) ⌝ }
+{
+    if stood {
+        return true;
+    }
+    kind == kind_of(wanted)
 }
