@@ -2,6 +2,7 @@
 // one scan that all calls on a body share.
 mod kinds;
 mod scan;
+mod site;
 mod start;
 mod step;
 mod wanted;
@@ -14,6 +15,12 @@ pub use scan::Seen;
 pub use scan::scan_body;
 pub use scan::scan_from;
 pub use start::Start;
+pub use site::any_kin;
+pub use site::hit_of;
+pub use site::site_anywhere;
+pub use site::site_by_scan;
+pub use site::Found;
+pub use site::Site;
 pub use start::open_body;
 pub use step::Cursor;
 pub use step::Step;
