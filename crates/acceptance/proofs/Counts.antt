@@ -26,7 +26,7 @@ use Rattle.history.proofs.Naming.{Naming, is176, is178, is182, is184, not-172}
 use Rattle.history.proofs.Order.{named-yes}
 use Rattle.history.proofs.Edit.{only, Balanced, lone, record-entries}
 use Rattle.history.proofs.Facts.{rest-none, refs-none, named-entries, view-item, plain-entry, data-entry, refAt-178, unstood}
-use Rattle.history.proofs.Steps.{tidy, Here, bal-at}
+use Rattle.history.proofs.Steps.{tidy, Here, balanced-at}
 use Rattle.history.proofs.Drops.{weight-at, item-counts}
 use Rattle.acceptance.specs.Acceptance.{inline, apart}
 
@@ -117,7 +117,7 @@ module _ (m : Name) (items : List Item) (c : Cut Item) (b : Body) (H : Here m it
   lone-at : T (all (λ i. not (recordOf (m .extent) i)) (without c))
   lone-at =
       let a : List Item = c .front in let r : Item = c .hit in let z : List Item = c .back in
-      let B = bal-at m items c b H bal td in
+      let B = balanced-at m items c b H bal td in
       let lo : records (r .key .objectid) (a ++ r ∷ z) ≡ 1 =
       eqb→eq _ 1 (imp-out (isRecord r || isRefItem r) _ (all-mid (paired (a ++ r ∷ z)) a r z (B .pairs)) (rw (T-eq (isRecord r) (H .isRec)) tt)) in
       subst (λ (x : ℕ). T (all (λ i. not (recordOf x i)) (a ++ z))) (H .extent) (lone a r z (H .isRec) lo)
@@ -130,7 +130,7 @@ module _ (m : Name) (items : List Item) (c : Cut Item) (b : Body) (H : Here m it
 
   pub own-in : apart m c ≡ 0 → T (all (notItsOwn m) items)
   own-in e =
-      let w₁ = bal .weigh in
+      let w₁ = bal .nonempty in
       let w₂ = sum-split empty in
       let s = stood m (entries (without c)) (omega arith) in
       let rest : T (all (notItsOwn m) (without c)) = own-none m (without c) (omega arith) in

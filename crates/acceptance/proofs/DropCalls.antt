@@ -500,7 +500,7 @@ drops-shared nodesize sheet extent name room raw wide =
         → 1 ≤ count m items
     stands′ sk items after S e =
         let (n, s) = drop-shared extent name items after sk (name-ok (DropShared extent name) wide sk) (S .bal) (S .td) e in
-        all-counted m n items after (S .bal .weigh) s
+        all-counted m n items after (S .bal .nonempty) s
 
     key : Cut Item → Key
     key c = keyOf (c .hit .key .objectid) (name .kind) (name .parent)

@@ -336,16 +336,25 @@ pub struct Registers {
 }
 
 // From all ones: the register after a run over `a`, and after a run over `b` and then `c`, each eight bytes, lowest first.
-// One call for the whole hash, so that it copies the table once.
+// By a lent table, so that a loop over hashes copies it once.
+pub fn runs_with(t: &[u32; 256], a: u64, b: u64, c: u64) -> Registers
+    requires { ⌜ now t ≡ tableOf crc32c ⌝ }
+    ensures { λ r. ⌜ r .one ≡ run crc32c allOnes (leBytes 8 a) ⌝ }
+    ensures { λ r. ⌜ r .two ≡ run crc32c allOnes (leBytes 8 b ++ leBytes 8 c) ⌝ }
+{
+    let one = u64_in(t, 0xffff_ffff, a);
+    let first = u64_in(t, 0xffff_ffff, b);
+    let two = u64_in(t, first, c);
+    Registers { one, two }
+}
+
+// The same, by a copy of the table.
 pub fn runs(a: u64, b: u64, c: u64) -> Registers
     ensures { λ r. ⌜ r .one ≡ run crc32c allOnes (leBytes 8 a) ⌝ }
     ensures { λ r. ⌜ r .two ≡ run crc32c allOnes (leBytes 8 b ++ leBytes 8 c) ⌝ }
 {
     let t = table();
-    let one = u64_in(&t, 0xffff_ffff, a);
-    let first = u64_in(&t, 0xffff_ffff, b);
-    let two = u64_in(&t, first, c);
-    Registers { one, two }
+    runs_with(&t, a, b, c)
 }
 
 // The finished checksum: the register inverted.

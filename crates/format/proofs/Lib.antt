@@ -1,7 +1,10 @@
 pub mod Answers
+pub mod Outputs
+pub mod Hash
 pub mod Rows
 pub mod Refs
 pub mod Bodies
 pub mod Keys
 pub mod Items
 pub mod Splices
+pub mod Postings

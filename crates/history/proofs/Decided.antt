@@ -1,8 +1,8 @@
 -- A posting is refused or accepted: absent and remove, which the calls below it may say, never come out of it.
 -- Assumes nothing.
-use mathlib.Core.Path.{_≡_, refl, sym, ap, _∙_, subst}
-use mathlib.Core.Bool.{Bool, true, false, not, _&&_, _||_, cond}
-use mathlib.Core.List.{List, [], _∷_, _++_}
+use mathlib.Core.Path.{_≡_, refl}
+use mathlib.Core.Bool.{Bool, true, false, _&&_, _||_, cond}
+use mathlib.Core.List.{List}
 use mathlib.Core.Option.{Option, none, some}
 use Prim.Native.Nat.{ℕ, zero, suc, _+_, _-_, _^_}
 use lib.Dec.{T, leb, ltb, eqb}
@@ -20,8 +20,8 @@ use Rattle.format.specs.declared.Change.{Change}
 use Rattle.format.specs.declared.Change.the-variants.{AddBlock, AddData, AddShared, DropBlock, DropData, DropShared}
 use Rattle.format.specs.Questions.{Answer, refused, absent, remove, accepted, ask, bind, needed, found, ifAbsent, also, held}
 use Rattle.format.specs.References.{counted, Ref, Body, totalOf, readBody, placeOf}
-use Rattle.format.specs.Bodies.{named, one, triple, bodyFits, sharedKind, onBody, onHead, raisedBy, loweredByOne, reducedBy, onTotal, raiseTotal, lowerTotal, reduceTotal, dropInline, dropInlineTreeRef, dropInlineDataRef, takeInlineShared, keyedCount, dropKeyedDataRef, Spot, isGap, standingWeight, addAt, addInlineTreeRef, addInlineData, addInlineShared}
-use Rattle.format.specs.Items.{Item, keyOf, readSheet, onSheet, nodesizeFits, sheetHolds, heldSheet, putBack}
+use Rattle.format.specs.Bodies.{named, one, triple, bodyFits, sharedKind, onBody, onHead, raisedBy, loweredByOne, reducedBy, onTotal, lowerTotal, reduceTotal, dropInline, dropInlineTreeRef, dropInlineDataRef, takeInlineShared, keyedCount, dropKeyedDataRef, Spot, isGap, standingWeight, addAt, addInlineTreeRef, addInlineData, addInlineShared}
+use Rattle.format.specs.Items.{Item, keyOf, readSheet, onSheet, nodesizeFits, sheetHolds, heldSheet}
 use Rattle.format.specs.Sheets.{hasKey, deleted}
 use Rattle.format.specs.Apply.{inlineLimit, recordOf, onRecord, replaced, keyedBody, applyKeyedAdd, sharedBody, applySharedAdd, flagged, dropTreeRef}
 use Rattle.format.specs.Names.{Name, balanced}
@@ -45,11 +45,11 @@ stays absent = true
 stays remove = false
 stays (accepted a) = true
 
-abbrev found′ : {A : Type 0} → Answer A → Bool
-found′ (refused n) = true
-found′ absent = false
-found′ remove = true
-found′ (accepted a) = true
+abbrev finds : {A : Type 0} → Answer A → Bool
+finds (refused n) = true
+finds absent = false
+finds remove = true
+finds (accepted a) = true
 
 decides-ask : {A : Type 0} (b : Bool) (n : ℕ) (next : Answer A) → T (decides next) → T (decides (ask b n next))
 unfolding ask
@@ -61,19 +61,21 @@ unfolding ask
 stays-ask true n next t = t
 stays-ask false n next t = tt
 
-found-ask : {A : Type 0} (b : Bool) (n : ℕ) (next : Answer A) → T (found′ next) → T (found′ (ask b n next))
+found-ask : {A : Type 0} (b : Bool) (n : ℕ) (next : Answer A) → T (finds next) → T (finds (ask b n next))
 unfolding ask
 found-ask true n next t = t
 found-ask false n next t = tt
 
-decides-bind : {A B : Type 0} (r : Answer A) (next : A → Answer B) → T (decides r) → ((a : A) → T (decides (next a))) → T (decides (bind r next))
+decides-bind : {A B : Type 0} (r : Answer A) (next : A → Answer B) → T (decides r) → ((a : A) → T (decides (next a)))
+    → T (decides (bind r next))
 unfolding bind
 decides-bind (refused n) next t f = tt
 decides-bind absent next t f = absurd t
 decides-bind remove next t f = absurd t
 decides-bind (accepted a) next t f = f a
 
-stays-bind : {A B : Type 0} (r : Answer A) (next : A → Answer B) → T (stays r) → ((a : A) → T (stays (next a))) → T (stays (bind r next))
+stays-bind : {A B : Type 0} (r : Answer A) (next : A → Answer B) → T (stays r) → ((a : A) → T (stays (next a)))
+    → T (stays (bind r next))
 unfolding bind
 stays-bind (refused n) next t f = tt
 stays-bind absent next t f = tt
@@ -136,11 +138,13 @@ reads-sheet s = go (readSheet-decides s)
 
 -- ---- calls on bodies
 
-decides-onBody : {A : Type 0} (type : ℕ) (d : List ℕ) (next : Body → Answer A) → ((b : Body) → T (decides (next b))) → T (decides (onBody type d next))
+decides-onBody : {A : Type 0} (type : ℕ) (d : List ℕ) (next : Body → Answer A) → ((b : Body) → T (decides (next b)))
+    → T (decides (onBody type d next))
 unfolding onBody
 decides-onBody type d next f = decides-ask (bodyFits d) 3 _ (decides-bind (readBody type d) next (reads-body type d) f)
 
-stays-onBody : {A : Type 0} (type : ℕ) (d : List ℕ) (next : Body → Answer A) → ((b : Body) → T (stays (next b))) → T (stays (onBody type d next))
+stays-onBody : {A : Type 0} (type : ℕ) (d : List ℕ) (next : Body → Answer A) → ((b : Body) → T (stays (next b)))
+    → T (stays (onBody type d next))
 unfolding onBody
 stays-onBody type d next f =
     stays-ask (bodyFits d) 3 _ (stays-bind (readBody type d) next (decides-stays (readBody type d) (reads-body type d)) f)
@@ -179,22 +183,24 @@ unfolding takeInlineShared
 stays-takeInlineShared type d s =
     stays-ask (sharedKind (s .kind)) 3 _
     (stays-onBody type d _ (λ b.
-    stays-bind (found (cut (named (s .kind) (one (s .parent))) (b .refs))) _ (stays-found (cut (named (s .kind) (one (s .parent))) (b .refs))) (λ c. tt)))
+    stays-bind (found (cut (named (s .kind) (one (s .parent))) (b .refs))) _
+    (stays-found (cut (named (s .kind) (one (s .parent))) (b .refs))) (λ c. tt)))
 
-found-dropKeyed : (d : List ℕ) (name : DataRef) → T (found′ (dropKeyedDataRef d name))
+found-dropKeyed : (d : List ℕ) (name : DataRef) → T (finds (dropKeyedDataRef d name))
 unfolding dropKeyedDataRef
 found-dropKeyed d name =
     found-ask (bodyFits d) 3 _
     (found-ask (eqb (length d) 28 && same (words 3 d) (triple name)) 15 _
     (found-ask (leb 1 (keyedCount d)) 16 _ (go (eqb (keyedCount d) 1))))
   where
-    go : (c : Bool) → T (found′ (cond c remove (accepted (written 24 (leBytes 4 (keyedCount d - 1)) d))))
+    go : (c : Bool) → T (finds (cond c remove (accepted (written 24 (leBytes 4 (keyedCount d - 1)) d))))
     go true = tt
     go false = tt
 
 -- ---- calls on sheets
 
-decides-onRecord : {A : Type 0} (extent : ℕ) (items : List Item) (next : Cut Item → Answer A) → ((c : Cut Item) → T (decides (next c)))
+decides-onRecord : {A : Type 0} (extent : ℕ) (items : List Item) (next : Cut Item → Answer A)
+    → ((c : Cut Item) → T (decides (next c)))
     → T (decides (onRecord extent items next))
 unfolding onRecord
 decides-onRecord extent items next f =
@@ -202,11 +208,13 @@ decides-onRecord extent items next f =
 
 decides-replaced : (key : Key) (d : List ℕ) (items : List Item) → T (decides (replaced key d items))
 unfolding replaced
-decides-replaced key d items = decides-bind (needed 5 (cut (hasKey key) items)) _ (decides-needed 5 (cut (hasKey key) items)) (λ c. tt)
+decides-replaced key d items =
+    decides-bind (needed 5 (cut (hasKey key) items)) _ (decides-needed 5 (cut (hasKey key) items)) (λ c. tt)
 
 decides-deleted : (key : Key) (items : List Item) → T (decides (deleted key items))
 unfolding deleted
-decides-deleted key items = decides-bind (needed 5 (cut (hasKey key) items)) _ (decides-needed 5 (cut (hasKey key) items)) (λ c. tt)
+decides-deleted key items =
+    decides-bind (needed 5 (cut (hasKey key) items)) _ (decides-needed 5 (cut (hasKey key) items)) (λ c. tt)
 
 decides-keyedBody : (i : Item) (keyed : Keyed) (amount : ℕ) → T (decides (keyedBody i keyed amount false))
 unfolding keyedBody addInlineTreeRef addInlineData
@@ -228,10 +236,11 @@ unfolding applySharedAdd sharedBody addInlineShared
 decides-applySharedAdd nodesize extent s amount items =
     decides-onRecord extent items _ (λ c.
     decides-bind (addInlineShared (c .hit .key .kind) (c .hit .bytes) s amount) _
-    (decides-ask (sharedKind (s .kind)) 3 _ (decides-onBody (c .hit .key .kind) (c .hit .bytes) _ (λ b. decides-addAt b _ _))) (λ d.
+    (decides-ask (sharedKind (s .kind)) 3 _ (decides-onBody (c .hit .key .kind) (c .hit .bytes) _ (λ b. decides-addAt b _ _)))
+    (λ d.
     decides-ask (leb (length d) (inlineLimit nodesize)) 17 _ tt))
 
-decides-droppedAt : (k : Cut Item) (answer : Answer (List ℕ)) → T (found′ answer) → T (decides (droppedAt k answer))
+decides-droppedAt : (k : Cut Item) (answer : Answer (List ℕ)) → T (finds answer) → T (decides (droppedAt k answer))
 unfolding droppedAt
 decides-droppedAt k (refused n) t = tt
 decides-droppedAt k absent t = absurd t
@@ -259,7 +268,8 @@ decides-dropDataRef d items c =
     (decides-bind (needed 5 (cut (hasKey (keyOf (c .hit .key .objectid) 178 (placeOf 178 (triple d)))) items)) _
     (decides-needed 5 (cut (hasKey (keyOf (c .hit .key .objectid) 178 (placeOf 178 (triple d)))) items)) (λ k.
     decides-bind (lowerTotal (c .hit .bytes)) _ (decides-lowerTotal (c .hit .bytes)) (λ z.
-    decides-bind (droppedAt k (dropKeyedDataRef (k .hit .bytes) d)) _ (decides-droppedAt k _ (found-dropKeyed (k .hit .bytes) d)) (λ others.
+    decides-bind (droppedAt k (dropKeyedDataRef (k .hit .bytes) d)) _
+    (decides-droppedAt k _ (found-dropKeyed (k .hit .bytes) d)) (λ others.
     decides-replaced (c .hit .key) z others))))
 
 decides-dropSharedRef : (s : SharedRef) (items : List Item) (c : Cut Item) → T (decides (dropSharedRef s items c))
@@ -271,12 +281,14 @@ decides-dropSharedRef s items c =
     (decides-stays (reduceTotal (out .bytes) (out .count)) (decides-reduceTotal (out .bytes) (out .count))) (λ z. tt)))
     (decides-bind (needed 5 (cut (hasKey (keyOf (c .hit .key .objectid) (s .kind) (s .parent))) items)) _
     (decides-needed 5 (cut (hasKey (keyOf (c .hit .key .objectid) (s .kind) (s .parent))) items)) (λ k.
-    decides-bind (reduceTotal (c .hit .bytes) (sharedCount (k .hit))) _ (decides-reduceTotal (c .hit .bytes) (sharedCount (k .hit))) (λ z.
+    decides-bind (reduceTotal (c .hit .bytes) (sharedCount (k .hit))) _
+    (decides-reduceTotal (c .hit .bytes) (sharedCount (k .hit))) (λ z.
     decides-replaced (c .hit .key) z _)))
 
 -- ---- changes and postings
 
-decides-added : (n : Name) (amount : ℕ) (items : List Item) (answer : Answer (List Item)) → T (decides answer) → T (decides (added n amount items answer))
+decides-added : (n : Name) (amount : ℕ) (items : List Item) (answer : Answer (List Item)) → T (decides answer)
+    → T (decides (added n amount items answer))
 unfolding added
 decides-added n amount items answer t = decides-also (all (notItsOwn n) items) 9 _ (decides-also (leb 1 amount) 10 answer t)
 
@@ -305,7 +317,8 @@ pub decided : (s : List ℕ) (p : Posting) → Decided (answerTo s p)
 unfolding answerTo
 decided s p = go (posted (p .nodesize) s (p .change) (p .room)) refl (decides-posted (p .nodesize) s (p .change) (p .room))
   where
-    go : (a : Answer (List ℕ)) → posted (p .nodesize) s (p .change) (p .room) ≡ a → T (decides a) → Decided (posted (p .nodesize) s (p .change) (p .room))
+    go : (a : Answer (List ℕ)) → posted (p .nodesize) s (p .change) (p .room) ≡ a → T (decides a)
+        → Decided (posted (p .nodesize) s (p .change) (p .room))
     go (refused n) e t = no n e
     go absent e t = absurd t
     go remove e t = absurd t

@@ -1,26 +1,26 @@
 -- Demand 3: from the step that each accepted change makes to any list of postings on any balanced sheet.
 -- Assumes nothing.
-use mathlib.Core.Path.{_≡_, refl, sym, ap, ap₂, _∙_, subst}
-use mathlib.Core.Logic.{_≢_, _⊎_, inl, inr}
-use Prim.Native.Nat.{ℕ, zero, suc, _+_, _-_, _≤_, _<_}
+use mathlib.Core.Path.{_≡_, refl, sym, ap, _∙_, subst}
+use mathlib.Core.Logic.{_≢_}
+use Prim.Native.Nat.{ℕ, _+_, _-_, _≤_}
 use native.Mathlib.Omega.{arith}
-use mathlib.Core.Bool.{Bool, true, false, not, _&&_, _||_, cond}
-use mathlib.Core.Option.{Option, none, some}
-use mathlib.Core.List.{List, [], _∷_, _++_}
+use mathlib.Core.Bool.{Bool, true, false, not, _&&_, cond}
+use mathlib.Core.Option.{Option}
+use mathlib.Core.List.{List, [], _∷_}
 use lib.ListN.{length}
-use lib.Dec.{T, leb, ltb, eqb, eqb-refl, eqb→eq, leb→le, le→leb, ltb→lt, lt→ltb}
+use lib.Dec.{T, leb, ltb, eqb, leb→le, ltb→lt, lt→ltb}
 use mir.Facts.{and-yes, yes-and, or-no, T-not, yes-eqb}
 use Rattle.fields.specs.Lists.{sum, all}
 use Rattle.fields.specs.Numbers.{areBytes}
 use Rattle.fields.proofs.Lists.{cond-yes, cond-no, all-map, all-two}
 use Rattle.format.specs.declared.Change.{Change}
 use Rattle.format.specs.declared.Change.the-variants.{AddBlock, AddData, AddShared, DropBlock, DropData, DropShared}
-use Rattle.format.specs.Questions.{Answer, refused, absent, remove, accepted, ask, bind, held}
+use Rattle.format.specs.Questions.{Answer, refused, absent, remove, accepted, held}
 use Rattle.format.specs.References.{payloadLength, countPosition, counted, fieldCount, rowIn}
 use Rattle.format.specs.Items.{Item, rising, readSheet, sheetBytes, nodesizeFits, dataFits, onSheet, sheetHolds, heldSheet}
 use Rattle.format.specs.Names.{Name, sameName, entries, stands, count, balanced}
 use Rattle.format.specs.Ledger.{nameOf, kindFits, changed, post, posted}
-use Rattle.format.specs.History.{Posting, answerTo, sheetAfter, isAccepted, run, Seen, seen, Tally, gave, took, enter, tally, history, touched, itemsOf, itemsIn, sheetItems, passes, balancedSheet}
+use Rattle.format.specs.History.{Posting, answerTo, sheetAfter, isAccepted, run, Seen, seen, Tally, gave, took, enter, tally, touched, itemsOf, itemsIn, sheetItems, passes, balancedSheet}
 use Rattle.format.proofs.Answers.{ask-ok, bind-ok, held-ok, accepted-inj}
 use Rattle.format.proofs.Items.{sane, sane-in, sane-out, sheet-sane, read-sheetBytes, areBytes-sheetBytes}
 use Rattle.history.specs.Demand.{Wide, Wides, Demand3}
@@ -77,7 +77,8 @@ tidy-sane i t f =
 abbrev Fit : ℕ → Tally → Type 0
 Fit k t = k + t .taken ≡ t .opening + t .given
 
-moved : (m : Name) (given out : ℕ) (wipe : Bool) (items after : List Item) → Step m given out wipe items after → (n : Name) → T (sameName n m)
+moved : (m : Name) (given out : ℕ) (wipe : Bool) (items after : List Item) → Step m given out wipe items after → (n : Name)
+    → T (sameName n m)
     → count n after + out ≡ count n items + given
 moved m given out wipe items after s n t =
     let e = count-edit m (s .old) (s .new) items after (s .edit) n in
@@ -86,7 +87,8 @@ moved m given out wipe items after s n t =
     let v₃ = s .moves in
     omega arith
 
-stayed : (m : Name) (given out : ℕ) (wipe : Bool) (items after : List Item) → Step m given out wipe items after → (n : Name) → T (not (sameName n m))
+stayed : (m : Name) (given out : ℕ) (wipe : Bool) (items after : List Item) → Step m given out wipe items after → (n : Name)
+    → T (not (sameName n m))
     → count n after ≡ count n items
 stayed m given out wipe items after s n t =
     let e = count-edit m (s .old) (s .new) items after (s .edit) n in
@@ -95,12 +97,14 @@ stayed m given out wipe items after s n t =
     omega arith
 
 -- where all is taken, nothing is counted
-wiped : (m : Name) (given out : ℕ) (items after : List Item) → Balanced items → Step m given out true items after → count m after ≡ 0
+wiped : (m : Name) (given out : ℕ) (items after : List Item) → Balanced items → Step m given out true items after
+    → count m after ≡ 0
 wiped m given out items after b s =
     let e = s .edit .sums (stands m) in
     let z = s .gone tt in
     let e₁ : sum (stands m) (only m (s .old)) ≡ 1 =
-    ap (λ (w : Option ℕ). sum (stands m) (only m w)) (z .1 .1) ∙ ap (λ (x : ℕ). x + 0) (cond-yes (sameName m m) 1 0 (sameName-refl m)) in
+    ap (λ (w : Option ℕ). sum (stands m) (only m w)) (z .1 .1)
+    ∙ ap (λ (x : ℕ). x + 0) (cond-yes (sameName m m) 1 0 (sameName-refl m)) in
     let e₂ : sum (stands m) (only m (s .new)) ≡ 0 = ap (λ (w : Option ℕ). sum (stands m) (only m w)) (z .0) in
     let e₃ = b .names m in
     unstood m (entries after) (omega arith)
@@ -110,26 +114,30 @@ pub record Moved (c : Change) (items after : List Item) : Type 0 where
   pub counts : (n : Name) (t : Tally) → Fit (count n items) t → Fit (count n after) (cond (sameName n (nameOf c)) (enter c t) t)
   pub rise : T (rising items) → T (rising after)
   pub others : (x : ℕ) → x ≢ nameOf c .extent → itemsOf x after ≡ itemsOf x items
-  pub bal : Balanced after
+  pub balance : Balanced after
   pub tidied : T (all tidy after)
 
-from-step : (c : Change) (given out : ℕ) (wipe : Bool) (items after : List Item) → Balanced items → Step (nameOf c) given out wipe items after
-    → ((n : Name) (t : Tally) → T (sameName n (nameOf c)) → Fit (count n items) t → Fit (count n after) (enter c t)) → Moved c items after
+from-step : (c : Change) (given out : ℕ) (wipe : Bool) (items after : List Item) → Balanced items
+    → Step (nameOf c) given out wipe items after
+    → ((n : Name) (t : Tally) → T (sameName n (nameOf c)) → Fit (count n items) t → Fit (count n after) (enter c t))
+    → Moved c items after
 from-step c given out wipe items after b s f =
     record {
       counts = λ n t h. go n t h (sameName n (nameOf c)) refl;
       rise = s .edit .rise;
       others = s .edit .others;
-      bal = balanced-edit (nameOf c) (s .old) (s .new) items after (s .edit) b (s .pos) (s .free);
+      balance = balanced-edit (nameOf c) (s .old) (s .new) items after (s .edit) b (s .nonempty) (s .free);
       tidied = s .tidied;
     }
   where
-    go : (n : Name) (t : Tally) → Fit (count n items) t → (x : Bool) → sameName n (nameOf c) ≡ x → Fit (count n after) (cond x (enter c t) t)
+    go : (n : Name) (t : Tally) → Fit (count n items) t → (x : Bool) → sameName n (nameOf c) ≡ x
+        → Fit (count n after) (cond x (enter c t) t)
     go n t h true q = f n t (subst T (sym q) tt) h
     go n t h false q =
         let e = stayed (nameOf c) given out wipe items after s n (subst (λ (y : Bool). T (not y)) (sym q) tt) in omega arith
 
-add-fit : (c : Change) (given : ℕ) (items after : List Item) → Step (nameOf c) given 0 false items after → (n : Name) (t : Tally)
+add-fit : (c : Change) (given : ℕ) (items after : List Item) → Step (nameOf c) given 0 false items after
+    → (n : Name) (t : Tally)
     → T (sameName n (nameOf c)) → Fit (count n items) t → Fit (count n after) (gave t given)
 add-fit c given items after s n t q h = let e = moved (nameOf c) given 0 false items after s n q in omega arith
 
@@ -137,15 +145,18 @@ drop-fit : (c : Change) (out : ℕ) (items after : List Item) → Step (nameOf c
     → T (sameName n (nameOf c)) → Fit (count n items) t → Fit (count n after) (took t out)
 drop-fit c out items after s n t q h = let e = moved (nameOf c) 0 out false items after s n q in omega arith
 
-wipe-fit : (c : Change) (out : ℕ) (items after : List Item) → Balanced items → Step (nameOf c) 0 out true items after → (n : Name) (t : Tally)
+wipe-fit : (c : Change) (out : ℕ) (items after : List Item) → Balanced items → Step (nameOf c) 0 out true items after
+    → (n : Name) (t : Tally)
     → T (sameName n (nameOf c)) → Fit (count n items) t → Fit (count n after) (took t (t .opening + t .given - t .taken))
 wipe-fit c out items after b s n t q h =
-    let e : count n after ≡ 0 = ap (λ (x : Name). count x after) (sameName-yes n (nameOf c) q) ∙ wiped (nameOf c) 0 out items after b s in
+    let e : count n after ≡ 0 =
+    ap (λ (x : Name). count x after) (sameName-yes n (nameOf c) q) ∙ wiped (nameOf c) 0 out items after b s in
     omega arith
 
 -- ---- one change
 
-change-step : (nodesize : ℕ) (c : Change) (items after : List Item) → Wide c → T (kindFits c) → Balanced items → T (all tidy items)
+change-step : (nodesize : ℕ) (c : Change) (items after : List Item) → Wide c → T (kindFits c) → Balanced items
+    → T (all tidy items)
     → changed nodesize c items ≡ accepted after → Moved c items after
 unfolding changed enter
 change-step nodesize (AddBlock extent name) items after w k b t e =
@@ -179,7 +190,7 @@ change-step nodesize (DropShared extent name) items after w k b t e =
 pub record On (s : List ℕ) (items : List Item) : Type 0 where
   pub raw : T (areBytes s)
   pub reads : readSheet s ≡ accepted items
-  pub bal : T (balanced items)
+  pub balance : T (balanced items)
 
 on-items : (s : List ℕ) (items : List Item) → On s items → sheetItems s ≡ items
 unfolding itemsIn
@@ -201,7 +212,8 @@ record Posted (p : Posting) (items : List Item) (t : List ℕ) : Type 0 where
   on : On t now
   moved : Moved (p .change) items now
 
-post-step : (s : List ℕ) (items : List Item) (p : Posting) (t : List ℕ) → On s items → Wide (p .change) → answerTo s p ≡ accepted t → Posted p items t
+post-step : (s : List ℕ) (items : List Item) (p : Posting) (t : List ℕ) → On s items → Wide (p .change)
+    → answerTo s p ≡ accepted t → Posted p items t
 unfolding answerTo posted heldSheet post onSheet
 post-step s items p t o w e =
     let h₀ = bind-ok (held (sheetHolds (p .room)) (post (p .nodesize) s (p .change))) _ e in
@@ -224,7 +236,7 @@ post-step s items p t o w e =
           (record {
             raw = areBytes-sheetBytes after S;
             reads = read-sheetBytes after S (M .rise (sa .2)) (f .0) (f .1);
-            bal = balanced-in after (M .bal);
+            balance = balanced-in after (M .balance);
           });
       moved = subst (λ (z : List Item). Moved (p .change) z after) (sym q) M;
     }
@@ -245,11 +257,13 @@ seenAt p a = record { change = p .change; accepted = isAccepted a }
 record After (s : List ℕ) (items : List Item) (p : Posting) (postings : List Posting) (a : Answer (List ℕ)) : Type 0 where
   last : List Item
   on : On (run (sheetAfter s a) postings) last
-  counts : (n : Name) (t : Tally) → Fit (count n items) t → Fit (count n last) (tally n t (seenAt p a ∷ seen (sheetAfter s a) postings))
+  counts : (n : Name) (t : Tally) → Fit (count n items) t
+      → Fit (count n last) (tally n t (seenAt p a ∷ seen (sheetAfter s a) postings))
   others : (x : ℕ) → T (not (touched x (seenAt p a ∷ seen (sheetAfter s a) postings))) → itemsOf x last ≡ itemsOf x items
 
 -- an answer that moves nothing
-unmoved : (s : List ℕ) (items : List Item) (p : Posting) (postings : List Posting) (a : Answer (List ℕ)) → isAccepted a ≡ false → sheetAfter s a ≡ s
+unmoved : (s : List ℕ) (items : List Item) (p : Posting) (postings : List Posting) (a : Answer (List ℕ)) → isAccepted a ≡ false
+    → sheetAfter s a ≡ s
     → WholeList s items postings → After s items p postings a
 unmoved s items p postings (refused n) q r W = record { last = W .last; on = W .on; counts = W .counts; others = W .others }
 unmoved s items p postings absent q r W = record { last = W .last; on = W .on; counts = W .counts; others = W .others }
@@ -257,7 +271,8 @@ unmoved s items p postings remove q r W = record { last = W .last; on = W .on; c
 unmoved s items p postings (accepted t) q r W = absurd (subst T q tt)
 
 after-one : (s : List ℕ) (items : List Item) (p : Posting) (postings : List Posting) → On s items → Wide (p .change)
-    → ((t : List ℕ) (js : List Item) → On t js → WholeList t js postings) → (a : Answer (List ℕ)) → answerTo s p ≡ a → After s items p postings a
+    → ((t : List ℕ) (js : List Item) → On t js → WholeList t js postings) → (a : Answer (List ℕ)) → answerTo s p ≡ a
+    → After s items p postings a
 after-one s items p postings o w ih (refused n) q = unmoved s items p postings (refused n) refl refl (ih s items o)
 after-one s items p postings o w ih absent q = unmoved s items p postings absent refl refl (ih s items o)
 after-one s items p postings o w ih remove q = unmoved s items p postings remove refl refl (ih s items o)
@@ -273,7 +288,8 @@ after-one s items p postings o w ih (accepted t) q =
           W .others x (k .1) ∙ P .moved .others x (λ e. T-not (eqb (nameOf (p .change) .extent) x) (yes-eqb (sym e)) (k .0)));
     }
 
-whole-list : (s : List ℕ) (items : List Item) (postings : List Posting) → On s items → Wides postings → WholeList s items postings
+whole-list : (s : List ℕ) (items : List Item) (postings : List Posting) → On s items → Wides postings
+    → WholeList s items postings
 whole-list s items [] o w = record { last = items; on = o; counts = λ n t h. h; others = λ x h. refl }
 whole-list s items (p ∷ postings) o (w, ws) =
     let A = after-one s items p postings o w (λ t js o′. whole-list t js postings o′ ws) (answerTo s p) refl in
@@ -305,12 +321,13 @@ on-of s b t = go (readSheet s) refl t
     go (refused n) q t = absurd t
     go absent q t = absurd t
     go remove q t = absurd t
-    go (accepted items) q t = (items, record { raw = b; reads = q; bal = t })
+    go (accepted items) q t = (items, record { raw = b; reads = q; balance = t })
 
 on-balanced : (s : List ℕ) (items : List Item) → On s items → T (balancedSheet s)
-on-balanced s items o = subst (λ (r : Answer (List Item)). T (passes r)) (sym (o .reads)) (o .bal)
+on-balanced s items o = subst (λ (r : Answer (List Item)). T (passes r)) (sym (o .reads)) (o .balance)
 
-pub demand-3 : (sheet : List ℕ) (postings : List Posting) → T (areBytes sheet) → T (balancedSheet sheet) → Wides postings → Demand3 sheet postings
+pub demand-3 : (sheet : List ℕ) (postings : List Posting) → T (areBytes sheet) → T (balancedSheet sheet) → Wides postings
+    → Demand3 sheet postings
 demand-3 sheet postings b t w =
     let (items, o) = on-of sheet b t in
     let W = whole-list sheet items postings o w in

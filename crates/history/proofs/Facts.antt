@@ -1,15 +1,15 @@
 -- What an item says of its entries: a record its references under its own extent, a reference item its one name; and where a
 -- name stands nowhere. Assumes nothing.
 use mathlib.Core.Path.{_≡_, refl, sym, ap, ap₂, _∙_, subst}
-use mathlib.Core.Logic.{_≢_, _⊎_, inl, inr}
-use Prim.Native.Nat.{ℕ, zero, suc, _+_, _-_, _≤_, _<_}
+use mathlib.Core.Logic.{_≢_}
+use Prim.Native.Nat.{ℕ, _+_, _-_, _≤_, _<_}
 use native.Mathlib.Omega.{arith}
 use mathlib.Core.Bool.{Bool, true, false, not, _&&_, _||_, cond}
-use mathlib.Core.Option.{Option, none, some}
+use mathlib.Core.Option.{some}
 use mathlib.Core.List.{List, [], _∷_, _++_}
 use lib.ListN.{length}
-use lib.Dec.{T, leb, ltb, eqb, eqb-refl, eqb→eq, leb→le, le→leb}
-use mir.Facts.{and-yes, yes-and, T-not, not-T, yes-eqb, no-eqb}
+use lib.Dec.{T, leb, eqb, eqb-refl, eqb→eq, leb→le, le→leb}
+use mir.Facts.{and-yes, yes-and, T-not, yes-eqb}
 use Rattle.fields.specs.Lists.{sum, all}
 use Rattle.fields.specs.Numbers.{le, words, areBytes}
 use Rattle.fields.specs.Parts.{part}
@@ -24,20 +24,23 @@ use Rattle.format.specs.Apply.{isRecord, recordOf}
 use Rattle.format.specs.Names.{Name, sameName, Entry, View, extentRecord, reference, unrelated, malformed, isRefItem, viewRecord, inForm, viewRefItem, viewOf, refEntry, refEntries, viewEntries, itemEntries, entries, under, wellFormed, good, stands}
 use Rattle.format.specs.Ledger.{notItsOwn, sharedCount}
 use Rattle.format.proofs.Bodies.{Sound, read-bodyBytes}
-use Rattle.history.proofs.Sums.{sameName-yes, sameName-refl, empty}
+use Rattle.history.proofs.Sums.{sameName-yes, empty}
 use Rattle.history.proofs.Naming.{Naming, is176, is178, is182, is184}
 use Rattle.history.proofs.Order.{yes-named}
 use Rattle.history.proofs.Edit.{only}
 
 -- ---- what a record says
 
-pub view-record : (r : Item) (b : Body) → T (isRecord r) → readBody (r .key .kind) (r .bytes) ≡ accepted b → viewOf r ≡ extentRecord b
+pub view-record : (r : Item) (b : Body) → T (isRecord r) → readBody (r .key .kind) (r .bytes) ≡ accepted b
+    → viewOf r ≡ extentRecord b
 unfolding viewOf viewRecord
 view-record r b t e =
-    ap (λ (c : Bool). cond c (viewRecord (readBody (r .key .kind) (r .bytes))) (cond (isRefItem r) (viewRefItem r) unrelated)) (T-eq (isRecord r) t)
+    ap (λ (c : Bool). cond c (viewRecord (readBody (r .key .kind) (r .bytes))) (cond (isRefItem r) (viewRefItem r) unrelated))
+    (T-eq (isRecord r) t)
     ∙ ap viewRecord e
 
-pub view-written : (r : Item) (b : Body) → T (isRecord r) → Sound (r .key .kind) b → viewOf (withBytes r (bodyBytes b)) ≡ extentRecord b
+pub view-written : (r : Item) (b : Body) → T (isRecord r) → Sound (r .key .kind) b
+    → viewOf (withBytes r (bodyBytes b)) ≡ extentRecord b
 unfolding isRecord
 view-written r b t s = view-record (withBytes r (bodyBytes b)) b t (read-bodyBytes (r .key .kind) b s)
 
@@ -99,7 +102,8 @@ none-here m x (e ∷ l) t h =
     go false q ih = omega arith
 
 -- the items beside the record, without an item of the name
-pub rest-none : (m : Name) (l : List Item) → T (all (λ i. not (recordOf (m .extent) i)) l) → T (all (notItsOwn m) l) → sum (stands m) (entries l) ≡ 0
+pub rest-none : (m : Name) (l : List Item) → T (all (λ i. not (recordOf (m .extent) i)) l) → T (all (notItsOwn m) l)
+    → sum (stands m) (entries l) ≡ 0
 unfolding entries
 rest-none m [] t u = refl
 rest-none m (i ∷ l) t u =
@@ -111,11 +115,13 @@ rest-none m (i ∷ l) t u =
     go : (c : Bool) → T (not (c && eqb (i .key .objectid) (m .extent))) → T (c || eqb (sum (stands m) (itemEntries i)) 0)
         → sum (stands m) (itemEntries i) ≡ 0
     go true a b =
-        none-here m (i .key .objectid) (itemEntries i) (entries-here i) (λ e. T-not (eqb (i .key .objectid) (m .extent)) (yes-eqb e) a)
+        none-here m (i .key .objectid) (itemEntries i) (entries-here i)
+        (λ e. T-not (eqb (i .key .objectid) (m .extent)) (yes-eqb e) a)
     go false a b = eqb→eq _ 0 b
 
 -- inline references of other names
-pub refs-none : (m : Name) (rs : List Ref) → T (all (λ r. not (named (m .kind) (m .fields) r)) rs) → sum (stands m) (refEntries (m .extent) rs) ≡ 0
+pub refs-none : (m : Name) (rs : List Ref) → T (all (λ r. not (named (m .kind) (m .fields) r)) rs)
+    → sum (stands m) (refEntries (m .extent) rs) ≡ 0
 unfolding refEntries refEntry
 refs-none m [] t = refl
 refs-none m (r ∷ rs) t =
@@ -124,7 +130,8 @@ refs-none m (r ∷ rs) t =
     sum-append (stands m) (refEntry (m .extent) r) (refEntries (m .extent) rs)
     ∙ ap₂ _+_ (go (eqb (r .kind) 172) (sameName m (record { extent = m .extent; kind = r .kind; fields = r .fields })) refl (h .0)) ih
   where
-    go : (c d : Bool) → sameName m (record { extent = m .extent; kind = r .kind; fields = r .fields }) ≡ d → T (not (named (m .kind) (m .fields) r))
+    go : (c d : Bool) → sameName m (record { extent = m .extent; kind = r .kind; fields = r .fields }) ≡ d
+        → T (not (named (m .kind) (m .fields) r))
         → sum (stands m) (cond c [] (record { name = record { extent = m .extent; kind = r .kind; fields = r .fields }; weight = r .weight } ∷ [])) ≡ 0
     go true d q t = refl
     go false true q t =
@@ -163,7 +170,8 @@ in-form v true r e t = e
 in-form v false r e t = absurd (subst (λ (y : View). T (wellFormed y)) e t)
 
 -- the entry of an item, from the reference that it is
-form-entry : (i : Item) (c : Bool) (r : Ref) → Naming (i .key .kind) → viewRefItem i ≡ inForm c r → T (good i) → eqb (r .kind) 172 ≡ false
+form-entry : (i : Item) (c : Bool) (r : Ref) → Naming (i .key .kind) → viewRefItem i ≡ inForm c r → T (good i)
+    → eqb (r .kind) 172 ≡ false
     → itemEntries i ≡ only (record { extent = i .key .objectid; kind = r .kind; fields = r .fields }) (some (r .weight))
 unfolding itemEntries viewEntries
 form-entry i c r k e t q =
@@ -202,7 +210,8 @@ plain-entry i k q t = go k
         let n₂ : T (eqb (i .key .kind) 184) = yes-eqb e in
         form-entry i (eqb (length (i .bytes)) 4) (ref 184 (one (i .key .offset)) (le (i .bytes))) k
         (cond-no (eqb (i .key .kind) 178) _ _ n₁ ∙ cond-yes (eqb (i .key .kind) 184) _ _ n₂) t refl
-        ∙ ap₂ (λ (z w : ℕ). only (record { extent = i .key .objectid; kind = z; fields = one (i .key .offset) }) (some w)) (sym e)
+        ∙ ap₂ (λ (z w : ℕ). only (record { extent = i .key .objectid; kind = z; fields = one (i .key .offset) }) (some w))
+        (sym e)
         (sym (cond-yes (eqb (i .key .kind) 184) (le (i .bytes)) 1 n₂))
 
 -- of 178: three words and a count
@@ -221,7 +230,8 @@ data-entry i e t =
     (cond-yes (eqb (i .key .kind) 178) _ _ n₁ ∙ ap (inForm f) (refAt-178 d)) t refl
 
 -- and its form: 28 bytes, at the hash of its words
-pub data-good : (i : Item) → i .key .kind ≡ 178 → length (i .bytes) ≡ 28 → i .key .offset ≡ place (ref 178 (words 3 (i .bytes)) (keyedCount (i .bytes))) → T (good i)
+pub data-good : (i : Item) → i .key .kind ≡ 178 → length (i .bytes) ≡ 28
+    → i .key .offset ≡ place (ref 178 (words 3 (i .bytes)) (keyedCount (i .bytes))) → T (good i)
 unfolding viewRefItem inForm wellFormed
 data-good i e l o =
     let d : List ℕ = i .bytes in
@@ -245,7 +255,8 @@ pub unstood : (n : Name) (l : List Entry) → sum (stands n) l ≡ 0 → sum (un
 unstood n [] e = refl
 unstood n (x ∷ l) e = go (sameName n (x .name)) (unstood n l) e
   where
-    go : (c : Bool) → (sum (stands n) l ≡ 0 → sum (under n) l ≡ 0) → cond c 1 0 + sum (stands n) l ≡ 0 → cond c (x .weight) 0 + sum (under n) l ≡ 0
+    go : (c : Bool) → (sum (stands n) l ≡ 0 → sum (under n) l ≡ 0) → cond c 1 0 + sum (stands n) l ≡ 0
+        → cond c (x .weight) 0 + sum (under n) l ≡ 0
     go true ih h = absurd (omega arith)
     go false ih h = let k = ih (omega arith) in omega arith
 

@@ -1,7 +1,7 @@
 -- On a balanced sheet no posting is refused with 6, 7, 8, 12, 14 or 16: bodies read, no total outgrows 64 bits, none is below a
 -- weight under it, and no data item counts 0. Assumes nothing.
 use mathlib.Core.Path.{_≡_, refl, sym, ap, ap₂, _∙_, subst}
-use mathlib.Core.Logic.{_≢_, _⊎_, inl, inr}
+use mathlib.Core.Logic.{_≢_}
 use mathlib.Core.Bool.{Bool, true, false, not, _&&_, _||_, cond}
 use mathlib.Core.List.{List, [], _∷_, _++_}
 use mathlib.Core.Option.{Option, none, some}
@@ -13,7 +13,7 @@ use mir.Facts.{and-yes}
 use Rattle.fields.specs.Lists.{sum, all, same, Cut, cut}
 use Rattle.fields.specs.Numbers.{leBytes, words, areBytes}
 use Rattle.fields.specs.Parts.{written}
-use Rattle.fields.proofs.Lists.{cond-yes, all-map, all-mid, all-rest, cut-some}
+use Rattle.fields.proofs.Lists.{all-map, all-mid}
 use Rattle.format.specs.declared.BlockRef.{BlockRef}
 use Rattle.format.specs.declared.DataRef.{DataRef}
 use Rattle.format.specs.declared.SharedRef.{SharedRef}
@@ -23,28 +23,27 @@ use Rattle.format.specs.declared.Key.{Key}
 use Rattle.format.specs.declared.Change.{Change}
 use Rattle.format.specs.declared.Change.the-variants.{AddBlock, AddData, AddShared, DropBlock, DropData, DropShared}
 use Rattle.format.specs.Questions.{Answer, refused, absent, remove, accepted, ask, bind, needed, found, ifAbsent, also, held, TakenOut}
-use Rattle.format.specs.References.{counted, Ref, ref, Body, bodyWith, totalOf, readBody, bodyBytes, placeOf}
+use Rattle.format.specs.References.{counted, Ref, Body, bodyWith, totalOf, readBody, bodyBytes, placeOf}
 use Rattle.format.specs.Bodies.{named, one, triple, bodyFits, sharedKind, onBody, onHead, raisedBy, loweredByOne, reducedBy, onTotal, lowerTotal, reduceTotal, dropInline, dropInlineTreeRef, dropInlineDataRef, takeInlineShared, keyedCount, dropKeyedDataRef, Spot, isGap, standingWeight, addAt, addInlineTreeRef, addInlineData, addInlineShared}
-use Rattle.format.specs.Items.{Item, keyOf, readSheet, onSheet, nodesizeFits, sheetHolds, heldSheet, putBack, without}
+use Rattle.format.specs.Items.{Item, keyOf, readSheet, onSheet, nodesizeFits, sheetHolds, heldSheet}
 use Rattle.format.specs.Sheets.{hasKey, deleted}
 use Rattle.format.specs.Apply.{inlineLimit, recordOf, onRecord, replaced, keyedBody, applyKeyedAdd, sharedBody, applySharedAdd, flagged, dropTreeRef}
 use Rattle.format.specs.Names.{Name, Entry, refEntries, itemEntries, entries, good, ofExtent, balanced}
 use Rattle.format.specs.Ledger.{nameOf, notItsOwn, kindFits, added, droppedAt, dropDataRef, sharedCount, dropSharedRef, changed, post, posted}
 use Rattle.format.specs.History.{Posting, answerTo, balancedSheet}
-use Rattle.format.proofs.Answers.{ask-ok, bind-ok, bind-yes, needed-ok, found-ok, accepted-inj}
-use Rattle.format.proofs.Refs.{whole}
-use Rattle.format.proofs.Bodies.{Sound, sound-with, read-bodyBytes, read-long, read-total}
+use Rattle.format.proofs.Answers.{bind-yes, needed-ok}
+use Rattle.format.proofs.Bodies.{Sound, read-bodyBytes, read-long, read-total}
 use Rattle.format.proofs.Items.{sane, sheet-sane}
 use Rattle.history.proofs.Sums.{sum-mid, sum-refs}
-use Rattle.history.proofs.Naming.{Naming, is178, not-172, shared-naming}
+use Rattle.history.proofs.Naming.{Naming, not-172, shared-naming}
 use Rattle.history.proofs.Order.{named-yes}
 use Rattle.history.proofs.Edit.{only, Balanced, balanced-out, extent-self, record-entries}
 use Rattle.history.proofs.Facts.{named-entries, data-entry}
-use Rattle.history.proofs.Steps.{tidy, Here, here-of, on-body}
+use Rattle.history.proofs.Steps.{tidy, Here, here-of}
 use Rattle.history.proofs.Drops.{item-counts}
-use Rattle.history.proofs.DropCalls.{key-found, keyed-entry, not-178}
+use Rattle.history.proofs.DropCalls.{shared-found, sound-without, key-found, keyed-entry, not-178}
 use Rattle.history.proofs.Bounds.{total-is, total-bound}
-use Rattle.history.proofs.Demand.{sane-tidy, On, on-of}
+use Rattle.history.proofs.Demand.{sane-tidy, on-of}
 
 -- ---- the refusals that are left
 
@@ -79,7 +78,8 @@ clean (accepted a) = true
 
 -- ---- questions: those that may be refused, and those that never are
 
-clean-ask : {A : Type 0} (b : Bool) (n : ℕ) (next : Answer A) → T (allowed n) → (T b → T (clean next)) → T (clean (ask b n next))
+clean-ask : {A : Type 0} (b : Bool) (n : ℕ) (next : Answer A) → T (allowed n) → (T b → T (clean next))
+    → T (clean (ask b n next))
 unfolding ask
 clean-ask true n next t f = f tt
 clean-ask false n next t f = t
@@ -132,13 +132,15 @@ clean-held holds r t = clean-bind r _ t (λ a _. clean-ask (holds a) 21 (accepte
 
 -- ---- calls on a body that reads
 
-clean-onBody : {A : Type 0} (type : ℕ) (d : List ℕ) (b : Body) (next : Body → Answer A) → readBody type d ≡ accepted b → T (clean (next b))
+clean-onBody : {A : Type 0} (type : ℕ) (d : List ℕ) (b : Body) (next : Body → Answer A) → readBody type d ≡ accepted b
+    → T (clean (next b))
     → T (clean (onBody type d next))
 unfolding onBody allowed
 clean-onBody type d b next r t =
     clean-ask (bodyFits d) 3 _ tt (λ _. subst (λ x. T (clean x)) (sym (bind-yes (readBody type d) next r)) t)
 
-clean-onTotal : (type : ℕ) (d : List ℕ) (b : Body) (next : ℕ → Answer ℕ) → readBody type d ≡ accepted b → T (clean (next (b .total)))
+clean-onTotal : (type : ℕ) (d : List ℕ) (b : Body) (next : ℕ → Answer ℕ) → readBody type d ≡ accepted b
+    → T (clean (next (b .total)))
     → T (clean (onTotal d next))
 unfolding onTotal onHead allowed
 clean-onTotal type d b next r t =
@@ -158,7 +160,8 @@ clean-lowerTotal : (type : ℕ) (d : List ℕ) (b : Body) → readBody type d �
 unfolding lowerTotal
 clean-lowerTotal type d b r = clean-onTotal type d b loweredByOne r (clean-lowered (b .total))
 
-clean-reduceTotal : (type : ℕ) (d : List ℕ) (b : Body) (amount : ℕ) → readBody type d ≡ accepted b → amount ≤ b .total → T (clean (reduceTotal d amount))
+clean-reduceTotal : (type : ℕ) (d : List ℕ) (b : Body) (amount : ℕ) → readBody type d ≡ accepted b → amount ≤ b .total
+    → T (clean (reduceTotal d amount))
 unfolding reduceTotal
 clean-reduceTotal type d b amount r h = clean-onTotal type d b (reducedBy amount) r (clean-reduced amount (b .total) h)
 
@@ -172,9 +175,11 @@ clean-addAt b r spot h =
     clean-bind (ask (ltb (b .total + r .weight) (2 ^ 64)) 12 (accepted (b .total + r .weight))) _
     (let l : standingWeight spot + r .weight < 4294967296 = ltb→lt _ _ e in
     let k : b .total + r .weight < 18446744073709551616 = omega arith in
-    clean-sure (ltb (b .total + r .weight) (2 ^ 64)) 12 _ (lt→ltb (b .total + r .weight) 18446744073709551616 k) tt) (λ t _. tt))))
+    clean-sure (ltb (b .total + r .weight) (2 ^ 64)) 12 _
+    (lt→ltb (b .total + r .weight) 18446744073709551616 k) tt) (λ t _. tt))))
 
-clean-dropInline : (type : ℕ) (d : List ℕ) (b : Body) (kind : ℕ) (fields : List ℕ) → readBody type d ≡ accepted b → T (clean (dropInline type d kind fields))
+clean-dropInline : (type : ℕ) (d : List ℕ) (b : Body) (kind : ℕ) (fields : List ℕ) → readBody type d ≡ accepted b
+    → T (clean (dropInline type d kind fields))
 unfolding dropInline
 clean-dropInline type d b kind fields r =
     clean-onBody type d b _ r
@@ -202,17 +207,20 @@ clean-droppedAt k (accepted d) t = tt
 
 clean-replaced : (key : Key) (d : List ℕ) (items : List Item) → T (clean (replaced key d items))
 unfolding replaced allowed
-clean-replaced key d items = clean-bind (needed 5 (cut (hasKey key) items)) _ (clean-needed 5 (cut (hasKey key) items) tt) (λ c _. tt)
+clean-replaced key d items =
+    clean-bind (needed 5 (cut (hasKey key) items)) _ (clean-needed 5 (cut (hasKey key) items) tt) (λ c _. tt)
 
 -- ---- 14: a weight under a name is within its record's total
 
-module _ (m : Name) (items : List Item) (c : Cut Item) (b : Body) (H : Here m items c b) (bal : Balanced items) (td : T (all tidy items)) where
-  inline-within : Naming (m .kind) → (x : Cut Ref) → b .refs ≡ x .front ++ x .hit ∷ x .back → T (named (m .kind) (m .fields) (x .hit))
+module _ (m : Name) (items : List Item) (c : Cut Item) (b : Body) (H : Here m items c b) (balance : Balanced items)
+    (tidies : T (all tidy items)) where
+  inline-within : Naming (m .kind) → (x : Cut Ref) → b .refs ≡ x .front ++ x .hit ∷ x .back
+      → T (named (m .kind) (m .fields) (x .hit))
       → x .hit .weight ≤ b .total
   inline-within naming x e t =
       let g : Entry → ℕ = ofExtent (m .extent) in
       let h = named-yes (m .kind) (m .fields) (x .hit) t in
-      let e₁ = total-is m items c b H bal td in
+      let e₁ = total-is m items c b H balance tidies in
       let e₂ = ap (λ (l : List Item). sum g (entries l)) (H .found .same) ∙ sum-mid g (c .front) (c .hit) (c .back) in
       let e₃ : sum g (itemEntries (c .hit)) ≡ sum g (refEntries (m .extent) (x .front ++ (x .hit ∷ [] ++ x .back))) =
       ap (sum g) (record-entries (c .hit) b (H .view) ∙ ap₂ refEntries (H .extent) e) in
@@ -221,10 +229,11 @@ module _ (m : Name) (items : List Item) (c : Cut Item) (b : Body) (H : Here m it
       let e₆ = extent-self m (some (x .hit .weight)) in
       omega arith
 
-  item-within : (k : Cut Item) → items ≡ k .front ++ k .hit ∷ k .back → (w : ℕ) → itemEntries (k .hit) ≡ only m (some w) → w ≤ b .total
+  item-within : (k : Cut Item) → items ≡ k .front ++ k .hit ∷ k .back → (w : ℕ) → itemEntries (k .hit) ≡ only m (some w)
+      → w ≤ b .total
   item-within k ek w ew =
       let g : Entry → ℕ = ofExtent (m .extent) in
-      let e₁ = total-is m items c b H bal td in
+      let e₁ = total-is m items c b H balance tidies in
       let e₂ = ap (λ (l : List Item). sum g (entries l)) ek ∙ sum-mid g (k .front) (k .hit) (k .back) in
       let e₃ = ap (sum g) ew in
       let e₄ = extent-self m (some w) in
@@ -232,14 +241,16 @@ module _ (m : Name) (items : List Item) (c : Cut Item) (b : Body) (H : Here m it
 
 -- ---- the six changes
 
-module _ (items : List Item) (bal : Balanced items) (td : T (all tidy items))
+module _ (items : List Item) (balance : Balanced items) (tidies : T (all tidy items))
     (most : (m : Name) (c : Cut Item) (b : Body) → Here m items c b → b .total ≤ 4294967296 * 262144) where
-  clean-onRecord : {A : Type 0} (m : Name) (next : Cut Item → Answer A) → ((c : Cut Item) (b : Body) → Here m items c b → T (clean (next c)))
+  clean-onRecord : {A : Type 0} (m : Name) (next : Cut Item → Answer A)
+      → ((c : Cut Item) (b : Body) → Here m items c b → T (clean (next c)))
       → T (clean (onRecord (m .extent) items next))
   unfolding onRecord allowed
   clean-onRecord m next f =
-      clean-bind (needed 5 (cut (recordOf (m .extent)) items)) next (clean-needed 5 (cut (recordOf (m .extent)) items) tt) (λ c e.
-      let (b, H) = here-of m items c bal td (needed-ok 5 (cut (recordOf (m .extent)) items) e) in f c b H)
+      clean-bind (needed 5 (cut (recordOf (m .extent)) items)) next (clean-needed 5 (cut (recordOf (m .extent)) items) tt)
+      (λ c e.
+      let (b, H) = here-of m items c balance tidies (needed-ok 5 (cut (recordOf (m .extent)) items) e) in f c b H)
 
   clean-keyedBody : (m : Name) (c : Cut Item) (b : Body) → Here m items c b → (keyed : Keyed) (amount : ℕ)
       → T (clean (keyedBody (c .hit) keyed amount false))
@@ -250,14 +261,16 @@ module _ (items : List Item) (bal : Balanced items) (td : T (all tidy items))
   clean-keyedBody m c b H (Data d) (suc amount) =
       clean-onBody (c .hit .key .kind) (c .hit .bytes) b _ (H .reads) (clean-addAt b _ _ (most m c b H))
 
-  clean-keyedAdd : (nodesize : ℕ) (m : Name) (keyed : Keyed) (amount : ℕ) → T (clean (applyKeyedAdd nodesize (m .extent) keyed amount false items))
+  clean-keyedAdd : (nodesize : ℕ) (m : Name) (keyed : Keyed) (amount : ℕ)
+      → T (clean (applyKeyedAdd nodesize (m .extent) keyed amount false items))
   unfolding applyKeyedAdd allowed
   clean-keyedAdd nodesize m keyed amount =
       clean-onRecord m _ (λ c b H.
       clean-bind (keyedBody (c .hit) keyed amount false) _ (clean-keyedBody m c b H keyed amount) (λ d _.
       clean-ask (leb (length d) (length (c .hit .bytes)) || leb (length d) (inlineLimit nodesize)) 17 _ tt (λ _. tt)))
 
-  clean-sharedAdd : (nodesize : ℕ) (m : Name) (s : SharedRef) (amount : ℕ) → T (clean (applySharedAdd nodesize (m .extent) s amount false items))
+  clean-sharedAdd : (nodesize : ℕ) (m : Name) (s : SharedRef) (amount : ℕ)
+      → T (clean (applySharedAdd nodesize (m .extent) s amount false items))
   unfolding applySharedAdd sharedBody addInlineShared allowed
   clean-sharedAdd nodesize m s amount =
       clean-onRecord m _ (λ c b H.
@@ -266,11 +279,13 @@ module _ (items : List Item) (bal : Balanced items) (td : T (all tidy items))
       clean-onBody (c .hit .key .kind) (c .hit .bytes) b _ (H .reads) (clean-addAt b _ _ (most m c b H)))) (λ d _.
       clean-ask (leb (length d) (inlineLimit nodesize)) 17 _ tt (λ _. tt)))
 
-  clean-added : (m : Name) (amount : ℕ) (answer : Answer (List Item)) → T (clean answer) → T (clean (added m amount items answer))
+  clean-added : (m : Name) (amount : ℕ) (answer : Answer (List Item)) → T (clean answer)
+      → T (clean (added m amount items answer))
   unfolding added allowed
   clean-added m amount answer t = clean-also (all (notItsOwn m) items) 9 _ tt (clean-also (leb 1 amount) 10 answer tt t)
 
-  clean-dropTree : (m : Name) (block : BlockRef) (c : Cut Item) (b : Body) → Here m items c b → T (clean (dropTreeRef block false items c))
+  clean-dropTree : (m : Name) (block : BlockRef) (c : Cut Item) (b : Body) → Here m items c b
+      → T (clean (dropTreeRef block false items c))
   unfolding dropTreeRef dropInlineTreeRef flagged deleted allowed
   clean-dropTree m block c b H =
       clean-ifAbsent _ _
@@ -296,13 +311,15 @@ module _ (items : List Item) (bal : Balanced items) (td : T (all tidy items))
       (clean-droppedAt k _ (clean-dropKeyed (k .hit .bytes) d (count-at k e))) (λ others _.
       clean-replaced (c .hit .key) z others))))
     where
-      count-at : (k : Cut Item) → needed 5 (cut (hasKey (keyOf (c .hit .key .objectid) 178 (placeOf 178 (triple d)))) items) ≡ accepted k
+      count-at : (k : Cut Item)
+          → needed 5 (cut (hasKey (keyOf (c .hit .key .objectid) 178 (placeOf 178 (triple d)))) items) ≡ accepted k
           → 1 ≤ keyedCount (k .hit .bytes)
       count-at k e =
           let (same, key) = key-found (keyOf (c .hit .key .objectid) 178 (placeOf 178 (triple d))) items k e in
           let kind : k .hit .key .kind ≡ 178 = ap (λ (key : Key). key .kind) key in
-          let g : T (good (k .hit)) = all-mid good (k .front) (k .hit) (k .back) (rw same at (bal .goods)) in
-          item-counts items bal k same (record { extent = k .hit .key .objectid; kind = 178; fields = words 3 (k .hit .bytes) })
+          let g : T (good (k .hit)) = all-mid good (k .front) (k .hit) (k .back) (rw same at (balance .goods)) in
+          item-counts items balance k same
+          (record { extent = k .hit .key .objectid; kind = 178; fields = words 3 (k .hit .bytes) })
           (keyedCount (k .hit .bytes)) (data-entry (k .hit) kind g)
 
   clean-dropShared : (extent : ℕ) (s : SharedRef) → T (sharedKind (s .kind)) → (c : Cut Item) (b : Body)
@@ -327,27 +344,26 @@ module _ (items : List Item) (bal : Balanced items) (td : T (all tidy items))
       p : Ref → Bool
       p = named (s .kind) (one (s .parent))
 
-      reduce-at : (out : TakenOut) → takeInlineShared (c .hit .key .kind) (c .hit .bytes) s ≡ accepted out → T (clean (reduceTotal (out .bytes) (out .count)))
+      reduce-at : (out : TakenOut) → takeInlineShared (c .hit .key .kind) (c .hit .bytes) s ≡ accepted out
+          → T (clean (reduceTotal (out .bytes) (out .count)))
       reduce-at out e =
-          let h₃ = ask-ok (sharedKind (s .kind)) 3 _ e in
-          let h₂ = bind-ok (found (cut p (b .refs))) _ (on-body (c .hit .key .kind) (c .hit .bytes) b _ (H .reads) (h₃ .1)) in
-          let x : Cut Ref = h₂ .0 in
-          let f = cut-some p (b .refs) (found-ok (cut p (b .refs)) (h₂ .1)) in
+          let type : ℕ = c .hit .key .kind in
+          let (x, f, o) = shared-found type (c .hit .bytes) b s out (H .reads) e in
           let b₁ : Body = bodyWith b (b .total) (x .front ++ x .back) in
-          let S₁ : Sound (c .hit .key .kind) b₁ =
-          sound-with (c .hit .key .kind) b (b .total) (x .front ++ x .back) (H .sound) (H .sound .fits)
-          (all-rest whole (x .front) (x .hit) (x .back) (rw (f .same) at (H .sound .wholes))) in
-          subst (λ (o : TakenOut). T (clean (reduceTotal (o .bytes) (o .count)))) (accepted-inj (h₂ .2))
-          (clean-reduceTotal (c .hit .key .kind) (bodyBytes b₁) b₁ (x .hit .weight) (read-bodyBytes (c .hit .key .kind) b₁ S₁)
-          (inline-within m items c b H bal td (shared-naming (s .kind) sk) x (f .same) (f .hit)))
+          let S₁ : Sound type b₁ = sound-without type b (named (s .kind) (one (s .parent))) x (H .sound) f in
+          subst (λ (z : TakenOut). T (clean (reduceTotal (z .bytes) (z .count)))) o
+          (clean-reduceTotal type (bodyBytes b₁) b₁ (x .hit .weight) (read-bodyBytes type b₁ S₁)
+          (inline-within m items c b H balance tidies (shared-naming (s .kind) sk) x (f .same) (f .hit)))
 
-      count-at : (k : Cut Item) → needed 5 (cut (hasKey (keyOf (c .hit .key .objectid) (s .kind) (s .parent))) items) ≡ accepted k
+      count-at : (k : Cut Item)
+          → needed 5 (cut (hasKey (keyOf (c .hit .key .objectid) (s .kind) (s .parent))) items) ≡ accepted k
           → sharedCount (k .hit) ≤ b .total
       count-at k e =
           let (same, key) = key-found (keyOf (c .hit .key .objectid) (s .kind) (s .parent)) items k e in
-          let g : T (good (k .hit)) = all-mid good (k .front) (k .hit) (k .back) (rw same at (bal .goods)) in
-          let key′ : k .hit .key ≡ keyOf extent (s .kind) (s .parent) = key ∙ ap (λ (n : ℕ). keyOf n (s .kind) (s .parent)) (H .extent) in
-          item-within m items c b H bal td k same (sharedCount (k .hit))
+          let g : T (good (k .hit)) = all-mid good (k .front) (k .hit) (k .back) (rw same at (balance .goods)) in
+          let key′ : k .hit .key ≡ keyOf extent (s .kind) (s .parent) =
+          key ∙ ap (λ (n : ℕ). keyOf n (s .kind) (s .parent)) (H .extent) in
+          item-within m items c b H balance tidies k same (sharedCount (k .hit))
           (keyed-entry (k .hit) extent (s .kind) (s .parent) key′ (shared-naming (s .kind) sk) (not-178 (s .kind) sk) g)
 
   clean-changed : (nodesize : ℕ) (change : Change) → T (kindFits change) → T (clean (changed nodesize change items))
@@ -355,7 +371,8 @@ module _ (items : List Item) (bal : Balanced items) (td : T (all tidy items))
   clean-changed nodesize (AddBlock extent name) t =
       let m : Name = nameOf (AddBlock extent name) in clean-added m 1 _ (clean-keyedAdd nodesize m (Block name) 1)
   clean-changed nodesize (AddData extent name amount) t =
-      let m : Name = nameOf (AddData extent name amount) in clean-added m amount _ (clean-keyedAdd nodesize m (Data name) amount)
+      let m : Name =
+      nameOf (AddData extent name amount) in clean-added m amount _ (clean-keyedAdd nodesize m (Data name) amount)
   clean-changed nodesize (AddShared extent name amount) t =
       let m : Name = nameOf (AddShared extent name amount) in clean-added m amount _ (clean-sharedAdd nodesize m name amount)
   clean-changed nodesize (DropBlock extent name) t =
@@ -367,21 +384,22 @@ module _ (items : List Item) (bal : Balanced items) (td : T (all tidy items))
 
 -- ---- a posting
 
-pub impossible : (sheet : List ℕ) (p : Posting) → T (areBytes sheet) → T (balancedSheet sheet) → (number : ℕ) → answerTo sheet p ≡ refused number
+pub impossible : (sheet : List ℕ) (p : Posting) → T (areBytes sheet) → T (balancedSheet sheet) → (number : ℕ)
+    → answerTo sheet p ≡ refused number
     → Possible number
 unfolding answerTo posted heldSheet post onSheet allowed
 impossible sheet p b t number e =
     let (items, o) = on-of sheet b t in
-    let bal = balanced-out items (o .bal) in
-    let td = all-map sane tidy sane-tidy items (sheet-sane sheet items b (o .reads) .0) in
+    let balance = balanced-out items (o .balance) in
+    let tidies = all-map sane tidy sane-tidy items (sheet-sane sheet items b (o .reads) .0) in
     let most : (m : Name) (c : Cut Item) (b′ : Body) → Here m items c b′ → b′ .total ≤ 4294967296 * 262144 =
-    (λ m c b′ H. total-bound sheet m items c b′ b (o .reads) H bal td) in
+    (λ m c b′ H. total-bound sheet m items c b′ b (o .reads) H balance tidies) in
     let read : T (clean (bind (readSheet sheet) (λ (js : List Item).
     ask (nodesizeFits (p .nodesize) && kindFits (p .change)) 3 (ask (balanced js) 4 (changed (p .nodesize) (p .change) js))))) =
     subst (λ x. T (clean x)) (sym (bind-yes (readSheet sheet) _ (o .reads)))
     (clean-ask (nodesizeFits (p .nodesize) && kindFits (p .change)) 3 _ tt (λ k.
     clean-ask (balanced items) 4 _ tt (λ _.
-    clean-changed items bal td most (p .nodesize) (p .change) (and-yes (nodesizeFits (p .nodesize)) (kindFits (p .change)) k .1)))) in
+    clean-changed items balance tidies most (p .nodesize) (p .change) (and-yes (nodesizeFits (p .nodesize)) (kindFits (p .change)) k .1)))) in
     let c : T (clean (answerTo sheet p)) =
     clean-bind (held (sheetHolds (p .room)) (post (p .nodesize) sheet (p .change))) _
     (clean-held (sheetHolds (p .room)) (post (p .nodesize) sheet (p .change)) read) (λ js _. tt) in

@@ -1,11 +1,9 @@
 -- The four types that name something, and what the table and the order say of each. Assumes nothing.
-use mathlib.Core.Path.{_≡_, refl, sym, ap, _∙_, subst}
+use mathlib.Core.Path.{_≡_, refl, sym, subst}
 use mathlib.Core.Logic.{_⊎_, inl, inr}
 use Prim.Native.Nat.{ℕ, _<_}
 use native.Mathlib.Omega.{arith}
-use mathlib.Core.Bool.{Bool, true, false, not, _&&_, _||_, cond}
-use mathlib.Core.List.{List, [], _∷_}
-use lib.ListN.{length, getD}
+use mathlib.Core.Bool.{false, not}
 use lib.Dec.{T, eqb, eqb→eq}
 use mir.Facts.{or-yes}
 use Rattle.format.specs.References.{known, payloadLength, countPosition, counted, fieldCount, rowIn, weightOf, placeOf}

@@ -2,13 +2,13 @@
 -- Knows nothing of bytes. Assumes nothing.
 use mathlib.Core.Path.{_≡_, refl, sym, ap, ap₂, _∙_, subst}
 use mathlib.Core.Logic.{_≢_, _⊎_, inl, inr}
-use Prim.Native.Nat.{ℕ, zero, suc, _+_, _-_, _≤_, _<_}
+use Prim.Native.Nat.{ℕ, _+_, _-_, _≤_, _<_}
 use native.Mathlib.Omega.{arith}
 use mathlib.Core.Bool.{Bool, true, false, not, _&&_, _||_, cond}
 use mathlib.Core.Option.{Option, none, some}
 use mathlib.Core.List.{List, [], _∷_, _++_, append-nil}
 use lib.ListN.{length, getD}
-use lib.Dec.{T, leb, ltb, eqb, eqb-refl, eqb→eq, leb→le, le→leb, ltb→lt, lt→ltb}
+use lib.Dec.{T, leb, ltb, eqb, eqb→eq, leb→le, le→leb, ltb→lt, lt→ltb}
 use mir.Facts.{and-yes, yes-and, or-yes, or-no, T-not, not-T, yes-eqb, no-eqb}
 use Rattle.fields.specs.Lists.{all, same, Cut, cut}
 use Rattle.fields.proofs.Lists.{or-left, or-right, lt-or, all-left, all-both, all-map, all-two, same-yes, same-refl, Found, cut-some, cut-none}
@@ -22,7 +22,8 @@ pub falls-trans : (k x y z : ℕ) → T (falls k x y) → T (falls k y z) → T 
 unfolding falls
 falls-trans k x y z = go (eqb k 172) (eqb k 178)
   where
-    go : (c d : Bool) → T (cond c true (cond d (leb y x) (ltb y x))) → T (cond c true (cond d (leb z y) (ltb z y))) → T (cond c true (cond d (leb z x) (ltb z x)))
+    go : (c d : Bool) → T (cond c true (cond d (leb y x) (ltb y x))) → T (cond c true (cond d (leb z y) (ltb z y)))
+        → T (cond c true (cond d (leb z x) (ltb z x)))
     go true d s t = tt
     go false true s t = let p : y ≤ x = leb→le y x s in let q : z ≤ y = leb→le z y t in le→leb z x (omega arith)
     go false false s t = let p : y < x = ltb→lt y x s in let q : z < y = ltb→lt z y t in lt→ltb z x (omega arith)
@@ -36,7 +37,8 @@ falls-strict k x y h = go (eqb k 172) (eqb k 178)
     go false true = le→leb y x (omega arith)
     go false false = lt→ltb y x h
 
-pub follows-out : (r s : Ref) → T (follows r s) → (r .kind < s .kind) ⊎ ((r .kind ≡ s .kind) × T (falls (r .kind) (place r) (place s)))
+pub follows-out : (r s : Ref) → T (follows r s)
+    → (r .kind < s .kind) ⊎ ((r .kind ≡ s .kind) × T (falls (r .kind) (place r) (place s)))
 unfolding follows
 follows-out r s t = go (or-yes (ltb (r .kind) (s .kind)) _ t)
   where
@@ -61,7 +63,8 @@ follows-trans r s u p q = go (follows-out r s p) (follows-out s u q)
     go (inl h) (inl k) = follows-lt r u (omega arith)
     go (inl h) (inr k) = follows-lt r u (omega arith)
     go (inr h) (inl k) = follows-lt r u (omega arith)
-    go (inr h) (inr k) = follows-eq r u (h .0 ∙ k .0) (falls-trans (r .kind) (place r) (place s) (place u) (h .1) (rw (h .0) (k .1)))
+    go (inr h) (inr k) =
+        follows-eq r u (h .0 ∙ k .0) (falls-trans (r .kind) (place r) (place s) (place u) (h .1) (rw (h .0) (k .1)))
 
 pub ordered-drop : (a : List Ref) (x : Ref) (b : List Ref) → T (ordered (a ++ x ∷ b)) → T (ordered (a ++ b))
 ordered-drop [] x b t = and-yes (leads x b) _ t .1
@@ -78,7 +81,8 @@ pub ordered-back : (a b : List Ref) → T (ordered (a ++ b)) → T (ordered b)
 ordered-back [] b t = t
 ordered-back (r ∷ a) b t = ordered-back a b (and-yes (leads r (a ++ b)) _ t .1)
 
-pub ordered-put : (a : List Ref) (n : Ref) (b : List Ref) → T (ordered (a ++ b)) → T (all (λ r. follows r n) a) → T (leads n b) → T (ordered (a ++ n ∷ b))
+pub ordered-put : (a : List Ref) (n : Ref) (b : List Ref) → T (ordered (a ++ b)) → T (all (λ r. follows r n) a) → T (leads n b)
+    → T (ordered (a ++ n ∷ b))
 ordered-put [] n b t f h = yes-and (leads n b) _ h t
 ordered-put (r ∷ []) n b t f h =
     yes-and (follows r n) _ (and-yes (follows r n) _ f .0) (yes-and (leads n b) _ h (and-yes (leads r b) _ t .1))
@@ -95,8 +99,10 @@ unfolding follows place
 leads-weighed x w [] = refl
 leads-weighed x w (y ∷ b) = refl
 
-pub ordered-weighed : (a : List Ref) (x : Ref) (w : ℕ) (b : List Ref) → T (ordered (a ++ x ∷ b)) → T (ordered (a ++ weighed x w ∷ b))
-ordered-weighed [] x w b t = let h = and-yes (leads x b) _ t in yes-and (leads (weighed x w) b) _ (rw (leads-weighed x w b) (h .0)) (h .1)
+pub ordered-weighed : (a : List Ref) (x : Ref) (w : ℕ) (b : List Ref) → T (ordered (a ++ x ∷ b))
+    → T (ordered (a ++ weighed x w ∷ b))
+ordered-weighed [] x w b t =
+    let h = and-yes (leads x b) _ t in yes-and (leads (weighed x w) b) _ (rw (leads-weighed x w b) (h .0)) (h .1)
 ordered-weighed (r ∷ []) x w b t =
     let h = and-yes (follows r x) _ t in
     yes-and (follows r (weighed x w)) _ (rw (follows-weighed r x w) (h .0)) (ordered-weighed [] x w b (h .1))
@@ -131,7 +137,8 @@ same-first (x ∷ []) (y ∷ z ∷ b) p q e = absurd (omega arith)
 same-first (x ∷ w ∷ a) (y ∷ b) p q e = absurd (omega arith)
 
 -- away from 178, the type and the place are the name
-place-fields : (kind : ℕ) (a b : List ℕ) → Naming kind → length a ≡ fieldCount kind → length b ≡ fieldCount kind → eqb kind 178 ≡ false
+place-fields : (kind : ℕ) (a b : List ℕ) → Naming kind → length a ≡ fieldCount kind → length b ≡ fieldCount kind
+    → eqb kind 178 ≡ false
     → placeOf kind a ≡ placeOf kind b → a ≡ b
 unfolding placeOf
 place-fields kind a b k p q f e =
@@ -150,7 +157,8 @@ module _ (kind : ℕ) (fields : List ℕ) (weight : ℕ) (naming : Naming kind) 
   unfolding place
   place-named r t = let h = named-yes kind fields r t in ap₂ placeOf (h .0) (h .1)
 
-  stop-out : (r : Ref) → T (stops kind (placeOf kind fields) r) → (kind < r .kind) ⊎ ((kind ≡ r .kind) × (place r < placeOf kind fields))
+  stop-out : (r : Ref) → T (stops kind (placeOf kind fields) r)
+      → (kind < r .kind) ⊎ ((kind ≡ r .kind) × (place r < placeOf kind fields))
   unfolding stops
   stop-out r t =
       go (or-yes (ltb kind (r .kind)) (eqb kind (r .kind) && ltb (place r) (placeOf kind fields)) (and-yes (not (eqb (r .kind) 172)) _ t .1))
@@ -183,7 +191,8 @@ module _ (kind : ℕ) (fields : List ℕ) (weight : ℕ) (naming : Naming kind) 
       go : (kind < r .kind) ⊎ ((kind ≡ r .kind) × (place r < placeOf kind fields)) → T (follows (ref kind fields weight) r)
       go (inl h) = follows-lt (ref kind fields weight) r h
       go (inr h) =
-          follows-eq (ref kind fields weight) r (h .0) (falls-strict kind (place (ref kind fields weight)) (place r) (rw place-new (h .1)))
+          follows-eq (ref kind fields weight) r (h .0)
+          (falls-strict kind (place (ref kind fields weight)) (place r) (rw place-new (h .1)))
 
   -- what stops the scan has another name
   stop-other : (r : Ref) → T (stops kind (placeOf kind fields) r) → T (not (named kind fields r))
@@ -198,13 +207,15 @@ module _ (kind : ℕ) (fields : List ℕ) (weight : ℕ) (naming : Naming kind) 
   unfolding falls
   stop-up r s t f = go (stop-out r t) (follows-out r s f)
     where
-      weak : (c d : Bool) → c ≡ false → T (cond c true (cond d (leb (place s) (place r)) (ltb (place s) (place r)))) → place s ≤ place r
+      weak : (c d : Bool) → c ≡ false → T (cond c true (cond d (leb (place s) (place r)) (ltb (place s) (place r))))
+          → place s ≤ place r
       weak true d q t = absurd (subst T q tt)
       weak false true q t = leb→le _ _ t
       weak false false q t = let h : place s < place r = ltb→lt _ _ t in omega arith
 
       go : (kind < r .kind) ⊎ ((kind ≡ r .kind) × (place r < placeOf kind fields))
-          → (r .kind < s .kind) ⊎ ((r .kind ≡ s .kind) × T (falls (r .kind) (place r) (place s))) → T (stops kind (placeOf kind fields) s)
+          → (r .kind < s .kind) ⊎ ((r .kind ≡ s .kind) × T (falls (r .kind) (place r) (place s)))
+          → T (stops kind (placeOf kind fields) s)
       go (inl h) (inl k) = stop-lt s (omega arith)
       go (inl h) (inr k) = let e = k .0 in stop-lt s (omega arith)
       go (inr h) (inl k) = let e = h .0 in stop-lt s (omega arith)
@@ -226,7 +237,8 @@ module _ (kind : ℕ) (fields : List ℕ) (weight : ℕ) (naming : Naming kind) 
           let sz : length (r .fields) ≡ fieldCount kind = eqb→eq _ _ (h .0) ∙ ap fieldCount e in
           let q′ : eqb kind 178 ≡ false = ap (λ (n : ℕ). eqb n 178) (sym e) ∙ q in
           let p′ : placeOf kind (r .fields) ≡ placeOf kind fields = ap (λ (n : ℕ). placeOf n (r .fields)) (sym e) ∙ sym p in
-          T-not (named kind fields r) (yes-named kind fields r e (place-fields kind (r .fields) fields naming sz size q′ p′)) (h .1)
+          T-not (named kind fields r) (yes-named kind fields r e (place-fields kind (r .fields) fields naming sz size q′ p′))
+          (h .1)
 
       down : (c d : Bool) → eqb (r .kind) 178 ≡ d → r .kind ≡ kind → place (ref kind fields weight) ≤ place r
           → T (cond c true (cond d (leb (place (ref kind fields weight)) (place r)) (ltb (place (ref kind fields weight)) (place r))))
@@ -243,7 +255,8 @@ module _ (kind : ℕ) (fields : List ℕ) (weight : ℕ) (naming : Naming kind) 
           places : (place r < place (ref kind fields weight)) ⊎ (place (ref kind fields weight) ≤ place r)
               → (kind < r .kind) ⊎ (r .kind ≤ kind) → T (follows r (ref kind fields weight))
           places x (inl k) = absurd (T-not (stops kind (placeOf kind fields) r) (stop-lt r k) t)
-          places (inl x) (inr k) = absurd (T-not (stops kind (placeOf kind fields) r) (stop-eq r (omega arith) (rw place-new at x)) t)
+          places (inl x) (inr k) =
+              absurd (T-not (stops kind (placeOf kind fields) r) (stop-eq r (omega arith) (rw place-new at x)) t)
           places (inr x) (inr k) =
               let e : r .kind ≡ kind = omega arith in
               follows-eq r (ref kind fields weight) e (down (eqb (r .kind) 172) (eqb (r .kind) 178) refl e x)
@@ -258,7 +271,8 @@ module _ (kind : ℕ) (fields : List ℕ) (weight : ℕ) (naming : Naming kind) 
 
   -- a spot for the reference in a list: a gap that keeps the order, where no other has the name, or one that has it
   pub data SpotOk (l : List Ref) : Spot → Type 0 where
-    at-gap : {p q : List Ref} → l ≡ p ++ q → T (ordered (p ++ ref kind fields weight ∷ q)) → T (all (λ r. not (named kind fields r)) l)
+    at-gap : {p q : List Ref} → l ≡ p ++ q → T (ordered (p ++ ref kind fields weight ∷ q))
+        → T (all (λ r. not (named kind fields r)) l)
         → SpotOk l (gap p q)
     at-standing : {x : Cut Ref} → l ≡ x .front ++ x .hit ∷ x .back → T (named kind fields (x .hit)) → SpotOk l (standing x)
 
@@ -304,7 +318,8 @@ module _ (kind : ℕ) (fields : List ℕ) (weight : ℕ) (naming : Naming kind) 
           new-at l x (f .same) o lo (all-left (λ r. not (named kind fields r)) (x .front) (x .hit ∷ x .back) (rw (f .same) at t)) (f .miss) (f .hit)
   anywhere-ok l o lo (some x) e = let f = cut-some (named kind fields) l e in at-standing (f .same) (f .hit)
 
-  pub spot-anywhere : (l : List Ref) → T (ordered l) → T (all long l) → SpotOk l (spotAnywhere kind fields (placeOf kind fields) l)
+  pub spot-anywhere : (l : List Ref) → T (ordered l) → T (all long l)
+      → SpotOk l (spotAnywhere kind fields (placeOf kind fields) l)
   unfolding spotAnywhere
   spot-anywhere l o lo = anywhere-ok l o lo (cut (named kind fields) l) refl
 

@@ -1,24 +1,23 @@
 -- One change of the items under one name, and how a record's references spliced make such a change. Assumes nothing.
-use mathlib.Core.Path.{_≡_, refl, sym, ap, ap₂, _∙_, subst}
-use mathlib.Core.Logic.{_≢_, _⊎_, inl, inr}
-use Prim.Native.Nat.{ℕ, zero, suc, _+_, _-_, _≤_, _<_}
+use mathlib.Core.Path.{_≡_, sym, ap, _∙_, subst}
+use Prim.Native.Nat.{ℕ, _+_, _-_}
 use native.Mathlib.Omega.{arith}
-use mathlib.Core.Bool.{Bool, true, false, not, _&&_, _||_, cond}
+use mathlib.Core.Bool.{Bool, not, _&&_, _||_}
 use mathlib.Core.Option.{Option, none, some}
-use mathlib.Core.List.{List, [], _∷_, _++_}
+use mathlib.Core.List.{List, _∷_, _++_}
 use lib.ListN.{length}
-use lib.Dec.{T, leb, ltb, eqb, eqb→eq}
+use lib.Dec.{T, leb, ltb, eqb→eq}
 use mir.Facts.{and-yes, yes-and, yes-eqb}
 use Rattle.fields.specs.Lists.{sum, all, Cut, cut}
 use Rattle.fields.specs.Numbers.{leBytes, areBytes}
 use Rattle.fields.specs.Parts.{written}
 use Rattle.fields.proofs.Lists.{T-eq, imp-out, all-map, all-mid, all-rest, all-put, Found, cut-some}
-use Rattle.format.specs.Questions.{Answer, accepted, ask, bind, needed}
-use Rattle.format.specs.References.{fieldCount, Ref, ref, Body, bodyWith, totalOf, readBody, bodyBytes, ordered}
+use Rattle.format.specs.Questions.{Answer, accepted, bind, needed}
+use Rattle.format.specs.References.{fieldCount, Body, bodyWith, totalOf, readBody, bodyBytes, ordered}
 use Rattle.format.specs.Bodies.{named, bodyFits, onBody, onHead, onTotal}
 use Rattle.format.specs.Items.{Item, withBytes, putBack}
 use Rattle.format.specs.Apply.{isRecord, recordOf, onRecord}
-use Rattle.format.specs.Names.{Name, Entry, extentRecord, isRefItem, viewOf, refEntries, itemEntries, entries, good, records, paired, stands}
+use Rattle.format.specs.Names.{Name, extentRecord, isRefItem, viewOf, refEntries, itemEntries, entries, good, records, paired, stands}
 use Rattle.format.specs.Ledger.{notItsOwn}
 use Rattle.format.proofs.Answers.{ask-ok, bind-ok, bind-yes, needed-ok, accepted-inj}
 use Rattle.format.proofs.Refs.{whole, whole-out}
@@ -66,7 +65,7 @@ pub record Step (m : Name) (given out : ℕ) (wipe : Bool) (items after : List I
   pub new : Option ℕ
   pub edit : Edit m old new items after
   pub moves : worth new + out ≡ worth old + given
-  pub pos : sum empty (only m new) ≡ 0
+  pub nonempty : sum empty (only m new) ≡ 0
   pub free : Fresh old new (sum (stands m) (entries items))
   pub gone : T wipe → (new ≡ none) × ((v : ℕ) × (old ≡ some v))
   pub tidied : T (all tidy after)
@@ -83,13 +82,15 @@ pub record Here (m : Name) (items : List Item) (c : Cut Item) (b : Body) : Type 
   pub sound : Sound (c .hit .key .kind) b
 
 -- on a balanced sheet the record that is found reads
-pub here-of : (m : Name) (items : List Item) (c : Cut Item) → Balanced items → T (all tidy items) → cut (recordOf (m .extent)) items ≡ some c
+pub here-of : (m : Name) (items : List Item) (c : Cut Item) → Balanced items → T (all tidy items)
+    → cut (recordOf (m .extent)) items ≡ some c
     → (b : Body) × Here m items c b
-here-of m items c bal td e =
+here-of m items c balance tidies e =
     let f = cut-some (recordOf (m .extent)) items e in
     let h = and-yes (isRecord (c .hit)) _ (f .hit) in
-    let g : T (good (c .hit)) = all-mid good (c .front) (c .hit) (c .back) (rw (f .same) at (bal .goods)) in
-    let t : T (areBytes (c .hit .bytes)) = tidy-bytes (c .hit) (all-mid tidy (c .front) (c .hit) (c .back) (rw (f .same) at td)) in
+    let g : T (good (c .hit)) = all-mid good (c .front) (c .hit) (c .back) (rw (f .same) at (balance .goods)) in
+    let t : T (areBytes (c .hit .bytes)) =
+    tidy-bytes (c .hit) (all-mid tidy (c .front) (c .hit) (c .back) (rw (f .same) at tidies)) in
     let (b, r) = good-reads (c .hit) (h .0) g in (
       b,
       record {
@@ -103,12 +104,14 @@ here-of m items c bal td e =
       },
     )
 
-pub on-record : (m : Name) (items after : List Item) (next : Cut Item → Answer (List Item)) → Balanced items → T (all tidy items)
-    → onRecord (m .extent) items next ≡ accepted after → (c : Cut Item) × (b : Body) × Here m items c b × (next c ≡ accepted after)
+pub on-record : (m : Name) (items after : List Item) (next : Cut Item → Answer (List Item)) → Balanced items
+    → T (all tidy items)
+    → onRecord (m .extent) items next ≡ accepted after
+    → (c : Cut Item) × (b : Body) × Here m items c b × (next c ≡ accepted after)
 unfolding onRecord
-on-record m items after next bal td e =
+on-record m items after next balance tidies e =
     let h = bind-ok (needed 5 (cut (recordOf (m .extent)) items)) next e in
-    let (b, H) = here-of m items (h .0) bal td (needed-ok 5 (cut (recordOf (m .extent)) items) (h .1)) in
+    let (b, H) = here-of m items (h .0) balance tidies (needed-ok 5 (cut (recordOf (m .extent)) items) (h .1)) in
     (h .0, b, H, h .2)
 
 -- ---- calls on a body that reads
@@ -119,8 +122,10 @@ unfolding onBody
 on-body type d b next r e = sym (bind-yes (readBody type d) next r) ∙ ask-ok (bodyFits d) 3 (bind (readBody type d) next) e .1
 
 -- a total moved: the references stand
-pub on-total : (type : ℕ) (d : List ℕ) (b : Body) (next : ℕ → Answer ℕ) (body : List ℕ) → T (areBytes d) → readBody type d ≡ accepted b
-    → onTotal d next ≡ accepted body → (total : ℕ) × (next (b .total) ≡ accepted total) × (bodyBytes (bodyWith b total (b .refs)) ≡ body)
+pub on-total : (type : ℕ) (d : List ℕ) (b : Body) (next : ℕ → Answer ℕ) (body : List ℕ) → T (areBytes d)
+    → readBody type d ≡ accepted b
+    → onTotal d next ≡ accepted body
+    → (total : ℕ) × (next (b .total) ≡ accepted total) × (bodyBytes (bodyWith b total (b .refs)) ≡ body)
 unfolding onTotal onHead
 on-total type d b next body t r e =
     let h₁ = ask-ok (bodyFits d) 3 _ e in
@@ -134,34 +139,36 @@ on-total type d b next body t r e =
 
 -- ---- a change inline
 
-module _ (m : Name) (items : List Item) (c : Cut Item) (b : Body) (H : Here m items c b) (bal : Balanced items) (td : T (all tidy items)) where
-  pub bal-at : Balanced (c .front ++ c .hit ∷ c .back)
-  bal-at = rw (H .found .same) at bal
+module _ (m : Name) (items : List Item) (c : Cut Item) (b : Body) (H : Here m items c b) (balance : Balanced items)
+    (tidies : T (all tidy items)) where
+  pub balanced-at : Balanced (c .front ++ c .hit ∷ c .back)
+  balanced-at = rw (H .found .same) at balance
 
   pub tidy-at : T (all tidy (c .front ++ c .hit ∷ c .back))
-  tidy-at = rw (H .found .same) at td
+  tidy-at = rw (H .found .same) at tidies
 
   pub ordered-at : T (ordered (b .refs))
-  ordered-at = good-record (c .hit) b (H .view) (all-mid good (c .front) (c .hit) (c .back) (bal-at .goods))
+  ordered-at = good-record (c .hit) b (H .view) (all-mid good (c .front) (c .hit) (c .back) (balanced-at .goods))
 
   pub long-at : T (all long (b .refs))
   unfolding long
   long-at = all-map whole long (λ r t. (yes-eqb (whole-out r t .fieldsLong))) (b .refs) (H .sound .wholes)
 
-  pub inline-step : (old new : Option ℕ) (b′ : Body) → Splice m old new b b′ → T (ordered (b′ .refs)) → b′ .total + worth old ≡ b .total + worth new
+  pub inline-step : (old new : Option ℕ) (b′ : Body) → Splice m old new b b′ → T (ordered (b′ .refs))
+      → b′ .total + worth old ≡ b .total + worth new
       → Sound (c .hit .key .kind) b′ → (out given : ℕ) → worth new + out ≡ worth old + given → sum empty (only m new) ≡ 0
       → Fresh old new (sum (stands m) (entries items)) → (wipe : Bool) → (T wipe → (new ≡ none) × ((v : ℕ) × (old ≡ some v)))
       → Step m given out wipe items (putBack c (bodyBytes b′))
-  inline-step old new b′ splice order total sound out given moves pos free wipe gone =
+  inline-step old new b′ splice order total sound out given moves nonempty free wipe gone =
       let d : List ℕ = bodyBytes b′ in
       record {
         old = old;
         new = new;
         edit = rw (H .found .same)
-            (edit-inline m old new (c .front) (c .hit) (c .back) d b b′ bal-at (H .isRec) (H .extent) (H .view)
+            (edit-inline m old new (c .front) (c .hit) (c .back) d b b′ balanced-at (H .isRec) (H .extent) (H .view)
             (view-written (c .hit) b′ (H .isRec) sound) splice order total);
         moves = moves;
-        pos = pos;
+        nonempty = nonempty;
         free = free;
         gone = gone;
         tidied = all-put tidy (c .front) (withBytes (c .hit) d) (c .back) (all-rest tidy (c .front) (c .hit) (c .back) tidy-at)
@@ -169,17 +176,20 @@ module _ (m : Name) (items : List Item) (c : Cut Item) (b : Body) (H : Here m it
       }
 
   -- the name stands nowhere
-  pub nowhere : T (all (λ r. not (named (m .kind) (m .fields) r)) (b .refs)) → T (all (notItsOwn m) items) → sum (stands m) (entries items) ≡ 0
+  pub nowhere : T (all (λ r. not (named (m .kind) (m .fields) r)) (b .refs)) → T (all (notItsOwn m) items)
+      → sum (stands m) (entries items) ≡ 0
   nowhere t u =
       let a : List Item = c .front in let r : Item = c .hit in let z : List Item = c .back in
       let lo : records (r .key .objectid) (a ++ r ∷ z) ≡ 1 =
-      eqb→eq _ 1 (imp-out (isRecord r || isRefItem r) _ (all-mid (paired (a ++ r ∷ z)) a r z (bal-at .pairs)) (rw (T-eq (isRecord r) (H .isRec)) tt)) in
+      eqb→eq _ 1 (imp-out (isRecord r || isRefItem r) _ (all-mid (paired (a ++ r ∷ z)) a r z (balanced-at .pairs)) (rw (T-eq (isRecord r) (H .isRec)) tt)) in
       let l : T (all (λ i. not (recordOf (r .key .objectid) i)) (a ++ z)) = lone a r z (H .isRec) lo in
-      let l′ : T (all (λ i. not (recordOf (m .extent) i)) (a ++ z)) = subst (λ (x : ℕ). T (all (λ i. not (recordOf x i)) (a ++ z))) (H .extent) l in
+      let l′ : T (all (λ i. not (recordOf (m .extent) i)) (a ++ z)) =
+      subst (λ (x : ℕ). T (all (λ i. not (recordOf x i)) (a ++ z))) (H .extent) l in
       let u′ : T (all (notItsOwn m) (a ++ z)) = all-rest (notItsOwn m) a r z (rw (H .found .same) at u) in
       let e₁ = rest-none m (a ++ z) l′ u′ in
       let e₂ : sum (stands m) (itemEntries r) ≡ 0 =
-      ap (sum (stands m)) (record-entries r b (H .view) ∙ ap (λ (x : ℕ). refEntries x (b .refs)) (H .extent)) ∙ refs-none m (b .refs) t in
+      ap (sum (stands m)) (record-entries r b (H .view) ∙ ap (λ (x : ℕ). refEntries x (b .refs)) (H .extent))
+      ∙ refs-none m (b .refs) t in
       let e₃ = sum-mid (stands m) a r z in
       let e₄ = sum-two (stands m) a z in
       ap (λ (l : List Item). sum (stands m) (entries l)) (H .found .same) ∙ omega arith

@@ -1,16 +1,15 @@
 -- Names and entries: when two names are the same, that no name stands twice, and what sums over the entries of items and of
 -- references come to. Assumes nothing.
-use mathlib.Core.Path.{_≡_, refl, sym, ap, ap₂, _∙_, subst}
-use mathlib.Core.Logic.{_≢_, _⊎_, inl, inr}
-use Prim.Native.Nat.{ℕ, zero, suc, _+_, _-_, _*_, _≤_, _<_}
+use mathlib.Core.Path.{_≡_, refl, sym, ap, _∙_, subst}
+use mathlib.Core.Logic.{_⊎_, inl, inr}
+use Prim.Native.Nat.{ℕ, _+_, _-_, _≤_}
 use native.Mathlib.Omega.{arith}
-use mathlib.Core.Bool.{Bool, true, false, not, _&&_, _||_, cond}
-use mathlib.Core.Option.{Option, none, some}
+use mathlib.Core.Bool.{Bool, true, false, _&&_, cond}
 use mathlib.Core.List.{List, [], _∷_, _++_, append-assoc}
-use lib.Dec.{T, leb, ltb, eqb, eqb-refl, eqb→eq, leb→le, le→leb}
-use mir.Facts.{and-yes, yes-and, T-not, not-T, leb-yes, yes-leb}
+use lib.Dec.{T, leb, eqb, eqb-refl, eqb→eq}
+use mir.Facts.{and-yes, yes-and, leb-yes, yes-leb}
 use Rattle.fields.specs.Lists.{sum, all, same}
-use Rattle.fields.proofs.Lists.{sum-append, all-every, same-yes, same-refl, eqb-same}
+use Rattle.fields.proofs.Lists.{sum-append, all-every, same-yes, same-refl}
 use Rattle.format.specs.References.{Ref}
 use Rattle.format.specs.Items.{Item}
 use Rattle.format.specs.Names.{Name, sameName, Entry, refEntry, refEntries, itemEntries, entries, stands, single, counts}
@@ -41,7 +40,8 @@ module _ (f : Name → ℕ) (n : Name) where
   seek [] t = inl refl
   seek (e ∷ l) t = go (sameName n (e .name)) refl (seek l (and-yes (leb (f (e .name)) 1) _ t .1))
     where
-      go : (b : Bool) → sameName n (e .name) ≡ b → (sum (stands n) l ≡ 0) ⊎ (f n ≤ 1) → (cond b 1 0 + sum (stands n) l ≡ 0) ⊎ (f n ≤ 1)
+      go : (b : Bool) → sameName n (e .name) ≡ b → (sum (stands n) l ≡ 0) ⊎ (f n ≤ 1)
+          → (cond b 1 0 + sum (stands n) l ≡ 0) ⊎ (f n ≤ 1)
       go true q ih =
           let same : n ≡ e .name = sameName-yes n (e .name) (subst T (sym q) tt) in
           inr (rw same (leb-yes (and-yes (leb (f (e .name)) 1) _ t .0)))
@@ -63,14 +63,19 @@ names-in l f = all-every _ (λ e. yes-leb (f (e .name))) l
 pub entries-append : (a b : List Item) → entries (a ++ b) ≡ entries a ++ entries b
 unfolding entries
 entries-append [] b = refl
-entries-append (i ∷ a) b = ap (λ (l : List Entry). itemEntries i ++ l) (entries-append a b) ∙ sym (append-assoc (itemEntries i) (entries a) (entries b))
+entries-append (i ∷ a) b =
+    ap (λ (l : List Entry). itemEntries i ++ l) (entries-append a b)
+    ∙ sym (append-assoc (itemEntries i) (entries a) (entries b))
 
 pub refEntries-append : (e : ℕ) (a b : List Ref) → refEntries e (a ++ b) ≡ refEntries e a ++ refEntries e b
 unfolding refEntries
 refEntries-append e [] b = refl
-refEntries-append e (r ∷ a) b = ap (λ (l : List Entry). refEntry e r ++ l) (refEntries-append e a b) ∙ sym (append-assoc (refEntry e r) (refEntries e a) (refEntries e b))
+refEntries-append e (r ∷ a) b =
+    ap (λ (l : List Entry). refEntry e r ++ l) (refEntries-append e a b)
+    ∙ sym (append-assoc (refEntry e r) (refEntries e a) (refEntries e b))
 
-pub sum-mid : (g : Entry → ℕ) (a : List Item) (i : Item) (b : List Item) → sum g (entries (a ++ i ∷ b)) ≡ sum g (entries a) + sum g (itemEntries i) + sum g (entries b)
+pub sum-mid : (g : Entry → ℕ) (a : List Item) (i : Item) (b : List Item)
+    → sum g (entries (a ++ i ∷ b)) ≡ sum g (entries a) + sum g (itemEntries i) + sum g (entries b)
 unfolding entries
 sum-mid g a i b =
     ap (sum g) (entries-append a (i ∷ b)) ∙ sum-append g (entries a) (itemEntries i ++ entries b)
@@ -79,7 +84,8 @@ sum-mid g a i b =
 pub sum-two : (g : Entry → ℕ) (a b : List Item) → sum g (entries (a ++ b)) ≡ sum g (entries a) + sum g (entries b)
 sum-two g a b = ap (sum g) (entries-append a b) ∙ sum-append g (entries a) (entries b)
 
-pub sum-refs : (g : Entry → ℕ) (e : ℕ) (a o b : List Ref) → sum g (refEntries e (a ++ (o ++ b))) ≡ sum g (refEntries e a) + sum g (refEntries e o) + sum g (refEntries e b)
+pub sum-refs : (g : Entry → ℕ) (e : ℕ) (a o b : List Ref)
+    → sum g (refEntries e (a ++ (o ++ b))) ≡ sum g (refEntries e a) + sum g (refEntries e o) + sum g (refEntries e b)
 sum-refs g e a o b =
     ap (sum g) (refEntries-append e a (o ++ b) ∙ ap (λ (l : List Entry). refEntries e a ++ l) (refEntries-append e o b))
     ∙ sum-append g (refEntries e a) (refEntries e o ++ refEntries e b)

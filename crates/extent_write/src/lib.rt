@@ -1,0 +1,130 @@
+// New extents: the hash that orders data references, and the bodies of a new tree block and a new data extent.
+ghost use mathlib.Core.Path.{_≡_};
+ghost use mathlib.Core.List.{[], _∷_};
+ghost use Prim.Native.Nat.{_*_, _^_, _≤_};
+ghost use lib.Bits.{bitXor};
+ghost use lib.ListN.{length};
+ghost use Rattle.fields.specs.Numbers.{leBytes};
+ghost use Rattle.fields.specs.Parts.{written};
+ghost use Rattle.crc32c.specs.Register.{crc32c, tableOf};
+ghost use Rattle.format.specs.Questions.{Answered, accepted};
+ghost use Rattle.format.specs.Hash.{dataRefHash};
+ghost use Rattle.format.specs.Bodies.{heldBody, dataExtentBody, treeBlockBody, treeBlockKey};
+
+const METADATA_ITEM: u8 = 169;
+
+const TREE_BLOCK_REF: u8 = 176;
+
+const EXTENT_DATA_REF: u8 = 178;
+
+const FLAG_DATA: u64 = 1;
+
+const FLAG_TREE_BLOCK: u64 = 2;
+
+// The refusal of a body that the lent output or the limit does not hold.
+const NO_ROOM: u32 = 21;
+
+// The first register times 2 ^ 31, xor the second.
+fn joined(one: u32, two: u32) -> u64
+    ensures { λ r. ⌜ r ≡ bitXor (one * 2 ^ 31) two ⌝ }
+{
+    ((one as u64) << 31) ^ (two as u64)
+}
+
+// The hash of a data reference, by a lent table: a loop over references copies the table once.
+pub fn hash_with(table: &[u32; 256], tree: u64, objectid: u64, offset: u64) -> u64
+    requires { ⌜ now table ≡ tableOf crc32c ⌝ }
+    ensures { λ r. ⌜ r ≡ dataRefHash tree objectid offset ⌝ }
+{
+    let r = crc32c::runs_with(table, tree, objectid, offset);
+    joined(r.one, r.two)
+}
+
+// The hash of a data reference.
+pub fn data_ref_hash(tree: u64, objectid: u64, offset: u64) -> u64
+    ensures { λ r. ⌜ r ≡ dataRefHash tree objectid offset ⌝ }
+{
+    let table = crc32c::table();
+    hash_with(&table, tree, objectid, offset)
+}
+
+// Bytes that are at hand go to the front of a lent output, or are refused.
+pub fn put_body(bytes: &[u8], out: &mut [u8]) -> format::Edited
+    ensures { λ r. ⌜ Answered (heldBody (length (now (out .entry))) (accepted (now (bytes .entry)))) r (now (out .entry)) (now (out .exit)) ⌝ }
+{
+    let n = bytes.len();
+    if out.len() < n {
+        return format::Edited::Refused(NO_ROOM);
+    }
+    if 65535 < n {
+        return format::Edited::Refused(NO_ROOM);
+    }
+    fields::copy_at(bytes, 0, n, out, 0);
+    format::Edited::Written(n)
+}
+
+// What both bodies begin with: total 1, generation, flags, and an inline reference's kind and first field.
+fn put_head(b: &mut [u8], generation: u64, flags: u64, kind: u8, field: u64)
+    requires { ⌜ 33 ≤ length (now b) ⌝ }
+    ensures { λ _. ⌜ now (b .exit) ≡ written 25 (leBytes 8 field) (written 24 (kind ∷ []) (written 16 (leBytes 8 flags) (written 8 (leBytes 8 generation) (written 0 (leBytes 8 1) (now (b .entry)))))) ⌝ }
+{
+    fields::put_u64_le(b, 0, 1);
+    fields::put_u64_le(b, 8, generation);
+    fields::put_u64_le(b, 16, flags);
+    fields::put_u8(b, 24, kind);
+    fields::put_u64_le(b, 25, field);
+}
+
+// A newly allocated tree block.
+pub struct TreeBlockAllocation {
+    pub bytenr: u64,
+    pub level: u8,
+    pub generation: u64,
+    pub owner: u64,
+}
+
+impl TreeBlockAllocation {
+    // The key that the block is filed under: its offset is the level.
+    pub fn key(self) -> format::Key
+        ensures { λ r. ⌜ r ≡ treeBlockKey (self .bytenr) (self .level) ⌝ }
+    {
+        format::Key {
+            objectid: self.bytenr,
+            kind: METADATA_ITEM,
+            offset: self.level as u64,
+        }
+    }
+
+    // The item's body, 33 bytes.
+    pub fn body(self, out: &mut [u8]) -> format::Edited
+        ensures { λ r. ⌜ Answered (heldBody (length (now (out .entry))) (accepted (treeBlockBody (self .generation) (record { tree = self .owner })))) r (now (out .entry)) (now (out .exit)) ⌝ }
+    {
+        let mut b = [0u8; 33];
+        put_head(
+            &mut b,
+            self.generation,
+            FLAG_TREE_BLOCK,
+            TREE_BLOCK_REF,
+            self.owner,
+        );
+        put_body(&b, out)
+    }
+}
+
+// A new data extent's body, 53 bytes: one inline reference of count 1.
+pub fn data_extent_body(
+    generation: u64,
+    root: u64,
+    ino: u64,
+    offset: u64,
+    out: &mut [u8],
+) -> format::Edited
+    ensures { λ r. ⌜ Answered (heldBody (length (now (out .entry))) (accepted (dataExtentBody generation (record { tree = root; objectid = ino; offset = offset })))) r (now (out .entry)) (now (out .exit)) ⌝ }
+{
+    let mut b = [0u8; 53];
+    put_head(&mut b, generation, FLAG_DATA, EXTENT_DATA_REF, root);
+    fields::put_u64_le(&mut b, 33, ino);
+    fields::put_u64_le(&mut b, 41, offset);
+    fields::put_u32_le(&mut b, 49, 1);
+    put_body(&b, out)
+}

@@ -1,0 +1,4 @@
+pub mod Deletions
+pub mod Insertions
+pub mod Measures
+pub mod Lookups

@@ -1,0 +1,91 @@
+// An item put in or taken out.
+ghost use mathlib.Core.Path.{_≡_};
+ghost use mathlib.Core.Bool.{_&&_};
+ghost use lib.ListN.{length};
+ghost use lib.Dec.{leb};
+ghost use Rattle.format.specs.Questions.{Answered};
+ghost use Rattle.format.specs.Items.{readSheet, nodesizeFits, heldSheet};
+ghost use Rattle.format.specs.Sheets.{insert, insertUnbounded, delete};
+ghost use Rattle.leaf_edit.specs.Slots.{slotOf};
+use super::Slot;
+use format::Edited;
+use format::Key;
+use item_list::Checked;
+use item_list::Sought;
+
+// The list without the item of a key.
+pub fn delete(sheet: &[u8], key: Key, out: &mut [u8]) -> Edited
+    ensures { λ r. ⌜ Answered (heldSheet (length (now (out .entry))) (delete (now (sheet .entry)) key)) r (now (out .entry)) (now (out .exit)) ⌝ }
+{
+    let checked = item_list::check(sheet);
+    match checked {
+        Checked::Refused(number) => return Edited::Refused(number),
+        Checked::Count(count) => {
+            let sought = item_list::seek(sheet, key);
+            let Sought::Present { start, end } = sought else {
+                return Edited::Refused(5);
+            };
+            return item_list::remove_item(sheet, start, end, count - 1, out);
+        }
+    }
+}
+
+// Questions 1, 2, 3 and 9: `three` says whether question 3 is answered with yes.
+fn slot_for(sheet: &[u8], key: Key, three: bool) -> Slot
+    ensures { λ r. ⌜ r ≡ slotOf key three (readSheet (now (sheet .entry))) ⌝ }
+{
+    let checked = item_list::check(sheet);
+    match checked {
+        Checked::Refused(number) => return Slot::Refused(number),
+        Checked::Count(count) => {
+            if three {
+                let sought = item_list::seek(sheet, key);
+                match sought {
+                    Sought::Present { start: _, end: _ } => return Slot::Refused(9),
+                    Sought::Absent { at } => return Slot::Free { at, count },
+                }
+            }
+            return Slot::Refused(3);
+        }
+    }
+}
+
+// Question 3 of a nodesize and so many bytes of data.
+pub fn new_fits(nodesize: u32, size: usize) -> bool
+    ensures { λ r. ⌜ r ≡ (nodesizeFits nodesize && leb size 65535) ⌝ }
+{
+    if item_list::nodesize_fits(nodesize) {
+        return size <= 65535;
+    }
+    false
+}
+
+// The list with one more item, however large.
+pub fn insert_unbounded(sheet: &[u8], key: Key, body: &[u8], out: &mut [u8]) -> Edited
+    ensures { λ r. ⌜ Answered (heldSheet (length (now (out .entry))) (insertUnbounded (now (sheet .entry)) (record { key = key; bytes = now (body .entry) }))) r (now (out .entry)) (now (out .exit)) ⌝ }
+{
+    let slot = slot_for(sheet, key, body.len() <= 65535);
+    match slot {
+        Slot::Refused(number) => return Edited::Refused(number),
+        Slot::Free { at, count } => {
+            return item_list::put_item(sheet, at, at, count + 1, key, body, out);
+        }
+    }
+}
+
+// The list with one more item, if it still fits a leaf.
+pub fn insert(nodesize: u32, sheet: &[u8], key: Key, body: &[u8], out: &mut [u8]) -> Edited
+    ensures { λ r. ⌜ Answered (heldSheet (length (now (out .entry))) (insert nodesize (now (sheet .entry)) (record { key = key; bytes = now (body .entry) }))) r (now (out .entry)) (now (out .exit)) ⌝ }
+{
+    let slot = slot_for(sheet, key, new_fits(nodesize, body.len()));
+    match slot {
+        Slot::Refused(number) => return Edited::Refused(number),
+        Slot::Free { at, count } => {
+            let space = 125 + sheet.len() + 4 * count + body.len();
+            if (nodesize as usize) < space {
+                return Edited::Refused(18);
+            }
+            return item_list::put_item(sheet, at, at, count + 1, key, body, out);
+        }
+    }
+}
