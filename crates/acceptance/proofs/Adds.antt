@@ -359,7 +359,7 @@ door-split nodesize sheet m items at raw d =
 -- ---- a block reference
 
 pub add-block : (nodesize : ℕ) (sheet : List ℕ) (extent : ℕ) (name : BlockRef) (room : ℕ) → T (areBytes sheet) → Wide (AddBlock extent name)
-    → Exactly (Accepts nodesize sheet (AddBlock extent name) room) (AddsBlock nodesize sheet extent name room)
+    → Exactly (Accepts nodesize sheet (AddBlock extent name) room) (AddsBlock nodesize sheet (nameOf (AddBlock extent name)) room)
 unfolding changed applyKeyedAdd keyedBody addInlineTreeRef placeOf counted countPosition payloadLength rowIn
 add-block nodesize sheet extent name room raw wide =
     record {
@@ -388,7 +388,7 @@ add-block nodesize sheet extent name room raw wide =
       → SpotOk 176 (one (name .tree)) 1 (nm .naming) (nm .size) (b .refs) (spot b)
     spots nm b o l = spot-anywhere 176 (one (name .tree)) 1 (nm .naming) (nm .size) (b .refs) o l
 
-    plain : AddFacts nodesize sheet m 1 room (ifGrown nodesize) → AddsBlock nodesize sheet extent name room
+    plain : AddFacts nodesize sheet m 1 room (ifGrown nodesize) → AddsBlock nodesize sheet m room
     plain f =
         let z : inline m (f .at) ≡ 0 = eqb→eq _ 0 (f .nine) in
         let o = f .own in
@@ -400,7 +400,7 @@ add-block nodesize sheet extent name room raw wide =
         let r₂ : length sheet + grown m (f .at) 9 ≤ 262144 = f .small in
         record { items = f .items; at = f .at; door = f .door; free = omega arith; short = omega arith; roomy = omega arith; small = omega arith }
 
-    facts : AddsBlock nodesize sheet extent name room → AddFacts nodesize sheet m 1 room (ifGrown nodesize)
+    facts : AddsBlock nodesize sheet m room → AddFacts nodesize sheet m 1 room (ifGrown nodesize)
     facts f =
         let s = door-split nodesize sheet m (f .items) (f .at) raw (f .door) in
         let fr = f .free in
@@ -428,7 +428,7 @@ add-block nodesize sheet extent name room raw wide =
 -- ---- a data reference
 
 pub add-data : (nodesize : ℕ) (sheet : List ℕ) (extent : ℕ) (name : DataRef) (amount room : ℕ) → T (areBytes sheet) → Wide (AddData extent name amount)
-    → Exactly (Accepts nodesize sheet (AddData extent name amount) room) (AddsData nodesize sheet extent name amount room)
+    → Exactly (Accepts nodesize sheet (AddData extent name amount) room) (AddsData nodesize sheet (nameOf (AddData extent name amount)) amount room)
 unfolding changed applyKeyedAdd keyedBody addInlineData counted countPosition payloadLength rowIn
 add-data nodesize sheet extent name amount room raw wide =
     record {
@@ -458,14 +458,14 @@ add-data nodesize sheet extent name amount room raw wide =
       → SpotOk 178 (triple name) amount (nm .naming) (nm .size) (b .refs) (spot b)
     spots nm b o l = spot-by-scan 178 (triple name) amount (nm .naming) (nm .size) (b .refs) o l
 
-    plain : AddFacts nodesize sheet m amount room (ifGrown nodesize) → AddsData nodesize sheet extent name amount room
+    plain : AddFacts nodesize sheet m amount room (ifGrown nodesize) → AddsData nodesize sheet m amount room
     plain f =
         record {
           items = f .items;
           at = f .at;
           door = f .door;
           free = f .own;
-          some = f .some≤;
+          positive = f .some≤;
           holds = f .eleven;
           short = λ z.
               (let g : grown m (f .at) 29 ≡ 29 = cond-yes {A = ℕ} (eqb (inline m (f .at)) 0) 29 0 (yes-eqb z) in
@@ -476,7 +476,7 @@ add-data nodesize sheet extent name amount room raw wide =
           small = f .small;
         }
 
-    facts : AddsData nodesize sheet extent name amount room → AddFacts nodesize sheet m amount room (ifGrown nodesize)
+    facts : AddsData nodesize sheet m amount room → AddFacts nodesize sheet m amount room (ifGrown nodesize)
     facts f =
         record {
           items = f .items;
@@ -484,7 +484,7 @@ add-data nodesize sheet extent name amount room raw wide =
           door = f .door;
           own = f .free;
           nine = tt;
-          some≤ = f .some;
+          some≤ = f .positive;
           ten = tt;
           eleven = f .holds;
           seventeen = limit (eqb (inline m (f .at)) 0) refl;
@@ -524,7 +524,7 @@ unfolding counted countPosition rowIn
 of-182 kind n k t e = eqb→eq n k (subst (λ (x : ℕ). T (counted x || eqb n k)) e t)
 
 pub add-shared : (nodesize : ℕ) (sheet : List ℕ) (extent : ℕ) (name : SharedRef) (amount room : ℕ) → T (areBytes sheet) → Wide (AddShared extent name amount)
-    → Exactly (Accepts nodesize sheet (AddShared extent name amount) room) (AddsShared nodesize sheet extent name amount room)
+    → Exactly (Accepts nodesize sheet (AddShared extent name amount) room) (AddsShared nodesize sheet (nameOf (AddShared extent name amount)) amount room)
 unfolding changed applySharedAdd sharedBody addInlineShared
 add-shared nodesize sheet extent name amount room raw wide =
     record {
@@ -560,7 +560,7 @@ add-shared nodesize sheet extent name amount room raw wide =
         (shared-place (name .kind) (name .parent) k)
         (spot-anywhere (name .kind) (one (name .parent)) amount (nm .naming) (nm .size) (b .refs) o l)
 
-    plain : T (sharedKind (name .kind)) → AddFacts nodesize sheet m amount room (always nodesize) → AddsShared nodesize sheet extent name amount room
+    plain : T (sharedKind (name .kind)) → AddFacts nodesize sheet m amount room (always nodesize) → AddsShared nodesize sheet m amount room
     plain k f =
         let e : grown m (f .at) (1 + payloadLength (name .kind)) ≡ grown m (f .at) (sharedSize (name .kind)) = ap (grown m (f .at)) (shared-size (name .kind) k) in
         let s : length (f .at .hit .bytes) + grown m (f .at) (1 + payloadLength (name .kind)) ≤ inlineLimit nodesize = leb→le _ _ (f .seventeen) in
@@ -571,7 +571,7 @@ add-shared nodesize sheet extent name amount room raw wide =
           door = f .door;
           free = f .own;
           new = of-182 (name .kind) (inline m (f .at)) 0 (f .nine);
-          some = f .some≤;
+          positive = f .some≤;
           single = of-182 (name .kind) amount 1 (f .ten);
           holds = f .eleven;
           short = subst (λ (x : ℕ). length (f .at .hit .bytes) + x ≤ inlineLimit nodesize) e s;
@@ -579,7 +579,7 @@ add-shared nodesize sheet extent name amount room raw wide =
           small = subst (λ (x : ℕ). length sheet + x ≤ 262144) e (f .small);
         }
 
-    facts : AddsShared nodesize sheet extent name amount room → AddFacts nodesize sheet m amount room (always nodesize)
+    facts : AddsShared nodesize sheet m amount room → AddFacts nodesize sheet m amount room (always nodesize)
     facts f =
         let k = f .kind in
         let e : grown m (f .at) (sharedSize (name .kind)) ≡ grown m (f .at) (1 + payloadLength (name .kind)) = ap (grown m (f .at)) (sym (shared-size (name .kind) k)) in
@@ -590,7 +590,7 @@ add-shared nodesize sheet extent name amount room raw wide =
           door = f .door;
           own = f .free;
           nine = only-182 (name .kind) (inline m (f .at)) 0 k (f .new);
-          some≤ = f .some;
+          some≤ = f .positive;
           ten = only-182 (name .kind) amount 1 k (f .single);
           eleven = f .holds;
           seventeen = le→leb (l + grown m (f .at) (1 + payloadLength (name .kind))) (inlineLimit nodesize)

@@ -217,7 +217,7 @@ one-counted m items after s =
 -- ---- a block reference
 
 pub drops-block : (nodesize : ℕ) (sheet : List ℕ) (extent : ℕ) (name : BlockRef) (room : ℕ) → T (areBytes sheet) → Wide (DropBlock extent name)
-    → Exactly (Accepts nodesize sheet (DropBlock extent name) room) (DropsBlock nodesize sheet extent name room)
+    → Exactly (Accepts nodesize sheet (DropBlock extent name) room) (DropsBlock nodesize sheet (nameOf (DropBlock extent name)) room)
 unfolding changed dropTreeRef dropInlineTreeRef flagged bind deleted fieldCount counted countPosition payloadLength rowIn weightOf
 drops-block nodesize sheet extent name room raw wide =
     record {
@@ -302,17 +302,17 @@ drops-block nodesize sheet extent name room raw wide =
                   subst (λ (t : ℕ). Shorter sheet t after) (sym (cond-yes {A = ℕ} (eqb (inline m c) 0) 21 9 (yes-eqb z))) short,
                 )
 
-    plain : DropFacts nodesize sheet m room (leb 2) gone → DropsBlock nodesize sheet extent name room
+    plain : DropFacts nodesize sheet m room (leb 2) gone → DropsBlock nodesize sheet m room
     plain f = record { items = f .items; at = f .at; door = f .door; named = f .counts; two = leb→le _ _ (f .asked); roomy = f .roomy }
 
-    facts : DropsBlock nodesize sheet extent name room → DropFacts nodesize sheet m room (leb 2) gone
+    facts : DropsBlock nodesize sheet m room → DropFacts nodesize sheet m room (leb 2) gone
     facts f =
         record { items = f .items; at = f .at; door = f .door; counts = f .named; asked = le→leb 2 (totalOf (f .at .hit .bytes)) (f .two); roomy = f .roomy }
 
 -- ---- a data reference
 
 pub drops-data : (nodesize : ℕ) (sheet : List ℕ) (extent : ℕ) (name : DataRef) (room : ℕ) → T (areBytes sheet) → Wide (DropData extent name)
-    → Exactly (Accepts nodesize sheet (DropData extent name) room) (DropsData nodesize sheet extent name room)
+    → Exactly (Accepts nodesize sheet (DropData extent name) room) (DropsData nodesize sheet (nameOf (DropData extent name)) room)
 unfolding changed dropDataRef dropInlineDataRef dropKeyedDataRef droppedAt bodyFits dataFits isRecord fieldCount counted countPosition payloadLength rowIn
 drops-data nodesize sheet extent name room raw wide =
     record {
@@ -448,10 +448,10 @@ drops-data nodesize sheet extent name room raw wide =
                       subst (λ (t : ℕ). Shorter sheet t after) g short,
                     )
 
-    plain : DropFacts nodesize sheet m room (leb 2) gone → DropsData nodesize sheet extent name room
+    plain : DropFacts nodesize sheet m room (leb 2) gone → DropsData nodesize sheet m room
     plain f = record { items = f .items; at = f .at; door = f .door; named = f .counts; two = leb→le _ _ (f .asked); roomy = f .roomy }
 
-    facts : DropsData nodesize sheet extent name room → DropFacts nodesize sheet m room (leb 2) gone
+    facts : DropsData nodesize sheet m room → DropFacts nodesize sheet m room (leb 2) gone
     facts f =
         record { items = f .items; at = f .at; door = f .door; counts = f .named; asked = le→leb 2 (totalOf (f .at .hit .bytes)) (f .two); roomy = f .roomy }
 
@@ -476,7 +476,7 @@ shared-item kind = go (eqb kind 184)
     go false = refl
 
 pub drops-shared : (nodesize : ℕ) (sheet : List ℕ) (extent : ℕ) (name : SharedRef) (room : ℕ) → T (areBytes sheet) → Wide (DropShared extent name)
-    → Exactly (Accepts nodesize sheet (DropShared extent name) room) (DropsShared nodesize sheet extent name room)
+    → Exactly (Accepts nodesize sheet (DropShared extent name) room) (DropsShared nodesize sheet (nameOf (DropShared extent name)) room)
 unfolding changed dropSharedRef takeInlineShared found bind
 drops-shared nodesize sheet extent name room raw wide =
     record {
@@ -604,8 +604,8 @@ drops-shared nodesize sheet extent name room raw wide =
                   short,
                 )
 
-    plain : T (sharedKind (name .kind)) → DropFacts nodesize sheet m room (λ _. true) gone → DropsShared nodesize sheet extent name room
+    plain : T (sharedKind (name .kind)) → DropFacts nodesize sheet m room (λ _. true) gone → DropsShared nodesize sheet m room
     plain k f = record { items = f .items; at = f .at; kind = k; door = f .door; named = f .counts; roomy = f .roomy }
 
-    facts : DropsShared nodesize sheet extent name room → DropFacts nodesize sheet m room (λ _. true) gone
+    facts : DropsShared nodesize sheet m room → DropFacts nodesize sheet m room (λ _. true) gone
     facts f = record { items = f .items; at = f .at; door = f .door; counts = f .named; asked = tt; roomy = f .roomy }
