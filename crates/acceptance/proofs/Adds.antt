@@ -31,16 +31,14 @@ use Rattle.format.proofs.Answers.{ask-ok, ask-yes, bind-ok, bind-yes, also-ok, 
 use Rattle.format.proofs.Refs.{whole, whole-out, countBytes, length-countBytes, refsBytes-append}
 use Rattle.format.proofs.Rows.{payload-fields}
 use Rattle.format.proofs.Bodies.{length-bodyBytes, bodyBytes-read}
-use Rattle.history.specs.Demand.{Wide}
 use Rattle.history.proofs.Naming.{Naming, is176, is178, naming-known, shared-place}
 use Rattle.history.proofs.Order.{long, named-yes, SpotOk, at-gap, at-standing, spot-anywhere, spot-by-scan}
 use Rattle.history.proofs.Edit.{Balanced}
-use Rattle.history.proofs.Steps.{tidy, NameOk, Here, here-of, on-body, ordered-at, long-at}
+use Rattle.history.proofs.Steps.{tidy, Here, here-of, on-body, ordered-at, long-at}
 use Rattle.history.proofs.Adds.{Added, added-out}
-use Rattle.history.proofs.Demand.{name-ok}
 use Rattle.acceptance.specs.Acceptance.{Accepts, Exactly, Door, inline, apart, grown, sharedSize, AddsBlock, AddsData, AddsShared}
 use Rattle.acceptance.proofs.Posting.{Posts, posts-out, posts-in, itemSize, holds-out, holds-in, size-put, few-put, fit-put, limit-small, Scene, scene, Found5, record-out, record-in}
-use Rattle.acceptance.proofs.Counts.{count-split, inline-none, inline-one, own-out, own-in}
+use Rattle.acceptance.proofs.Counts.{Formed, formed, count-split, inline-none, inline-one, own-out, own-in}
 
 -- ---- lengths of references and bodies
 
@@ -73,7 +71,7 @@ length-edit b total p o o′ q e =
 
 -- ---- an addition at a good spot
 
-module _ (m : Name) (nm : NameOk m) (n : ℕ) (items : List Item) (c : Cut Item) (b : Body) (H : Here m items c b) (bal : Balanced items)
+module _ (m : Name) (nm : Formed m) (n : ℕ) (items : List Item) (c : Cut Item) (b : Body) (H : Here m items c b) (bal : Balanced items)
     (td : T (all tidy items)) (light : b .total ≤ 4294967296 * 262144) where
   -- what a spot says: the weight that stands there, whether it is a gap, and how long the body becomes
   record At (spot : Spot) : Type 0 where
@@ -237,20 +235,20 @@ record AddFacts (nodesize : ℕ) (sheet : List ℕ) (m : Name) (amount room : �
   roomy : length sheet + grown m at (1 + payloadLength (m .kind)) ≤ room
   small : length sheet + grown m at (1 + payloadLength (m .kind)) ≤ 262144
 
-module _ (nodesize : ℕ) (sheet : List ℕ) (room : ℕ) (raw : T (areBytes sheet)) (change : Change) (wide : Wide change) (kind : T (kindFits change))
+module _ (nodesize : ℕ) (sheet : List ℕ) (room : ℕ) (raw : T (areBytes sheet)) (change : Change) (kind : T (kindFits change))
     (amount : ℕ) (call : Item → Answer (List ℕ)) (test : ℕ → ℕ → Bool) (spot : Body → Spot)
     (changes : (items : List Item) → changed nodesize change items ≡ added (nameOf change) amount items (onRecord (nameOf change .extent) items (λ c.
       bind (call (c .hit)) (λ body. ask (test (length (c .hit .bytes)) (length body)) 17 (accepted (putBack c body))))))
     (calls : (i : Item) (b : Body) → 1 ≤ amount → length (i .bytes) ≤ 65535 → readBody (i .key .kind) (i .bytes) ≡ accepted b
       → call i ≡ addAt b (ref (nameOf change .kind) (nameOf change .fields) amount) (spot b))
-    (spots : (nm : NameOk (nameOf change)) (b : Body) → T (ordered (b .refs)) → T (all long (b .refs))
+    (spots : (nm : Formed (nameOf change)) (b : Body) → T (ordered (b .refs)) → T (all long (b .refs))
       → SpotOk (nameOf change .kind) (nameOf change .fields) amount (nm .naming) (nm .size) (b .refs) (spot b))
     (bounded : (x y : ℕ) → nodesize ≤ 65536 → x ≤ 65535 → T (test x y) → y ≤ 65535) where
   abbrev m : Name
   m = nameOf change
 
-  nm : NameOk m
-  nm = name-ok change wide kind
+  nm : Formed m
+  nm = formed change kind
 
   abbrev next : Cut Item → Answer (List Item)
   next c = bind (call (c .hit)) (λ body. ask (test (length (c .hit .bytes)) (length body)) 17 (accepted (putBack c body)))
@@ -358,13 +356,13 @@ door-split nodesize sheet m items at raw d =
 
 -- ---- a block reference
 
-pub add-block : (nodesize : ℕ) (sheet : List ℕ) (extent : ℕ) (name : BlockRef) (room : ℕ) → T (areBytes sheet) → Wide (AddBlock extent name)
+pub add-block : (nodesize : ℕ) (sheet : List ℕ) (extent : ℕ) (name : BlockRef) (room : ℕ) → T (areBytes sheet)
     → Exactly (Accepts nodesize sheet (AddBlock extent name) room) (AddsBlock nodesize sheet (nameOf (AddBlock extent name)) room)
 unfolding changed applyKeyedAdd keyedBody addInlineTreeRef placeOf counted countPosition payloadLength rowIn
-add-block nodesize sheet extent name room raw wide =
+add-block nodesize sheet extent name room raw =
     record {
-      only = λ acc. plain (add-only nodesize sheet room raw (AddBlock extent name) wide tt 1 call (ifGrown nodesize) spot changes calls spots (grown-bounded nodesize) acc);
-      enough = λ f. add-enough nodesize sheet room raw (AddBlock extent name) wide tt 1 call (ifGrown nodesize) spot changes calls spots (grown-bounded nodesize) (facts f);
+      only = λ acc. plain (add-only nodesize sheet room raw (AddBlock extent name) tt 1 call (ifGrown nodesize) spot changes calls spots (grown-bounded nodesize) acc);
+      enough = λ f. add-enough nodesize sheet room raw (AddBlock extent name) tt 1 call (ifGrown nodesize) spot changes calls spots (grown-bounded nodesize) (facts f);
     }
   where
     m : Name
@@ -384,7 +382,7 @@ add-block nodesize sheet extent name room raw wide =
       → call i ≡ addAt b (ref 176 (one (name .tree)) 1) (spot b)
     calls i b h l r = body-in (i .key .kind) (i .bytes) b _ l r
 
-    spots : (nm : NameOk m) (b : Body) → T (ordered (b .refs)) → T (all long (b .refs))
+    spots : (nm : Formed m) (b : Body) → T (ordered (b .refs)) → T (all long (b .refs))
       → SpotOk 176 (one (name .tree)) 1 (nm .naming) (nm .size) (b .refs) (spot b)
     spots nm b o l = spot-anywhere 176 (one (name .tree)) 1 (nm .naming) (nm .size) (b .refs) o l
 
@@ -427,13 +425,13 @@ add-block nodesize sheet extent name room raw wide =
 
 -- ---- a data reference
 
-pub add-data : (nodesize : ℕ) (sheet : List ℕ) (extent : ℕ) (name : DataRef) (amount room : ℕ) → T (areBytes sheet) → Wide (AddData extent name amount)
+pub add-data : (nodesize : ℕ) (sheet : List ℕ) (extent : ℕ) (name : DataRef) (amount room : ℕ) → T (areBytes sheet)
     → Exactly (Accepts nodesize sheet (AddData extent name amount) room) (AddsData nodesize sheet (nameOf (AddData extent name amount)) amount room)
 unfolding changed applyKeyedAdd keyedBody addInlineData counted countPosition payloadLength rowIn
-add-data nodesize sheet extent name amount room raw wide =
+add-data nodesize sheet extent name amount room raw =
     record {
-      only = λ acc. plain (add-only nodesize sheet room raw (AddData extent name amount) wide tt amount call (ifGrown nodesize) spot changes (calls amount) spots (grown-bounded nodesize) acc);
-      enough = λ f. add-enough nodesize sheet room raw (AddData extent name amount) wide tt amount call (ifGrown nodesize) spot changes (calls amount) spots (grown-bounded nodesize) (facts f);
+      only = λ acc. plain (add-only nodesize sheet room raw (AddData extent name amount) tt amount call (ifGrown nodesize) spot changes (calls amount) spots (grown-bounded nodesize) acc);
+      enough = λ f. add-enough nodesize sheet room raw (AddData extent name amount) tt amount call (ifGrown nodesize) spot changes (calls amount) spots (grown-bounded nodesize) (facts f);
     }
   where
     m : Name
@@ -454,7 +452,7 @@ add-data nodesize sheet extent name amount room raw wide =
     calls zero i b h l r = absurd (omega arith)
     calls (suc n) i b h l r = body-in (i .key .kind) (i .bytes) b _ l r
 
-    spots : (nm : NameOk m) (b : Body) → T (ordered (b .refs)) → T (all long (b .refs))
+    spots : (nm : Formed m) (b : Body) → T (ordered (b .refs)) → T (all long (b .refs))
       → SpotOk 178 (triple name) amount (nm .naming) (nm .size) (b .refs) (spot b)
     spots nm b o l = spot-by-scan 178 (triple name) amount (nm .naming) (nm .size) (b .refs) o l
 
@@ -523,16 +521,16 @@ of-182 : (kind n k : ℕ) → T (counted kind || eqb n k) → kind ≡ 182 → n
 unfolding counted countPosition rowIn
 of-182 kind n k t e = eqb→eq n k (subst (λ (x : ℕ). T (counted x || eqb n k)) e t)
 
-pub add-shared : (nodesize : ℕ) (sheet : List ℕ) (extent : ℕ) (name : SharedRef) (amount room : ℕ) → T (areBytes sheet) → Wide (AddShared extent name amount)
+pub add-shared : (nodesize : ℕ) (sheet : List ℕ) (extent : ℕ) (name : SharedRef) (amount room : ℕ) → T (areBytes sheet)
     → Exactly (Accepts nodesize sheet (AddShared extent name amount) room) (AddsShared nodesize sheet (nameOf (AddShared extent name amount)) amount room)
 unfolding changed applySharedAdd sharedBody addInlineShared
-add-shared nodesize sheet extent name amount room raw wide =
+add-shared nodesize sheet extent name amount room raw =
     record {
       only = λ acc.
           (let k = posts-out nodesize sheet (AddShared extent name amount) room acc .kind in
-          plain k (add-only nodesize sheet room raw (AddShared extent name amount) wide k amount call (always nodesize) spot changes (calls k) (spots k) (always-bounded nodesize) acc));
+          plain k (add-only nodesize sheet room raw (AddShared extent name amount) k amount call (always nodesize) spot changes (calls k) (spots k) (always-bounded nodesize) acc));
       enough = λ f.
-          add-enough nodesize sheet room raw (AddShared extent name amount) wide (f .kind) amount call (always nodesize) spot changes (calls (f .kind)) (spots (f .kind))
+          add-enough nodesize sheet room raw (AddShared extent name amount) (f .kind) amount call (always nodesize) spot changes (calls (f .kind)) (spots (f .kind))
           (always-bounded nodesize) (facts f);
     }
   where
@@ -553,7 +551,7 @@ add-shared nodesize sheet extent name amount room raw wide =
       → call i ≡ addAt b (ref (name .kind) (one (name .parent)) amount) (spot b)
     calls k i b h l r = ask-yes (sharedKind (name .kind)) 3 _ k ∙ body-in (i .key .kind) (i .bytes) b _ l r
 
-    spots : T (sharedKind (name .kind)) → (nm : NameOk m) (b : Body) → T (ordered (b .refs)) → T (all long (b .refs))
+    spots : T (sharedKind (name .kind)) → (nm : Formed m) (b : Body) → T (ordered (b .refs)) → T (all long (b .refs))
       → SpotOk (name .kind) (one (name .parent)) amount (nm .naming) (nm .size) (b .refs) (spot b)
     spots k nm b o l =
         subst (λ (at : ℕ). SpotOk (name .kind) (one (name .parent)) amount (nm .naming) (nm .size) (b .refs) (spotAnywhere (name .kind) (one (name .parent)) at (b .refs)))

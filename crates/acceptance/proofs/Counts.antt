@@ -13,22 +13,38 @@ use mir.Facts.{and-yes, yes-and, or-no, T-not, not-T, T-not-not, yes-eqb, eqb-no
 use Rattle.fields.specs.Lists.{sum, all, Cut, cut}
 use Rattle.fields.specs.Numbers.{le, words}
 use Rattle.fields.proofs.Lists.{T-eq, imp-out, or-left, cond-yes, cond-no, sum-append, all-map, all-mid, all-rest, all-put, cut-some, cut-none}
-use Rattle.format.specs.declared.Key.{Key}
-use Rattle.format.specs.References.{known, rowIn, Ref, ref, refAt, Body, readBody, place, placeOf}
+use Rattle.format.specs.declared.Change.{Change}
+use Rattle.format.specs.declared.Change.the-variants.{AddBlock, AddData, AddShared, DropBlock, DropData, DropShared}
+use Rattle.format.specs.References.{known, payloadLength, countPosition, counted, fieldCount, rowIn, Ref, ref, refAt, Body, readBody, place, placeOf}
 use Rattle.format.specs.Bodies.{named, one, keyedCount}
 use Rattle.format.specs.Items.{Item, keyOf, without}
 use Rattle.format.specs.Apply.{isRecord, recordOf}
 use Rattle.format.specs.Names.{Name, sameName, Entry, View, extentRecord, reference, unrelated, malformed, isRefItem, viewRecord, inForm, viewRefItem, viewOf, refEntries, viewEntries, itemEntries, entries, under, count, wellFormed, good, records, paired, stands}
-use Rattle.format.specs.Ledger.{notItsOwn, sharedCount}
+use Rattle.format.specs.Ledger.{nameOf, kindFits, notItsOwn, sharedCount}
 use Rattle.format.proofs.Rows.{Kind, k172, k176, k178, k182, k184, known-kind}
 use Rattle.history.proofs.Sums.{sameName-yes, sameName-refl, empty, sum-mid, sum-two, sum-refs}
-use Rattle.history.proofs.Naming.{Naming, is176, is178, is182, is184, not-172}
+use Rattle.history.proofs.Naming.{Naming, is176, is178, is182, is184, not-172, shared-naming, shared-field}
 use Rattle.history.proofs.Order.{named-yes}
 use Rattle.history.proofs.Edit.{only, Balanced, lone, record-entries}
 use Rattle.history.proofs.Facts.{rest-none, refs-none, named-entries, view-item, plain-entry, data-entry, refAt-178, unstood}
 use Rattle.history.proofs.Steps.{tidy, Here, balanced-at}
 use Rattle.history.proofs.Drops.{weight-at, item-counts}
 use Rattle.acceptance.specs.Acceptance.{inline, apart}
+
+-- ---- the name of a change: one of the four types, with as many fields as the type has
+
+pub record Formed (m : Name) : Type 0 where
+  pub naming : Naming (m .kind)
+  pub size : length (m .fields) ≡ fieldCount (m .kind)
+
+pub formed : (c : Change) → T (kindFits c) → Formed (nameOf c)
+unfolding fieldCount payloadLength counted countPosition rowIn
+formed (AddBlock extent name) k = record { naming = is176 refl; size = refl }
+formed (AddData extent name amount) k = record { naming = is178 refl; size = refl }
+formed (AddShared extent name amount) k = record { naming = shared-naming (name .kind) k; size = sym (shared-field (name .kind) k) }
+formed (DropBlock extent name) k = record { naming = is176 refl; size = refl }
+formed (DropData extent name) k = record { naming = is178 refl; size = refl }
+formed (DropShared extent name) k = record { naming = shared-naming (name .kind) k; size = sym (shared-field (name .kind) k) }
 
 -- ---- sums
 
@@ -200,7 +216,7 @@ pub record Own (m : Name) (items : List Item) (k : Cut Item) (w : ℕ) : Type 0 
   pub counts : count m items ≡ w
   pub some≤ : 1 ≤ w
 
-own-of : (m : Name) (items : List Item) (k : Cut Item) (w : ℕ) → Balanced items → items ≡ k .front ++ k .hit ∷ k .back
+pub own-of : (m : Name) (items : List Item) (k : Cut Item) (w : ℕ) → Balanced items → items ≡ k .front ++ k .hit ∷ k .back
     → k .hit .key .kind ≡ m .kind → k .hit .key .objectid ≡ m .extent → itemEntries (k .hit) ≡ only m (some w) → Own m items k w
 own-of m items k w bal same kind extent entry =
     let parts : (g : Entry → ℕ) → sum g (entries items) ≡ sum g (entries (k .front)) + sum g (only m (some w)) + sum g (entries (k .back)) =

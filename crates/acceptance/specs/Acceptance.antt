@@ -19,7 +19,6 @@ use Rattle.format.specs.Items.{Item, readSheet, without}
 use Rattle.format.specs.Apply.{inlineLimit, recordOf}
 use Rattle.format.specs.Names.{Name, count, balanced}
 use Rattle.format.specs.Ledger.{nameOf, posted}
-use Rattle.history.specs.Demand.{Wide}
 
 -- ---- what the six changes share
 
@@ -149,7 +148,7 @@ pub record Exactly (A B : Type 0) : Type 0 where
   pub only : A → B
   pub enough : B → A
 
--- for every sheet of bytes, every change whose name is of 64-bit numbers, every nodesize and every room
+-- for every sheet of bytes, every change, every nodesize and every room
 abbrev pub Acceptance : Type 0
-Acceptance = (nodesize : ℕ) (sheet : List ℕ) (change : Change) (room : ℕ) → T (areBytes sheet) → Wide change
+Acceptance = (nodesize : ℕ) (sheet : List ℕ) (change : Change) (room : ℕ) → T (areBytes sheet)
     → Exactly (Accepts nodesize sheet change room) (AllYes nodesize sheet change room)
