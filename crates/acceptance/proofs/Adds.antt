@@ -1,44 +1,42 @@
 -- The three adds are accepted exactly if their questions are answered yes. Assumes nothing.
-use mathlib.Core.Path.{_≡_, refl, sym, ap, ap₂, _∙_, subst}
+use mathlib.Core.Path.{_≡_, refl, sym, ap, _∙_, subst}
 use mathlib.Core.Logic.{_≢_, _⊎_, inl, inr}
-use mathlib.Core.Bool.{Bool, true, false, not, _&&_, _||_, cond}
-use mathlib.Core.List.{List, [], _∷_, _++_, append-nil}
-use mathlib.Core.Option.{Option, none, some}
-use Prim.Native.Nat.{ℕ, zero, suc, _+_, _-_, _*_, _^_, _≤_, _<_}
+use mathlib.Core.Bool.{Bool, true, false, not, _||_, cond}
+use mathlib.Core.List.{List, [], _∷_, _++_}
+use Prim.Native.Nat.{ℕ, zero, suc, _+_, _*_, _^_, _≤_, _<_}
 use native.Mathlib.Omega.{arith}
-use lib.Dec.{T, leb, ltb, eqb, eqb→eq, leb→le, le→leb, ltb→lt, lt→ltb}
+use lib.Dec.{T, leb, ltb, eqb, eqb→eq, leb→le, le→leb, lt→ltb}
 use lib.ListN.{length, length-append}
-use mir.Facts.{and-yes, yes-and, or-yes, T-not, yes-eqb, no-eqb}
-use Rattle.fields.specs.Lists.{sum, all, Cut, cut}
-use Rattle.fields.specs.Numbers.{leBytes, wordBytes, areBytes}
+use mir.Facts.{or-yes, yes-eqb, no-eqb}
+use Rattle.fields.specs.Lists.{sum, all, Cut}
+use Rattle.fields.specs.Numbers.{wordBytes, areBytes}
 use Rattle.fields.proofs.Lists.{or-left, or-right, cond-yes, cond-no, T-eq, all-mid}
 use Rattle.fields.proofs.Numbers.{length-wordBytes}
 use Rattle.format.specs.declared.BlockRef.{BlockRef}
 use Rattle.format.specs.declared.DataRef.{DataRef}
 use Rattle.format.specs.declared.SharedRef.{SharedRef}
-use Rattle.format.specs.declared.Keyed.{Keyed}
-use Rattle.format.specs.declared.Keyed.the-variants.{Block, Data}
+use Rattle.format.specs.declared.Keyed.the-variants.{Data}
 use Rattle.format.specs.declared.Change.{Change}
 use Rattle.format.specs.declared.Change.the-variants.{AddBlock, AddData, AddShared}
-use Rattle.format.specs.Questions.{Answer, refused, accepted, ask, bind, also}
+use Rattle.format.specs.Questions.{Answer, accepted, ask, bind}
 use Rattle.format.specs.References.{known, payloadLength, countPosition, counted, fieldCount, rowIn, Ref, ref, refBytes, refsBytes, Body, bodyWith, readBody, bodyBytes, placeOf, ordered}
 use Rattle.format.specs.Bodies.{bodyFits, onBody, one, triple, weighed, sharedKind, raisedBy, Spot, gap, standing, isGap, standingWeight, addedAt, addAt, spotAnywhere, spotByScan, addInlineTreeRef, addInlineData, addInlineShared}
 use Rattle.format.specs.Items.{Item, dataFits, sheetHolds, putBack}
 use Rattle.format.specs.Apply.{inlineLimit, onRecord, keyedBody, applyKeyedAdd, sharedBody, applySharedAdd}
-use Rattle.format.specs.Names.{Name, count}
+use Rattle.format.specs.Names.{Name}
 use Rattle.format.specs.Ledger.{nameOf, notItsOwn, kindFits, added, changed}
 use Rattle.format.proofs.Answers.{ask-ok, ask-yes, bind-ok, bind-yes, also-ok, also-yes, accepted-inj}
-use Rattle.format.proofs.Refs.{whole, whole-out, countBytes, length-countBytes, refsBytes-append}
+use Rattle.format.proofs.Refs.{countBytes, length-countBytes, refsBytes-append}
 use Rattle.format.proofs.Rows.{payload-fields}
 use Rattle.format.proofs.Bodies.{length-bodyBytes, bodyBytes-read}
-use Rattle.history.proofs.Naming.{Naming, is176, is178, naming-known, shared-place}
+use Rattle.history.proofs.Naming.{naming-known, shared-place}
 use Rattle.history.proofs.Order.{long, named-yes, SpotOk, at-gap, at-standing, spot-anywhere, spot-by-scan}
 use Rattle.history.proofs.Edit.{Balanced}
-use Rattle.history.proofs.Steps.{tidy, Here, here-of, on-body, ordered-at, long-at}
-use Rattle.history.proofs.Adds.{Added, added-out}
+use Rattle.history.proofs.Steps.{tidy, Here, here-of, ordered-at, long-at}
+use Rattle.history.proofs.Adds.{added-out}
 use Rattle.acceptance.specs.Acceptance.{Accepts, Exactly, Door, inline, apart, grown, sharedSize, AddsBlock, AddsData, AddsShared}
 use Rattle.acceptance.proofs.Posting.{Posts, posts-out, posts-in, itemSize, holds-out, holds-in, size-put, few-put, fit-put, limit-small, Scene, scene, Found5, record-out, record-in}
-use Rattle.acceptance.proofs.Counts.{Formed, formed, count-split, inline-none, inline-one, own-out, own-in}
+use Rattle.acceptance.proofs.Counts.{Formed, formed, two-places, inline-none, inline-one, own-out, own-in}
 
 -- ---- lengths of references and bodies
 
@@ -155,9 +153,9 @@ module _ (m : Name) (nm : Formed m) (n : ℕ) (items : List Item) (c : Cut Item)
       let t₁₂ : T (ltb (b .total + n) (2 ^ 64)) = lt→ltb (b .total + n) 18446744073709551616 k₁₂ in (
         bodyBytes (bodyWith b (b .total + n) (addedAt (ref (m .kind) (m .fields) n) spot)),
         ask-yes (counted (m .kind) || isGap spot) 9 _ (subst (λ (z : Bool). T (counted (m .kind) || z)) (sym (S .free)) nine)
-        ∙ ask-yes (counted (m .kind) || eqb n 1) 10 _ ten
-        ∙ ask-yes (ltb (standingWeight spot + n) (2 ^ 32)) 11 _ (lt→ltb (standingWeight spot + n) 4294967296 k₁₁)
-        ∙ bind-yes (ask (ltb (b .total + n) (2 ^ 64)) 12 (accepted (b .total + n))) _ (ask-yes (ltb (b .total + n) (2 ^ 64)) 12 _ t₁₂),
+            ∙ ask-yes (counted (m .kind) || eqb n 1) 10 _ ten
+            ∙ ask-yes (ltb (standingWeight spot + n) (2 ^ 32)) 11 _ (lt→ltb (standingWeight spot + n) 4294967296 k₁₁)
+            ∙ bind-yes (ask (ltb (b .total + n) (2 ^ 64)) 12 (accepted (b .total + n))) _ (ask-yes (ltb (b .total + n) (2 ^ 64)) 12 _ t₁₂),
         S .sized (b .total + n),
       )
 
@@ -238,11 +236,11 @@ record AddFacts (nodesize : ℕ) (sheet : List ℕ) (m : Name) (amount room : �
 module _ (nodesize : ℕ) (sheet : List ℕ) (room : ℕ) (raw : T (areBytes sheet)) (change : Change) (kind : T (kindFits change))
     (amount : ℕ) (call : Item → Answer (List ℕ)) (test : ℕ → ℕ → Bool) (spot : Body → Spot)
     (changes : (items : List Item) → changed nodesize change items ≡ added (nameOf change) amount items (onRecord (nameOf change .extent) items (λ c.
-      bind (call (c .hit)) (λ body. ask (test (length (c .hit .bytes)) (length body)) 17 (accepted (putBack c body))))))
+    bind (call (c .hit)) (λ body. ask (test (length (c .hit .bytes)) (length body)) 17 (accepted (putBack c body))))))
     (calls : (i : Item) (b : Body) → 1 ≤ amount → length (i .bytes) ≤ 65535 → readBody (i .key .kind) (i .bytes) ≡ accepted b
-      → call i ≡ addAt b (ref (nameOf change .kind) (nameOf change .fields) amount) (spot b))
+    → call i ≡ addAt b (ref (nameOf change .kind) (nameOf change .fields) amount) (spot b))
     (spots : (nm : Formed (nameOf change)) (b : Body) → T (ordered (b .refs)) → T (all long (b .refs))
-      → SpotOk (nameOf change .kind) (nameOf change .fields) amount (nm .naming) (nm .size) (b .refs) (spot b))
+    → SpotOk (nameOf change .kind) (nameOf change .fields) amount (nm .naming) (nm .size) (b .refs) (spot b))
     (bounded : (x y : ℕ) → nodesize ≤ 65536 → x ≤ 65535 → T (test x y) → y ≤ 65535) where
   abbrev m : Name
   m = nameOf change
@@ -345,15 +343,6 @@ always-bounded : (nodesize x y : ℕ) → nodesize ≤ 65536 → x ≤ 65535 →
 always-bounded nodesize x y n h t =
     let k : y ≤ inlineLimit nodesize = leb→le y (inlineLimit nodesize) t in omega (arith, limit-small nodesize n)
 
--- ---- the record's door: what a name counts in all
-
-door-split : (nodesize : ℕ) (sheet : List ℕ) (m : Name) (items : List Item) (at : Cut Item) → T (areBytes sheet)
-    → Door nodesize sheet (m .extent) items at → count m items ≡ inline m at + apart m at
-door-split nodesize sheet m items at raw d =
-    let S = scene sheet items raw (d .reads) (d .balance) in
-    let (b, H) = here-of m items at (S .bal) (S .td) (d .stands) in
-    count-split m items at b H (S .bal) (S .td)
-
 -- ---- a block reference
 
 pub add-block : (nodesize : ℕ) (sheet : List ℕ) (extent : ℕ) (name : BlockRef) (room : ℕ) → T (areBytes sheet)
@@ -375,15 +364,15 @@ add-block nodesize sheet extent name room raw =
     spot b = spotAnywhere 176 (one (name .tree)) (name .tree) (b .refs)
 
     changes : (items : List Item) → changed nodesize (AddBlock extent name) items ≡ added m 1 items (onRecord extent items (λ c.
-      bind (call (c .hit)) (λ body. ask (ifGrown nodesize (length (c .hit .bytes)) (length body)) 17 (accepted (putBack c body)))))
+        bind (call (c .hit)) (λ body. ask (ifGrown nodesize (length (c .hit .bytes)) (length body)) 17 (accepted (putBack c body)))))
     changes items = refl
 
     calls : (i : Item) (b : Body) → 1 ≤ 1 → length (i .bytes) ≤ 65535 → readBody (i .key .kind) (i .bytes) ≡ accepted b
-      → call i ≡ addAt b (ref 176 (one (name .tree)) 1) (spot b)
+        → call i ≡ addAt b (ref 176 (one (name .tree)) 1) (spot b)
     calls i b h l r = body-in (i .key .kind) (i .bytes) b _ l r
 
     spots : (nm : Formed m) (b : Body) → T (ordered (b .refs)) → T (all long (b .refs))
-      → SpotOk 176 (one (name .tree)) 1 (nm .naming) (nm .size) (b .refs) (spot b)
+        → SpotOk 176 (one (name .tree)) 1 (nm .naming) (nm .size) (b .refs) (spot b)
     spots nm b o l = spot-anywhere 176 (one (name .tree)) 1 (nm .naming) (nm .size) (b .refs) o l
 
     plain : AddFacts nodesize sheet m 1 room (ifGrown nodesize) → AddsBlock nodesize sheet m room
@@ -391,7 +380,7 @@ add-block nodesize sheet extent name room raw =
         let z : inline m (f .at) ≡ 0 = eqb→eq _ 0 (f .nine) in
         let o = f .own in
         let g : grown m (f .at) 9 ≡ 9 = cond-yes {A = ℕ} (eqb (inline m (f .at)) 0) 9 0 (yes-eqb z) in
-        let s = door-split nodesize sheet m (f .items) (f .at) raw (f .door) in
+        let s = two-places nodesize sheet m (f .items) (f .at) raw (f .door) .0 in
         let l : ℕ = length (f .at .hit .bytes) in
         let t = limit-out (l + grown m (f .at) 9) l (inlineLimit nodesize) (f .seventeen) (omega arith) in
         let r₁ : length sheet + grown m (f .at) 9 ≤ room = f .roomy in
@@ -400,7 +389,7 @@ add-block nodesize sheet extent name room raw =
 
     facts : AddsBlock nodesize sheet m room → AddFacts nodesize sheet m 1 room (ifGrown nodesize)
     facts f =
-        let s = door-split nodesize sheet m (f .items) (f .at) raw (f .door) in
+        let s = two-places nodesize sheet m (f .items) (f .at) raw (f .door) .0 in
         let fr = f .free in
         let z : inline m (f .at) ≡ 0 = omega arith in
         let g : grown m (f .at) 9 ≡ 9 = cond-yes {A = ℕ} (eqb (inline m (f .at)) 0) 9 0 (yes-eqb z) in
@@ -444,16 +433,16 @@ add-data nodesize sheet extent name amount room raw =
     spot b = spotByScan 178 (triple name) (b .refs)
 
     changes : (items : List Item) → changed nodesize (AddData extent name amount) items ≡ added m amount items (onRecord extent items (λ c.
-      bind (call (c .hit)) (λ body. ask (ifGrown nodesize (length (c .hit .bytes)) (length body)) 17 (accepted (putBack c body)))))
+        bind (call (c .hit)) (λ body. ask (ifGrown nodesize (length (c .hit .bytes)) (length body)) 17 (accepted (putBack c body)))))
     changes items = refl
 
     calls : (n : ℕ) (i : Item) (b : Body) → 1 ≤ n → length (i .bytes) ≤ 65535 → readBody (i .key .kind) (i .bytes) ≡ accepted b
-      → keyedBody i (Data name) n false ≡ addAt b (ref 178 (triple name) n) (spot b)
+        → keyedBody i (Data name) n false ≡ addAt b (ref 178 (triple name) n) (spot b)
     calls zero i b h l r = absurd (omega arith)
     calls (suc n) i b h l r = body-in (i .key .kind) (i .bytes) b _ l r
 
     spots : (nm : Formed m) (b : Body) → T (ordered (b .refs)) → T (all long (b .refs))
-      → SpotOk 178 (triple name) amount (nm .naming) (nm .size) (b .refs) (spot b)
+        → SpotOk 178 (triple name) amount (nm .naming) (nm .size) (b .refs) (spot b)
     spots nm b o l = spot-by-scan 178 (triple name) amount (nm .naming) (nm .size) (b .refs) o l
 
     plain : AddFacts nodesize sheet m amount room (ifGrown nodesize) → AddsData nodesize sheet m amount room
@@ -544,15 +533,15 @@ add-shared nodesize sheet extent name amount room raw =
     spot b = spotAnywhere (name .kind) (one (name .parent)) (name .parent) (b .refs)
 
     changes : (items : List Item) → changed nodesize (AddShared extent name amount) items ≡ added m amount items (onRecord extent items (λ c.
-      bind (call (c .hit)) (λ body. ask (always nodesize (length (c .hit .bytes)) (length body)) 17 (accepted (putBack c body)))))
+        bind (call (c .hit)) (λ body. ask (always nodesize (length (c .hit .bytes)) (length body)) 17 (accepted (putBack c body)))))
     changes items = refl
 
     calls : T (sharedKind (name .kind)) → (i : Item) (b : Body) → 1 ≤ amount → length (i .bytes) ≤ 65535 → readBody (i .key .kind) (i .bytes) ≡ accepted b
-      → call i ≡ addAt b (ref (name .kind) (one (name .parent)) amount) (spot b)
+        → call i ≡ addAt b (ref (name .kind) (one (name .parent)) amount) (spot b)
     calls k i b h l r = ask-yes (sharedKind (name .kind)) 3 _ k ∙ body-in (i .key .kind) (i .bytes) b _ l r
 
     spots : T (sharedKind (name .kind)) → (nm : Formed m) (b : Body) → T (ordered (b .refs)) → T (all long (b .refs))
-      → SpotOk (name .kind) (one (name .parent)) amount (nm .naming) (nm .size) (b .refs) (spot b)
+        → SpotOk (name .kind) (one (name .parent)) amount (nm .naming) (nm .size) (b .refs) (spot b)
     spots k nm b o l =
         subst (λ (at : ℕ). SpotOk (name .kind) (one (name .parent)) amount (nm .naming) (nm .size) (b .refs) (spotAnywhere (name .kind) (one (name .parent)) at (b .refs)))
         (shared-place (name .kind) (name .parent) k)

@@ -1,25 +1,25 @@
 -- What a name counts on a balanced sheet, inline and as an item of its own: where it stands inline, where it has an item, and
 -- where it stands nowhere. Assumes nothing.
-use mathlib.Core.Path.{_≡_, refl, sym, ap, ap₂, _∙_, subst}
+use mathlib.Core.Path.{_≡_, refl, sym, ap, _∙_, subst}
 use mathlib.Core.Logic.{_≢_, _⊎_, inl, inr}
 use mathlib.Core.Bool.{Bool, true, false, not, _&&_, _||_, cond}
 use mathlib.Core.List.{List, [], _∷_, _++_, append-nil}
 use mathlib.Core.Option.{Option, none, some}
-use Prim.Native.Nat.{ℕ, zero, suc, _+_, _-_, _*_, _≤_, _<_}
+use Prim.Native.Nat.{ℕ, _+_, _≤_, _<_}
 use native.Mathlib.Omega.{arith}
-use lib.Dec.{T, leb, ltb, eqb, eqb→eq, leb→le}
+use lib.Dec.{T, leb, eqb, eqb→eq, leb→le}
 use lib.ListN.{length, getD}
-use mir.Facts.{and-yes, yes-and, or-no, T-not, not-T, T-not-not, yes-eqb, eqb-no, no-eqb}
+use mir.Facts.{and-yes, yes-and, or-no, T-not-not, yes-eqb, eqb-no}
 use Rattle.fields.specs.Lists.{sum, all, Cut, cut}
-use Rattle.fields.specs.Numbers.{le, words}
-use Rattle.fields.proofs.Lists.{T-eq, imp-out, or-left, cond-yes, cond-no, sum-append, all-map, all-mid, all-rest, all-put, cut-some, cut-none}
+use Rattle.fields.specs.Numbers.{le, words, areBytes}
+use Rattle.fields.proofs.Lists.{T-eq, lt-or, imp-out, or-left, cond-yes, cond-no, sum-append, all-map, all-mid, all-rest, all-put, cut-some, cut-none}
 use Rattle.format.specs.declared.Change.{Change}
 use Rattle.format.specs.declared.Change.the-variants.{AddBlock, AddData, AddShared, DropBlock, DropData, DropShared}
 use Rattle.format.specs.References.{known, payloadLength, countPosition, counted, fieldCount, rowIn, Ref, ref, refAt, Body, readBody, place, placeOf}
 use Rattle.format.specs.Bodies.{named, one, keyedCount}
 use Rattle.format.specs.Items.{Item, keyOf, without}
 use Rattle.format.specs.Apply.{isRecord, recordOf}
-use Rattle.format.specs.Names.{Name, sameName, Entry, View, extentRecord, reference, unrelated, malformed, isRefItem, viewRecord, inForm, viewRefItem, viewOf, refEntries, viewEntries, itemEntries, entries, under, count, wellFormed, good, records, paired, stands}
+use Rattle.format.specs.Names.{Name, sameName, Entry, View, unrelated, isRefItem, viewRecord, inForm, viewRefItem, viewOf, refEntries, viewEntries, itemEntries, entries, under, count, wellFormed, good, records, paired, stands}
 use Rattle.format.specs.Ledger.{nameOf, kindFits, notItsOwn, sharedCount}
 use Rattle.format.proofs.Rows.{Kind, k172, k176, k178, k182, k184, known-kind}
 use Rattle.history.proofs.Sums.{sameName-yes, sameName-refl, empty, sum-mid, sum-two, sum-refs}
@@ -27,9 +27,10 @@ use Rattle.history.proofs.Naming.{Naming, is176, is178, is182, is184, not-172, 
 use Rattle.history.proofs.Order.{named-yes}
 use Rattle.history.proofs.Edit.{only, Balanced, lone, record-entries}
 use Rattle.history.proofs.Facts.{rest-none, refs-none, named-entries, view-item, plain-entry, data-entry, refAt-178, unstood}
-use Rattle.history.proofs.Steps.{tidy, Here, balanced-at}
+use Rattle.history.proofs.Steps.{tidy, Here, here-of, balanced-at}
 use Rattle.history.proofs.Drops.{weight-at, item-counts}
-use Rattle.acceptance.specs.Acceptance.{inline, apart}
+use Rattle.acceptance.specs.Acceptance.{Door, inline, apart}
+use Rattle.acceptance.proofs.Posting.{scene}
 
 -- ---- the name of a change: one of the four types, with as many fields as the type has
 
@@ -101,6 +102,17 @@ module _ (m : Name) (items : List Item) (c : Cut Item) (b : Body) (H : Here m it
 
   pub count-split : count m items ≡ inline m c + apart m c
   count-split = sum-split (under m)
+
+  -- not both inline and apart
+  pub one-place : (inline m c ≡ 0) ⊎ (apart m c ≡ 0)
+  one-place = go (lt-or 0 (sum (stands m) (entries (c .hit ∷ []))))
+    where
+      go : (0 < sum (stands m) (entries (c .hit ∷ []))) ⊎ (sum (stands m) (entries (c .hit ∷ [])) ≤ 0) → (inline m c ≡ 0) ⊎ (apart m c ≡ 0)
+      go (inl h) =
+          let n₁ = bal .names m in
+          let n₂ = sum-split (stands m) in
+          inr (unstood m (entries (without c)) (omega arith))
+      go (inr h) = inl (unstood m (entries (c .hit ∷ [])) (omega arith))
 
   -- no inline reference has the name
   pub inline-none : T (all (λ r. not (named (m .kind) (m .fields) r)) (b .refs)) → inline m c ≡ 0
@@ -331,3 +343,12 @@ module _ (m : Name) (items : List Item) (c : Cut Item) (b : Body) (H : Here m it
           let n′ : Name = record { extent = k .hit .key .objectid; kind = k .hit .key .kind; fields = one (k .hit .key .offset) } in
           let e : m ≡ n′ = only-same m n′ (sharedCount (k .hit)) (λ z. s .says (ap (sum (stands m)) (plain-entry (k .hit) n q g) ∙ z)) in
           absurd (subst T (sym (T-eq (eqb (m .kind) 178) (yes-eqb is)) ∙ ap (λ (x : Name). eqb (x .kind) 178) e ∙ q) tt)
+
+-- ---- the same, from the questions that all changes share
+
+pub two-places : (nodesize : ℕ) (sheet : List ℕ) (n : Name) (items : List Item) (at : Cut Item) → T (areBytes sheet)
+    → Door nodesize sheet (n .extent) items at → (count n items ≡ inline n at + apart n at) × ((inline n at ≡ 0) ⊎ (apart n at ≡ 0))
+two-places nodesize sheet n items at raw d =
+    let S = scene sheet items raw (d .reads) (d .balance) in
+    let (b, H) = here-of n items at (S .bal) (S .td) (d .stands) in
+    (count-split n items at b H (S .bal) (S .td), one-place n items at b H (S .bal) (S .td))

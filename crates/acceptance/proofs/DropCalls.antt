@@ -1,15 +1,15 @@
 -- The three drops are accepted exactly if their questions are answered yes. Assumes nothing.
-use mathlib.Core.Path.{_≡_, refl, sym, ap, ap₂, _∙_, subst}
-use mathlib.Core.Logic.{_≢_, _⊎_, inl, inr}
-use mathlib.Core.Bool.{Bool, true, false, not, _&&_, _||_, cond}
+use mathlib.Core.Path.{_≡_, refl, sym, ap, _∙_, subst}
+use mathlib.Core.Logic.{_≢_}
+use mathlib.Core.Bool.{Bool, true, false, not, _&&_, cond}
 use mathlib.Core.List.{List, [], _∷_, _++_}
 use mathlib.Core.Option.{Option, none, some}
-use Prim.Native.Nat.{ℕ, zero, suc, _+_, _-_, _*_, _≤_, _<_}
+use Prim.Native.Nat.{ℕ, _+_, _-_, _≤_, _<_}
 use native.Mathlib.Omega.{arith}
 use lib.Dec.{T, leb, ltb, eqb, eqb→eq, leb→le, le→leb, ltb→lt, nltb→le}
 use lib.ListN.{length}
-use mir.Facts.{and-yes, yes-and, or-yes, yes-eqb, no-eqb, eqb-no}
-use Rattle.fields.specs.Lists.{sum, all, same, Cut, cut}
+use mir.Facts.{and-yes, yes-and, yes-eqb, no-eqb, eqb-no}
+use Rattle.fields.specs.Lists.{sum, same, Cut, cut}
 use Rattle.fields.specs.Numbers.{leBytes, words, areBytes}
 use Rattle.fields.specs.Parts.{written}
 use Rattle.fields.proofs.Lists.{cond-yes, cond-no, same-yes, same-refl, all-mid, Found, cut-some, cut-none}
@@ -21,8 +21,8 @@ use Rattle.format.specs.declared.SharedRef.{SharedRef}
 use Rattle.format.specs.declared.Key.{Key}
 use Rattle.format.specs.declared.Change.{Change}
 use Rattle.format.specs.declared.Change.the-variants.{DropBlock, DropData, DropShared}
-use Rattle.format.specs.Questions.{Answer, refused, absent, remove, accepted, ask, bind, needed, found, ifAbsent, TakenOut}
-use Rattle.format.specs.References.{known, payloadLength, countPosition, counted, fieldCount, rowIn, weightOf, Ref, refsBytes, Body, bodyWith, totalOf, readBody, bodyBytes, placeOf}
+use Rattle.format.specs.Questions.{Answer, absent, remove, accepted, ask, bind, needed, found, ifAbsent, TakenOut}
+use Rattle.format.specs.References.{known, payloadLength, countPosition, counted, fieldCount, rowIn, weightOf, Ref, refsBytes, Body, bodyWith, totalOf, bodyBytes, placeOf}
 use Rattle.format.specs.Bodies.{named, one, triple, weighed, bodyFits, sharedKind, lowerTotal, reduceTotal, less, dropInline, dropInlineTreeRef, dropInlineDataRef, takeInlineShared, keyedCount, dropKeyedDataRef}
 use Rattle.format.specs.Items.{Item, keyOf, dataFits, sheetHolds, withBytes, putBack, without}
 use Rattle.format.specs.Sheets.{hasKey, deleted}
@@ -32,7 +32,7 @@ use Rattle.format.specs.Ledger.{nameOf, kindFits, droppedAt, dropDataRef, share
 use Rattle.format.proofs.Answers.{ask-ok, ask-yes, bind-ok, bind-yes, accepted-inj, refused-not}
 use Rattle.format.proofs.Refs.{whole, whole-out}
 use Rattle.format.proofs.Bodies.{read-total, read-long, bodyBytes-read, length-bodyBytes, total-bodyBytes, fixed-long}
-use Rattle.history.proofs.Naming.{Naming, is176, is178, naming-known, naming-no-record, shared-naming, shared-field}
+use Rattle.history.proofs.Naming.{Naming, is176, is178, naming-known, naming-no-record}
 use Rattle.history.proofs.Order.{named-yes}
 use Rattle.history.proofs.Edit.{only}
 use Rattle.history.proofs.Facts.{data-entry}
@@ -62,9 +62,9 @@ module _ (nodesize : ℕ) (sheet : List ℕ) (room : ℕ) (raw : T (areBytes she
     (next : List Item → Cut Item → Answer (List Item)) (test : ℕ → Bool) (gone : List Item → Cut Item → ℕ)
     (changes : (items : List Item) → changed nodesize change items ≡ onRecord (nameOf change .extent) items (next items))
     (counts : (items : List Item) → Scene sheet items → (c : Cut Item) (b : Body) → Here (nameOf change) items c b
-      → (after : List Item) → next items c ≡ accepted after → 1 ≤ count (nameOf change) items)
+    → (after : List Item) → next items c ≡ accepted after → 1 ≤ count (nameOf change) items)
     (gives : (items : List Item) → Scene sheet items → (c : Cut Item) (b : Body) → Here (nameOf change) items c b → 1 ≤ count (nameOf change) items
-      → Gives sheet test (gone items c) c (next items c)) where
+    → Gives sheet test (gone items c) c (next items c)) where
   abbrev m : Name
   m = nameOf change
 
@@ -251,8 +251,8 @@ module _ (sheet : List ℕ) (items : List Item) (S : Scene sheet items) (m : Nam
       let body : List ℕ = bodyBytes (bodyWith b (b .total - 1) (x .front ++ (less (x .hit) 1 ++ x .back))) in (
         putBack c body,
         inline-way (dropInline (c .hit .key .kind) (c .hit .bytes) (m .kind) (m .fields)) (leb 2 (b .total)) body put (putBack c body) other
-        (inline-found (c .hit .key .kind) (c .hit .bytes) b (m .kind) (m .fields) x fits (H .reads) e) (puts body)
-        ∙ ap (λ (n : ℕ). ask (leb 2 n) 13 (accepted (putBack c body))) (sym (read-total (c .hit .key .kind) (c .hit .bytes) b (H .reads))),
+            (inline-found (c .hit .key .kind) (c .hit .bytes) b (m .kind) (m .fields) x fits (H .reads) e) (puts body)
+            ∙ ap (λ (n : ℕ). ask (leb 2 n) 13 (accepted (putBack c body))) (sym (read-total (c .hit .key .kind) (c .hit .bytes) b (H .reads))),
         shorter-put body gone (omega arith),
       )
 
@@ -322,9 +322,9 @@ module _ (sheet : List ℕ) (extent : ℕ) (name : BlockRef) (items : List Item)
       (length-total d (totalOf d - 1) long) in (
         after,
         none-way sheet items S block-name block-formed c b H e block-put block-item
-        ∙ ap (λ (x : Answer (List Item)). bind x (λ others. bind (lowerTotal d) (λ rest. bind (flagged false rest) (λ body. replaced (c .hit .key) body others))))
-        (needed-yes key items k (λ k. accepted (without k)) at)
-        ∙ ask-then (lowerTotal d) (leb 2 (totalOf d)) d′ _ after (lower-in d (fits sheet items S block-name block-formed c b H) long) r,
+            ∙ ap (λ (x : Answer (List Item)). bind x (λ others. bind (lowerTotal d) (λ rest. bind (flagged false rest) (λ body. replaced (c .hit .key) body others))))
+            (needed-yes key items k (λ k. accepted (without k)) at)
+            ∙ ask-then (lowerTotal d) (leb 2 (totalOf d)) d′ _ after (lower-in d (fits sheet items S block-name block-formed c b H) long) r,
         short,
       )
 
@@ -488,9 +488,9 @@ module _ (sheet : List ℕ) (extent : ℕ) (name : DataRef) (items : List Item) 
           ∙ ap (λ (x : ℕ). cond (eqb (count data-name items) 1) x 0) (sym (cond-yes {A = ℕ} (eqb (inline data-name c) 0) 49 29 (yes-eqb z))) in (
             after,
             none-way sheet items S data-name data-formed c b H e data-put data-item
-            ∙ needed-yes data-key items k _ at
-            ∙ ask-then (lowerTotal d) (leb 2 (totalOf d)) d′ (data-left k) after (lower-in d (fits sheet items S data-name data-formed c b H) long)
-            (bind-yes (droppedAt k (dropKeyedDataRef (k .hit .bytes) name)) _ (ap (droppedAt k) asked ∙ dr) ∙ r),
+                ∙ needed-yes data-key items k _ at
+                ∙ ask-then (lowerTotal d) (leb 2 (totalOf d)) d′ (data-left k) after (lower-in d (fits sheet items S data-name data-formed c b H) long)
+                (bind-yes (droppedAt k (dropKeyedDataRef (k .hit .bytes) name)) _ (ap (droppedAt k) asked ∙ dr) ∙ r),
             subst (λ (t : ℕ). Shorter sheet t after) g short,
           )
 
@@ -624,8 +624,8 @@ module _ (sheet : List ℕ) (extent : ℕ) (name : SharedRef) (sk : T (sharedKin
       cond-no {A = ℕ} (eqb (inline shared-name c) 0) (sharedItem (name .kind)) (sharedSize (name .kind)) (no-eqb ne) in (
         putBack c body,
         found-way (takeInlineShared (c .hit .key .kind) (c .hit .bytes) name) _ shared-put (putBack c body) shared-by-key (taken (some x) e)
-        (bind-yes (reduceTotal rest (x .hit .weight)) (λ z. accepted (putBack c z)) red)
-        ∙ sym (ask-yes true 13 (accepted (putBack c body)) tt),
+            (bind-yes (reduceTotal rest (x .hit .weight)) (λ z. accepted (putBack c z)) red)
+            ∙ sym (ask-yes true 13 (accepted (putBack c body)) tt),
         shorter-put sheet items S shared-name shared-formed c b H body shared-gone (omega arith),
       )
 
@@ -649,8 +649,8 @@ module _ (sheet : List ℕ) (extent : ℕ) (name : SharedRef) (sk : T (sharedKin
       (length-total d (totalOf d - w) long) in (
         after,
         shared-none e ∙ needed-yes shared-key items k _ at
-        ∙ bind-yes (reduceTotal d w) (λ body. replaced (c .hit .key) body (without k)) (reduce-in d w (fits sheet items S shared-name shared-formed c b H) long wt) ∙ r
-        ∙ sym (ask-yes true 13 (accepted after) tt),
+            ∙ bind-yes (reduceTotal d w) (λ body. replaced (c .hit .key) body (without k)) (reduce-in d w (fits sheet items S shared-name shared-formed c b H) long wt) ∙ r
+            ∙ sym (ask-yes true 13 (accepted after) tt),
         short,
       )
 

@@ -1,26 +1,25 @@
 -- What the three drops give on a balanced sheet where the name stands: the questions that are left, and how much shorter the
 -- sheet becomes. Assumes nothing.
 use mathlib.Core.Path.{_≡_, refl, sym, ap, ap₂, _∙_, subst}
-use mathlib.Core.Logic.{_≢_, _⊎_, inl, inr}
-use mathlib.Core.Bool.{Bool, true, false, not, _&&_, _||_, cond}
+use mathlib.Core.Bool.{Bool, true, false, not, cond}
 use mathlib.Core.List.{List, [], _∷_, _++_}
 use mathlib.Core.Option.{Option, none, some}
-use Prim.Native.Nat.{ℕ, zero, suc, _+_, _-_, _*_, _≤_, _<_}
+use Prim.Native.Nat.{ℕ, _+_, _-_, _≤_}
 use native.Mathlib.Omega.{arith}
-use lib.Dec.{T, leb, ltb, eqb, eqb→eq, leb→le, le→leb, ltb→lt}
+use lib.Dec.{T, leb, eqb, leb→le, le→leb}
 use lib.ListN.{length, length-append}
-use mir.Facts.{and-yes, yes-and, T-not, not-T, yes-eqb, no-eqb}
+use mir.Facts.{and-yes, yes-and, T-not, not-T, yes-eqb}
 use Rattle.fields.specs.Lists.{sum, all, same, Cut, cut}
-use Rattle.fields.specs.Numbers.{leBytes, words}
+use Rattle.fields.specs.Numbers.{leBytes}
 use Rattle.fields.specs.Parts.{written}
-use Rattle.fields.proofs.Lists.{cond-yes, cond-no, some-inj, no-some, sum-append, all-map, all-both, all-left, all-right, all-mid, all-rest, Found, cut-some, cut-none}
+use Rattle.fields.proofs.Lists.{cond-no, some-inj, no-some, sum-append, all-map, all-both, all-left, all-right, all-mid, all-rest, cut-some, cut-none}
 use Rattle.fields.proofs.Numbers.{length-leBytes}
 use Rattle.fields.proofs.Parts.{length-written}
 use Rattle.format.specs.declared.Key.{Key}
-use Rattle.format.specs.Questions.{Answer, refused, absent, remove, accepted, ask, bind, needed, found, ifAbsent}
+use Rattle.format.specs.Questions.{Answer, absent, accepted, ask, bind, needed, found, ifAbsent}
 use Rattle.format.specs.References.{Ref, Body, bodyWith, totalOf, readBody, bodyBytes}
 use Rattle.format.specs.Bodies.{named, bodyFits, onHead, onTotal, loweredByOne, reducedBy, lowerTotal, reduceTotal, less, dropInline}
-use Rattle.format.specs.Items.{Item, dataFits, sheetHolds, putBack, without}
+use Rattle.format.specs.Items.{Item, dataFits, sheetHolds, putBack}
 use Rattle.format.specs.Sheets.{hasKey}
 use Rattle.format.specs.Apply.{isRecord, recordOf, replaced}
 use Rattle.format.specs.Names.{Name, sameName, Entry, entries, under, count, ofExtent}

@@ -1,19 +1,19 @@
 -- A posting taken apart and put together: the questions around its change, the sheet's items, and the size of what they become.
 -- Assumes nothing.
-use mathlib.Core.Path.{_≡_, refl, sym, ap, _∙_, subst}
-use mathlib.Core.Bool.{Bool, true, false, not, _&&_, cond}
-use mathlib.Core.List.{List, [], _∷_, _++_}
-use mathlib.Core.Option.{Option, none, some}
-use Prim.Native.Nat.{ℕ, _+_, _-_, _*_, _/_, _≤_, _<_}
+use mathlib.Core.Path.{_≡_, sym, ap, _∙_}
+use mathlib.Core.Bool.{Bool, _&&_}
+use mathlib.Core.List.{List, _∷_, _++_}
+use mathlib.Core.Option.{some}
+use Prim.Native.Nat.{ℕ, _+_, _*_, _≤_}
 use native.Mathlib.Omega.{arith}
 use lib.Dec.{T, leb, leb→le, le→leb}
 use lib.ListN.{length, length-append}
 use mir.Facts.{and-yes, yes-and}
 use Rattle.fields.specs.Lists.{sum, all, Cut, cut}
 use Rattle.fields.specs.Numbers.{areBytes}
-use Rattle.fields.proofs.Lists.{sum-append, all-map, all-mid, all-rest, all-put}
+use Rattle.fields.proofs.Lists.{sum-append, all-map, all-rest, all-put}
 use Rattle.format.specs.declared.Change.{Change}
-use Rattle.format.specs.Questions.{Answer, accepted, ask, bind, needed, held}
+use Rattle.format.specs.Questions.{Answer, accepted, needed, held}
 use Rattle.format.specs.References.{Body}
 use Rattle.format.specs.Items.{Item, rising, readSheet, sheetBytes, nodesizeFits, dataFits, onSheet, sheetHolds, heldSheet, withBytes, putBack, without}
 use Rattle.format.specs.Apply.{inlineLimit, recordOf, onRecord}
@@ -25,7 +25,7 @@ use Rattle.history.proofs.Edit.{Balanced, balanced-out}
 use Rattle.history.proofs.Steps.{tidy, Here, here-of}
 use Rattle.history.proofs.Bounds.{total-bound}
 use Rattle.history.proofs.Demand.{sane-tidy}
-use Rattle.acceptance.specs.Acceptance.{Accepts, Door}
+use Rattle.acceptance.specs.Acceptance.{Accepts}
 
 -- ---- the questions around a change
 

@@ -24,11 +24,11 @@ use Rattle.format.specs.Ledger.{nameOf, posted}
 
 -- `at` is the extent's record with what stands before and after it
 pub record Door (nodesize : ℕ) (sheet : List ℕ) (extent : ℕ) (items : List Item) (at : Cut Item) : Type 0 where
-  pub reads : readSheet sheet ≡ accepted items -- 1, 2
-  pub least : 501 ≤ nodesize -- 3
-  pub most : nodesize ≤ 65536 -- 3
-  pub balance : T (balanced items) -- 4
-  pub stands : cut (recordOf extent) items ≡ some at -- 5
+  pub reads : readSheet sheet ≡ accepted items  -- 1, 2
+  pub least : 501 ≤ nodesize  -- 3
+  pub most : nodesize ≤ 65536  -- 3
+  pub balance : T (balanced items)  -- 4
+  pub stands : cut (recordOf extent) items ≡ some at  -- 5
 
 -- what a name counts inline, in the extent's record alone, and what it counts as an item of its own; at most one is not 0, and
 -- together they are what the name counts
@@ -73,63 +73,63 @@ freed n at size item = cond (eqb (inline n at) 0) item size
 pub record AddsBlock (nodesize : ℕ) (sheet : List ℕ) (n : Name) (room : ℕ) : Type 0 where
   pub items : List Item
   pub at : Cut Item
-  pub door : Door nodesize sheet (n .extent) items at -- 1 to 5
-  pub free : count n items ≡ 0 -- 9
-  pub short : length (at .hit .bytes) + blockSize ≤ inlineLimit nodesize -- 17
-  pub roomy : length sheet + blockSize ≤ room -- 21
-  pub small : length sheet + blockSize ≤ 262144 -- 21
+  pub door : Door nodesize sheet (n .extent) items at  -- 1 to 5
+  pub free : count n items ≡ 0  -- 9
+  pub short : length (at .hit .bytes) + blockSize ≤ inlineLimit nodesize  -- 17
+  pub roomy : length sheet + blockSize ≤ room  -- 21
+  pub small : length sheet + blockSize ≤ 262144  -- 21
 
 pub record AddsData (nodesize : ℕ) (sheet : List ℕ) (n : Name) (amount room : ℕ) : Type 0 where
   pub items : List Item
   pub at : Cut Item
-  pub door : Door nodesize sheet (n .extent) items at -- 1 to 5
-  pub free : apart n at ≡ 0 -- 9
-  pub positive : 1 ≤ amount -- 10
-  pub holds : inline n at + amount < 2 ^ 32 -- 11
-  pub short : inline n at ≡ 0 → length (at .hit .bytes) + dataSize ≤ inlineLimit nodesize -- 17
-  pub roomy : length sheet + grown n at dataSize ≤ room -- 21
-  pub small : length sheet + grown n at dataSize ≤ 262144 -- 21
+  pub door : Door nodesize sheet (n .extent) items at  -- 1 to 5
+  pub free : apart n at ≡ 0  -- 9
+  pub positive : 1 ≤ amount  -- 10
+  pub holds : inline n at + amount < 2 ^ 32  -- 11
+  pub short : inline n at ≡ 0 → length (at .hit .bytes) + dataSize ≤ inlineLimit nodesize  -- 17
+  pub roomy : length sheet + grown n at dataSize ≤ room  -- 21
+  pub small : length sheet + grown n at dataSize ≤ 262144  -- 21
 
 pub record AddsShared (nodesize : ℕ) (sheet : List ℕ) (n : Name) (amount room : ℕ) : Type 0 where
   pub items : List Item
   pub at : Cut Item
-  pub kind : T (sharedKind (n .kind)) -- 3
-  pub door : Door nodesize sheet (n .extent) items at -- 1 to 5
-  pub free : apart n at ≡ 0 -- 9
-  pub new : n .kind ≡ 182 → inline n at ≡ 0 -- 9
-  pub positive : 1 ≤ amount -- 10
-  pub single : n .kind ≡ 182 → amount ≡ 1 -- 10
-  pub holds : inline n at + amount < 2 ^ 32 -- 11
-  pub short : length (at .hit .bytes) + grown n at (sharedSize (n .kind)) ≤ inlineLimit nodesize -- 17
-  pub roomy : length sheet + grown n at (sharedSize (n .kind)) ≤ room -- 21
-  pub small : length sheet + grown n at (sharedSize (n .kind)) ≤ 262144 -- 21
+  pub kind : T (sharedKind (n .kind))  -- 3
+  pub door : Door nodesize sheet (n .extent) items at  -- 1 to 5
+  pub free : apart n at ≡ 0  -- 9
+  pub new : n .kind ≡ 182 → inline n at ≡ 0  -- 9
+  pub positive : 1 ≤ amount  -- 10
+  pub single : n .kind ≡ 182 → amount ≡ 1  -- 10
+  pub holds : inline n at + amount < 2 ^ 32  -- 11
+  pub short : length (at .hit .bytes) + grown n at (sharedSize (n .kind)) ≤ inlineLimit nodesize  -- 17
+  pub roomy : length sheet + grown n at (sharedSize (n .kind)) ≤ room  -- 21
+  pub small : length sheet + grown n at (sharedSize (n .kind)) ≤ 262144  -- 21
 
 -- ---- drops: what is left is no longer than the sheet, so within 262,144 bytes
 
 pub record DropsBlock (nodesize : ℕ) (sheet : List ℕ) (n : Name) (room : ℕ) : Type 0 where
   pub items : List Item
   pub at : Cut Item
-  pub door : Door nodesize sheet (n .extent) items at -- 1 to 5
-  pub named : 1 ≤ count n items -- 5
-  pub two : 2 ≤ totalOf (at .hit .bytes) -- 13
-  pub roomy : length sheet - freed n at blockSize blockItem ≤ room -- 21
+  pub door : Door nodesize sheet (n .extent) items at  -- 1 to 5
+  pub named : 1 ≤ count n items  -- 5
+  pub two : 2 ≤ totalOf (at .hit .bytes)  -- 13
+  pub roomy : length sheet - freed n at blockSize blockItem ≤ room  -- 21
 
 -- a reference that counts more than one stays, with one less
 pub record DropsData (nodesize : ℕ) (sheet : List ℕ) (n : Name) (room : ℕ) : Type 0 where
   pub items : List Item
   pub at : Cut Item
-  pub door : Door nodesize sheet (n .extent) items at -- 1 to 5
-  pub named : 1 ≤ count n items -- 5, 15
-  pub two : 2 ≤ totalOf (at .hit .bytes) -- 13
-  pub roomy : length sheet - cond (eqb (count n items) 1) (freed n at dataSize dataItem) 0 ≤ room -- 21
+  pub door : Door nodesize sheet (n .extent) items at  -- 1 to 5
+  pub named : 1 ≤ count n items  -- 5, 15
+  pub two : 2 ≤ totalOf (at .hit .bytes)  -- 13
+  pub roomy : length sheet - cond (eqb (count n items) 1) (freed n at dataSize dataItem) 0 ≤ room  -- 21
 
 pub record DropsShared (nodesize : ℕ) (sheet : List ℕ) (n : Name) (room : ℕ) : Type 0 where
   pub items : List Item
   pub at : Cut Item
-  pub kind : T (sharedKind (n .kind)) -- 3
-  pub door : Door nodesize sheet (n .extent) items at -- 1 to 5
-  pub named : 1 ≤ count n items -- 5
-  pub roomy : length sheet - freed n at (sharedSize (n .kind)) (sharedItem (n .kind)) ≤ room -- 21
+  pub kind : T (sharedKind (n .kind))  -- 3
+  pub door : Door nodesize sheet (n .extent) items at  -- 1 to 5
+  pub named : 1 ≤ count n items  -- 5
+  pub roomy : length sheet - freed n at (sharedSize (n .kind)) (sharedItem (n .kind)) ≤ room  -- 21
 
 -- ---- accepted, exactly if
 
