@@ -40,7 +40,8 @@ use Rattle.acceptance.proofs.Counts.{Formed, formed, two-places, inline
 
 -- ---- lengths of references and bodies
 
-pub length-ref : (r : Ref) → T (known (r .kind)) → length (r .fields) ≡ fieldCount (r .kind) → length (refsBytes (r ∷ [])) ≡ 1 + payloadLength (r .kind)
+pub length-ref : (r : Ref) → T (known (r .kind)) → length (r .fields) ≡ fieldCount (r .kind)
+    → length (refsBytes (r ∷ [])) ≡ 1 + payloadLength (r .kind)
 unfolding refBytes refsBytes
 length-ref r k l =
     let e₁ = length-append (wordBytes (r .fields)) (countBytes r) in
@@ -58,7 +59,8 @@ length-none = refl
 pub length-edit : (b : Body) (total : ℕ) (p o o′ q : List Ref) → b .refs ≡ p ++ (o ++ q)
     → length (bodyBytes (bodyWith b total (p ++ (o′ ++ q)))) + length (refsBytes o) ≡ length (bodyBytes b) + length (refsBytes o′)
 length-edit b total p o o′ q e =
-    let part : (l : List Ref) → length (refsBytes (p ++ (l ++ q))) ≡ length (refsBytes p) + (length (refsBytes l) + length (refsBytes q)) =
+    let part : (l : List Ref) → length (refsBytes (p ++ (l ++ q))) ≡ length
+    (refsBytes p) + (length (refsBytes l) + length (refsBytes q)) =
     (λ l. ap length (refsBytes-append p (l ++ q)) ∙ length-append (refsBytes p) (refsBytes (l ++ q))
     ∙ ap (λ (n : ℕ). length (refsBytes p) + n) (ap length (refsBytes-append l q) ∙ length-append (refsBytes l) (refsBytes q))) in
     let e₁ = length-bodyBytes b in
@@ -69,7 +71,8 @@ length-edit b total p o o′ q e =
 
 -- ---- an addition at a good spot
 
-module _ (m : Name) (nm : Formed m) (n : ℕ) (items : List Item) (c : Cut Item) (b : Body) (H : Here m items c b) (bal : Balanced items)
+module _ (m : Name) (nm : Formed m) (n : ℕ) (items : List Item) (c : Cut Item) (b : Body) (H : Here m items c b)
+    (bal : Balanced items)
     (td : T (all tidy items)) (light : b .total ≤ 4294967296 * 262144) where
   -- what a spot says: the weight that stands there, whether it is a gap, and how long the body becomes
   record At (spot : Spot) : Type 0 where
@@ -105,7 +108,8 @@ module _ (m : Name) (nm : Formed m) (n : ℕ) (items : List Item) (c : Cut Item)
       let x′ : Ref = weighed (x .hit) (x .hit .weight + n) in
       let kn : T (known (x .hit .kind)) = subst (λ (z : ℕ). T (known z)) (sym (k .0)) (naming-known (m .kind) (nm .naming)) in
       let sz : length (x .hit .fields) ≡ fieldCount (x .hit .kind) = ap length (k .1) ∙ nm .size ∙ ap fieldCount (sym (k .0)) in
-      let g : grown m c (1 + payloadLength (m .kind)) ≡ 0 = cond-no (eqb (inline m c) 0) (1 + payloadLength (m .kind)) 0 (no-eqb ne) in
+      let g : grown m c (1 + payloadLength (m .kind)) ≡ 0 =
+      cond-no (eqb (inline m c) 0) (1 + payloadLength (m .kind)) 0 (no-eqb ne) in
       record {
         weight = sym i;
         free = sym (not-eq (eqb (inline m c) 0) (no-eqb ne));
@@ -155,14 +159,16 @@ module _ (m : Name) (nm : Formed m) (n : ℕ) (items : List Item) (c : Cut Item)
         ask-yes (counted (m .kind) || isGap spot) 9 _ (subst (λ (z : Bool). T (counted (m .kind) || z)) (sym (S .free)) nine)
             ∙ ask-yes (counted (m .kind) || eqb n 1) 10 _ ten
             ∙ ask-yes (ltb (standingWeight spot + n) (2 ^ 32)) 11 _ (lt→ltb (standingWeight spot + n) 4294967296 k₁₁)
-            ∙ bind-yes (ask (ltb (b .total + n) (2 ^ 64)) 12 (accepted (b .total + n))) _ (ask-yes (ltb (b .total + n) (2 ^ 64)) 12 _ t₁₂),
+            ∙ bind-yes (ask (ltb (b .total + n) (2 ^ 64)) 12 (accepted (b .total + n))) _
+            (ask-yes (ltb (b .total + n) (2 ^ 64)) 12 _ t₁₂),
         S .sized (b .total + n),
       )
 
 -- ---- what the three adds share
 
 -- the ledger's own questions
-questions-out : (m : Name) (amount : ℕ) (items after : List Item) (answer : Answer (List Item)) → added m amount items answer ≡ accepted after
+questions-out : (m : Name) (amount : ℕ) (items after : List Item) (answer : Answer (List Item))
+    → added m amount items answer ≡ accepted after
     → T (all (notItsOwn m) items) × (1 ≤ amount) × (answer ≡ accepted after)
 unfolding added
 questions-out m amount items after answer e =
@@ -177,7 +183,8 @@ questions-in m amount items answer t h =
     also-yes (all (notItsOwn m) items) 9 _ t ∙ also-yes (leb 1 amount) 10 _ (le→leb 1 amount h)
 
 -- a body that reads
-pub body-in : {A : Type 0} (type : ℕ) (d : List ℕ) (b : Body) (next : Body → Answer A) → length d ≤ 65535 → readBody type d ≡ accepted b
+pub body-in : {A : Type 0} (type : ℕ) (d : List ℕ) (b : Body) (next : Body → Answer A) → length d ≤ 65535
+    → readBody type d ≡ accepted b
     → onBody type d next ≡ next b
 unfolding onBody bodyFits
 body-in type d b next h r = ask-yes (bodyFits d) 3 _ (le→leb (length d) 65535 h) ∙ bind-yes (readBody type d) next r
@@ -190,13 +197,15 @@ limit-out x y z t h = go (or-yes (leb x y) (leb x z) t)
     go (inl u) = let k : x ≤ y = leb→le x y u in absurd (omega arith)
     go (inr u) = leb→le x z u
 
-module _ (sheet : List ℕ) (items : List Item) (S : Scene sheet items) (m : Name) (c : Cut Item) (b : Body) (H : Here m items c b) where
+module _ (sheet : List ℕ) (items : List Item) (S : Scene sheet items) (m : Name) (c : Cut Item) (b : Body)
+    (H : Here m items c b) where
   pub length-at : length (c .hit .bytes) ≤ 65535
   unfolding dataFits
   length-at = leb→le _ _ (all-mid (λ i. dataFits (i .bytes)) (c .front) (c .hit) (c .back) (rw (H .found .same) at (S .fit)))
 
   -- question 21 of the record's new body
-  pub room-out : (room more : ℕ) (body : List ℕ) → length body ≡ length (c .hit .bytes) + more → T (sheetHolds room (putBack c body))
+  pub room-out : (room more : ℕ) (body : List ℕ) → length body ≡ length (c .hit .bytes) + more
+      → T (sheetHolds room (putBack c body))
       → (length sheet + more ≤ room) × (length sheet + more ≤ 262144)
   room-out room more body e t =
       let h = holds-out room (putBack c body) t in
@@ -235,7 +244,8 @@ record AddFacts (nodesize : ℕ) (sheet : List ℕ) (m : Name) (amount room : �
 
 module _ (nodesize : ℕ) (sheet : List ℕ) (room : ℕ) (raw : T (areBytes sheet)) (change : Change) (kind : T (kindFits change))
     (amount : ℕ) (call : Item → Answer (List ℕ)) (test : ℕ → ℕ → Bool) (spot : Body → Spot)
-    (changes : (items : List Item) → changed nodesize change items ≡ added (nameOf change) amount items (onRecord (nameOf change .extent) items (λ c.
+    (changes : (items : List Item) → changed nodesize change items ≡ added (nameOf change) amount items
+    (onRecord (nameOf change .extent) items (λ c.
     bind (call (c .hit)) (λ body. ask (test (length (c .hit .bytes)) (length body)) 17 (accepted (putBack c body))))))
     (calls : (i : Item) (b : Body) → 1 ≤ amount → length (i .bytes) ≤ 65535 → readBody (i .key .kind) (i .bytes) ≡ accepted b
     → call i ≡ addAt b (ref (nameOf change .kind) (nameOf change .fields) amount) (spot b))
@@ -257,12 +267,15 @@ module _ (nodesize : ℕ) (sheet : List ℕ) (room : ℕ) (raw : T (areBytes she
 
   from-body : (P : Posts nodesize sheet change room) → Scene sheet (P .items) → T (all (notItsOwn m) (P .items)) → 1 ≤ amount
       → (F : Found5 m (P .items) next (P .after)) (body : List ℕ) → call (F .c .hit) ≡ accepted body
-      → T (test (length (F .c .hit .bytes)) (length body)) → putBack (F .c) body ≡ P .after → AddFacts nodesize sheet m amount room test
+      → T (test (length (F .c .hit .bytes)) (length body)) → putBack (F .c) body ≡ P .after
+      → AddFacts nodesize sheet m amount room test
   from-body P S own some≤ F body e t q =
-      let A = adds-out m nm amount (P .items) (F .c) (F .b) (F .here) (S .bal) (S .td) (S .light m (F .c) (F .b) (F .here)) (spot (F .b))
+      let A = adds-out m nm amount (P .items) (F .c) (F .b) (F .here) (S .bal) (S .td) (S .light m (F .c) (F .b) (F .here))
+      (spot (F .b))
       (ok-spot (P .items) S (F .c) (F .b) (F .here)) body
       (sym (calls (F .c .hit) (F .b) some≤ (length-at sheet (P .items) S m (F .c) (F .b) (F .here)) (F .here .reads)) ∙ e) in
-      let r = room-out sheet (P .items) S m (F .c) (F .b) (F .here) room (grown m (F .c) (1 + payloadLength (m .kind))) body (A .sized)
+      let r = room-out sheet (P .items) S m (F .c) (F .b) (F .here) room (grown m (F .c) (1 + payloadLength (m .kind))) body
+      (A .sized)
       (subst (λ (x : List Item). T (sheetHolds room x)) (sym q) (P .holds)) in
       record {
         items = P .items;
@@ -292,12 +305,15 @@ module _ (nodesize : ℕ) (sheet : List ℕ) (room : ℕ) (raw : T (areBytes she
       let (own, some≤, e) = questions-out m amount (P .items) (P .after) _ (sym (changes (P .items)) ∙ P .done) in
       from-record P S own some≤ (record-out sheet m (P .items) (P .after) next S e)
 
-  to-body : (f : AddFacts nodesize sheet m amount room test) → Scene sheet (f .items) → (b : Body) → Here m (f .items) (f .at) b → (body : List ℕ)
+  to-body : (f : AddFacts nodesize sheet m amount room test) → Scene sheet (f .items) → (b : Body) → Here m (f .items) (f .at) b
+      → (body : List ℕ)
       → addAt b (ref (m .kind) (m .fields) amount) (spot b) ≡ accepted body
-      → length body ≡ length (f .at .hit .bytes) + grown m (f .at) (1 + payloadLength (m .kind)) → Accepts nodesize sheet change room
+      → length body ≡ length (f .at .hit .bytes) + grown m (f .at) (1 + payloadLength (m .kind))
+      → Accepts nodesize sheet change room
   to-body f S b H body e long′ =
       let l₀ = length-at sheet (f .items) S m (f .at) b H in
-      let t : T (test (length (f .at .hit .bytes)) (length body)) = subst (λ (x : ℕ). T (test (length (f .at .hit .bytes)) x)) (sym long′) (f .seventeen) in
+      let t : T (test (length (f .at .hit .bytes)) (length body)) =
+      subst (λ (x : ℕ). T (test (length (f .at .hit .bytes)) x)) (sym long′) (f .seventeen) in
       posts-in nodesize sheet change room
       (record {
         items = f .items;
@@ -320,7 +336,8 @@ module _ (nodesize : ℕ) (sheet : List ℕ) (room : ℕ) (raw : T (areBytes she
   add-enough f =
       let S = scene sheet (f .items) raw (f .door .reads) (f .door .balance) in
       let (b, H) = here-of m (f .items) (f .at) (S .bal) (S .td) (f .door .stands) in
-      let (body, e, long′) = adds-in m nm amount (f .items) (f .at) b H (S .bal) (S .td) (S .light m (f .at) b H) (spot b) (ok-spot (f .items) S (f .at) b H)
+      let (body, e, long′) = adds-in m nm amount (f .items) (f .at) b H (S .bal) (S .td) (S .light m (f .at) b H) (spot b)
+      (ok-spot (f .items) S (f .at) b H)
       (f .nine) (f .ten) (f .eleven) in
       to-body f S b H body e long′
 
@@ -350,8 +367,10 @@ pub add-block : (nodesize : ℕ) (sheet : List ℕ) (extent : ℕ) (name : Block
 unfolding changed applyKeyedAdd keyedBody addInlineTreeRef placeOf counted countPosition payloadLength rowIn
 add-block nodesize sheet extent name room raw =
     record {
-      only = λ acc. plain (add-only nodesize sheet room raw (AddBlock extent name) tt 1 call (ifGrown nodesize) spot changes calls spots (grown-bounded nodesize) acc);
-      enough = λ f. add-enough nodesize sheet room raw (AddBlock extent name) tt 1 call (ifGrown nodesize) spot changes calls spots (grown-bounded nodesize) (facts f);
+      only = λ acc. plain (add-only nodesize sheet room raw (AddBlock extent name) tt 1 call
+          (ifGrown nodesize) spot changes calls spots (grown-bounded nodesize) acc);
+      enough = λ f. add-enough nodesize sheet room raw (AddBlock extent name) tt 1 call (ifGrown nodesize) spot changes calls spots
+          (grown-bounded nodesize) (facts f);
     }
   where
     m : Name
@@ -364,7 +383,8 @@ add-block nodesize sheet extent name room raw =
     spot b = spotAnywhere 176 (one (name .tree)) (name .tree) (b .refs)
 
     changes : (items : List Item) → changed nodesize (AddBlock extent name) items ≡ added m 1 items (onRecord extent items (λ c.
-        bind (call (c .hit)) (λ body. ask (ifGrown nodesize (length (c .hit .bytes)) (length body)) 17 (accepted (putBack c body)))))
+        bind (call (c .hit)) (λ body. ask (ifGrown nodesize (length (c .hit .bytes)) (length body)) 17
+        (accepted (putBack c body)))))
     changes items = refl
 
     calls : (i : Item) (b : Body) → 1 ≤ 1 → length (i .bytes) ≤ 65535 → readBody (i .key .kind) (i .bytes) ≡ accepted b
@@ -415,12 +435,15 @@ add-block nodesize sheet extent name room raw =
 -- ---- a data reference
 
 pub add-data : (nodesize : ℕ) (sheet : List ℕ) (extent : ℕ) (name : DataRef) (amount room : ℕ) → T (areBytes sheet)
-    → Exactly (Accepts nodesize sheet (AddData extent name amount) room) (AddsData nodesize sheet (nameOf (AddData extent name amount)) amount room)
+    → Exactly (Accepts nodesize sheet (AddData extent name amount) room)
+    (AddsData nodesize sheet (nameOf (AddData extent name amount)) amount room)
 unfolding changed applyKeyedAdd keyedBody addInlineData counted countPosition payloadLength rowIn
 add-data nodesize sheet extent name amount room raw =
     record {
-      only = λ acc. plain (add-only nodesize sheet room raw (AddData extent name amount) tt amount call (ifGrown nodesize) spot changes (calls amount) spots (grown-bounded nodesize) acc);
-      enough = λ f. add-enough nodesize sheet room raw (AddData extent name amount) tt amount call (ifGrown nodesize) spot changes (calls amount) spots (grown-bounded nodesize) (facts f);
+      only = λ acc. plain (add-only nodesize sheet room raw (AddData extent name amount) tt amount call
+          (ifGrown nodesize) spot changes (calls amount) spots (grown-bounded nodesize) acc);
+      enough = λ f. add-enough nodesize sheet room raw (AddData extent name amount) tt amount call (ifGrown nodesize) spot changes
+          (calls amount) spots (grown-bounded nodesize) (facts f);
     }
   where
     m : Name
@@ -432,8 +455,10 @@ add-data nodesize sheet extent name amount room raw =
     spot : Body → Spot
     spot b = spotByScan 178 (triple name) (b .refs)
 
-    changes : (items : List Item) → changed nodesize (AddData extent name amount) items ≡ added m amount items (onRecord extent items (λ c.
-        bind (call (c .hit)) (λ body. ask (ifGrown nodesize (length (c .hit .bytes)) (length body)) 17 (accepted (putBack c body)))))
+    changes : (items : List Item)
+        → changed nodesize (AddData extent name amount) items ≡ added m amount items (onRecord extent items (λ c.
+        bind (call (c .hit)) (λ body. ask (ifGrown nodesize (length (c .hit .bytes)) (length body)) 17
+        (accepted (putBack c body)))))
     changes items = refl
 
     calls : (n : ℕ) (i : Item) (b : Body) → 1 ≤ n → length (i .bytes) ≤ 65535 → readBody (i .key .kind) (i .bytes) ≡ accepted b
@@ -479,12 +504,14 @@ add-data nodesize sheet extent name amount room raw =
           small = f .small;
         }
       where
-        limit : (z : Bool) → eqb (inline m (f .at)) 0 ≡ z → T (ifGrown nodesize (length (f .at .hit .bytes)) (length (f .at .hit .bytes) + cond z 29 0))
+        limit : (z : Bool) → eqb (inline m (f .at)) 0 ≡ z
+            → T (ifGrown nodesize (length (f .at .hit .bytes)) (length (f .at .hit .bytes) + cond z 29 0))
         limit true q =
             or-right (leb (length (f .at .hit .bytes) + 29) (length (f .at .hit .bytes))) _
             (le→leb (length (f .at .hit .bytes) + 29) (inlineLimit nodesize) (f .short (eqb→eq _ 0 (subst T (sym q) tt))))
         limit false q =
-            or-left (leb (length (f .at .hit .bytes) + 0) (length (f .at .hit .bytes))) _ (le→leb (length (f .at .hit .bytes) + 0) (length (f .at .hit .bytes)) (omega arith))
+            or-left (leb (length (f .at .hit .bytes) + 0) (length (f .at .hit .bytes))) _
+            (le→leb (length (f .at .hit .bytes) + 0) (length (f .at .hit .bytes)) (omega arith))
 
 -- ---- a shared reference
 
@@ -511,15 +538,18 @@ unfolding counted countPosition rowIn
 of-182 kind n k t e = eqb→eq n k (subst (λ (x : ℕ). T (counted x || eqb n k)) e t)
 
 pub add-shared : (nodesize : ℕ) (sheet : List ℕ) (extent : ℕ) (name : SharedRef) (amount room : ℕ) → T (areBytes sheet)
-    → Exactly (Accepts nodesize sheet (AddShared extent name amount) room) (AddsShared nodesize sheet (nameOf (AddShared extent name amount)) amount room)
+    → Exactly (Accepts nodesize sheet (AddShared extent name amount) room)
+    (AddsShared nodesize sheet (nameOf (AddShared extent name amount)) amount room)
 unfolding changed applySharedAdd sharedBody addInlineShared
 add-shared nodesize sheet extent name amount room raw =
     record {
       only = λ acc.
           (let k = posts-out nodesize sheet (AddShared extent name amount) room acc .kind in
-          plain k (add-only nodesize sheet room raw (AddShared extent name amount) k amount call (always nodesize) spot changes (calls k) (spots k) (always-bounded nodesize) acc));
+          plain k (add-only nodesize sheet room raw (AddShared extent name amount) k amount call (always nodesize) spot changes
+          (calls k) (spots k) (always-bounded nodesize) acc));
       enough = λ f.
-          add-enough nodesize sheet room raw (AddShared extent name amount) (f .kind) amount call (always nodesize) spot changes (calls (f .kind)) (spots (f .kind))
+          add-enough nodesize sheet room raw (AddShared extent name amount) (f .kind) amount call (always nodesize) spot changes
+          (calls (f .kind)) (spots (f .kind))
           (always-bounded nodesize) (facts f);
     }
   where
@@ -532,25 +562,31 @@ add-shared nodesize sheet extent name amount room raw =
     spot : Body → Spot
     spot b = spotAnywhere (name .kind) (one (name .parent)) (name .parent) (b .refs)
 
-    changes : (items : List Item) → changed nodesize (AddShared extent name amount) items ≡ added m amount items (onRecord extent items (λ c.
+    changes : (items : List Item)
+        → changed nodesize (AddShared extent name amount) items ≡ added m amount items (onRecord extent items (λ c.
         bind (call (c .hit)) (λ body. ask (always nodesize (length (c .hit .bytes)) (length body)) 17 (accepted (putBack c body)))))
     changes items = refl
 
-    calls : T (sharedKind (name .kind)) → (i : Item) (b : Body) → 1 ≤ amount → length (i .bytes) ≤ 65535 → readBody (i .key .kind) (i .bytes) ≡ accepted b
+    calls : T (sharedKind (name .kind)) → (i : Item) (b : Body) → 1 ≤ amount → length (i .bytes) ≤ 65535
+        → readBody (i .key .kind) (i .bytes) ≡ accepted b
         → call i ≡ addAt b (ref (name .kind) (one (name .parent)) amount) (spot b)
     calls k i b h l r = ask-yes (sharedKind (name .kind)) 3 _ k ∙ body-in (i .key .kind) (i .bytes) b _ l r
 
     spots : T (sharedKind (name .kind)) → (nm : Formed m) (b : Body) → T (ordered (b .refs)) → T (all long (b .refs))
         → SpotOk (name .kind) (one (name .parent)) amount (nm .naming) (nm .size) (b .refs) (spot b)
     spots k nm b o l =
-        subst (λ (at : ℕ). SpotOk (name .kind) (one (name .parent)) amount (nm .naming) (nm .size) (b .refs) (spotAnywhere (name .kind) (one (name .parent)) at (b .refs)))
+        subst (λ (at : ℕ). SpotOk (name .kind) (one (name .parent)) amount (nm .naming) (nm .size) (b .refs)
+        (spotAnywhere (name .kind) (one (name .parent)) at (b .refs)))
         (shared-place (name .kind) (name .parent) k)
         (spot-anywhere (name .kind) (one (name .parent)) amount (nm .naming) (nm .size) (b .refs) o l)
 
-    plain : T (sharedKind (name .kind)) → AddFacts nodesize sheet m amount room (always nodesize) → AddsShared nodesize sheet m amount room
+    plain : T (sharedKind (name .kind)) → AddFacts nodesize sheet m amount room (always nodesize)
+        → AddsShared nodesize sheet m amount room
     plain k f =
-        let e : grown m (f .at) (1 + payloadLength (name .kind)) ≡ grown m (f .at) (sharedSize (name .kind)) = ap (grown m (f .at)) (shared-size (name .kind) k) in
-        let s : length (f .at .hit .bytes) + grown m (f .at) (1 + payloadLength (name .kind)) ≤ inlineLimit nodesize = leb→le _ _ (f .seventeen) in
+        let e : grown m (f .at) (1 + payloadLength (name .kind)) ≡ grown m (f .at) (sharedSize (name .kind)) =
+        ap (grown m (f .at)) (shared-size (name .kind) k) in
+        let s : length (f .at .hit .bytes) + grown m (f .at) (1 + payloadLength (name .kind)) ≤ inlineLimit nodesize =
+        leb→le _ _ (f .seventeen) in
         record {
           items = f .items;
           at = f .at;
@@ -569,7 +605,8 @@ add-shared nodesize sheet extent name amount room raw =
     facts : AddsShared nodesize sheet m amount room → AddFacts nodesize sheet m amount room (always nodesize)
     facts f =
         let k = f .kind in
-        let e : grown m (f .at) (sharedSize (name .kind)) ≡ grown m (f .at) (1 + payloadLength (name .kind)) = ap (grown m (f .at)) (sym (shared-size (name .kind) k)) in
+        let e : grown m (f .at) (sharedSize (name .kind)) ≡ grown m (f .at) (1 + payloadLength (name .kind)) =
+        ap (grown m (f .at)) (sym (shared-size (name .kind) k)) in
         let l : ℕ = length (f .at .hit .bytes) in
         record {
           items = f .items;

@@ -54,7 +54,8 @@ pub stood : (n : Name) (l : List Entry) → sum empty l ≡ 0 → sum (stands n)
 stood n [] e = omega arith
 stood n (x ∷ l) e = go (sameName n (x .name)) (leb 1 (x .weight)) refl (stood n l) e
   where
-    go : (c d : Bool) → leb 1 (x .weight) ≡ d → (sum empty l ≡ 0 → sum (stands n) l ≤ sum (under n) l) → cond d 0 1 + sum empty l ≡ 0
+    go : (c d : Bool) → leb 1 (x .weight) ≡ d → (sum empty l ≡ 0 → sum (stands n) l ≤ sum (under n) l)
+        → cond d 0 1 + sum empty l ≡ 0
         → cond c 1 0 + sum (stands n) l ≤ cond c (x .weight) 0 + sum (under n) l
     go true true q f e =
         let h : 1 ≤ x .weight = leb→le 1 (x .weight) (subst T (sym q) tt) in
@@ -85,7 +86,8 @@ own-none m (i ∷ l) e =
 
 -- ---- inline and apart
 
-module _ (m : Name) (items : List Item) (c : Cut Item) (b : Body) (H : Here m items c b) (bal : Balanced items) (td : T (all tidy items)) where
+module _ (m : Name) (items : List Item) (c : Cut Item) (b : Body) (H : Here m items c b) (bal : Balanced items)
+    (td : T (all tidy items)) where
   inline-refs : (g : Entry → ℕ) → sum g (entries (c .hit ∷ [])) ≡ sum g (refEntries (m .extent) (b .refs))
   unfolding entries
   inline-refs g =
@@ -107,7 +109,8 @@ module _ (m : Name) (items : List Item) (c : Cut Item) (b : Body) (H : Here m it
   pub one-place : (inline m c ≡ 0) ⊎ (apart m c ≡ 0)
   one-place = go (lt-or 0 (sum (stands m) (entries (c .hit ∷ []))))
     where
-      go : (0 < sum (stands m) (entries (c .hit ∷ []))) ⊎ (sum (stands m) (entries (c .hit ∷ [])) ≤ 0) → (inline m c ≡ 0) ⊎ (apart m c ≡ 0)
+      go : (0 < sum (stands m) (entries (c .hit ∷ []))) ⊎ (sum (stands m) (entries (c .hit ∷ [])) ≤ 0)
+          → (inline m c ≡ 0) ⊎ (apart m c ≡ 0)
       go (inl h) =
           let n₁ = bal .names m in
           let n₂ = sum-split (stands m) in
@@ -119,7 +122,8 @@ module _ (m : Name) (items : List Item) (c : Cut Item) (b : Body) (H : Here m it
   inline-none t = inline-refs (under m) ∙ unstood m (refEntries (m .extent) (b .refs)) (refs-none m (b .refs) t)
 
   -- one has it: it is the only one, and the name has no item
-  pub inline-one : Naming (m .kind) → (x : Cut Ref) → b .refs ≡ x .front ++ x .hit ∷ x .back → T (named (m .kind) (m .fields) (x .hit))
+  pub inline-one : Naming (m .kind) → (x : Cut Ref) → b .refs ≡ x .front ++ x .hit ∷ x .back
+      → T (named (m .kind) (m .fields) (x .hit))
       → (inline m c ≡ x .hit .weight) × (apart m c ≡ 0) × (1 ≤ x .hit .weight)
   inline-one n x e t =
       let h = named-yes (m .kind) (m .fields) (x .hit) t in
@@ -128,7 +132,8 @@ module _ (m : Name) (items : List Item) (c : Cut Item) (b : Body) (H : Here m it
       let me : refEntries (m .extent) (x .hit ∷ []) ≡ only m (some (x .hit .weight)) =
       named-entries m (x .hit) (not-172 (m .kind) n) (h .0) (h .1) in
       let parts : (g : Entry → ℕ) → sum g (entries (c .hit ∷ [])) ≡ sum g f + sum g (only m (some (x .hit .weight))) + sum g z =
-      (λ g. inline-refs g ∙ ap (λ (l : List Ref). sum g (refEntries (m .extent) l)) e ∙ sum-refs g (m .extent) (x .front) (x .hit ∷ []) (x .back)
+      (λ g. inline-refs g ∙ ap (λ (l : List Ref). sum g (refEntries (m .extent) l)) e ∙ sum-refs g (m .extent) (x .front)
+      (x .hit ∷ []) (x .back)
       ∙ ap (λ (l : List Entry). sum g f + sum g l + sum g z) me) in
       let n₁ = bal .names m in
       let n₂ = sum-split (stands m) in
@@ -147,7 +152,8 @@ module _ (m : Name) (items : List Item) (c : Cut Item) (b : Body) (H : Here m it
       let a : List Item = c .front in let r : Item = c .hit in let z : List Item = c .back in
       let B = balanced-at m items c b H bal td in
       let lo : records (r .key .objectid) (a ++ r ∷ z) ≡ 1 =
-      eqb→eq _ 1 (imp-out (isRecord r || isRefItem r) _ (all-mid (paired (a ++ r ∷ z)) a r z (B .pairs)) (rw (T-eq (isRecord r) (H .isRec)) tt)) in
+      eqb→eq _ 1 (imp-out (isRecord r || isRefItem r) _ (all-mid (paired (a ++ r ∷ z)) a r z (B .pairs))
+      (rw (T-eq (isRecord r) (H .isRec)) tt)) in
       subst (λ (x : ℕ). T (all (λ i. not (recordOf x i)) (a ++ z))) (H .extent) (lone a r z (H .isRec) lo)
 
   -- the name has no item of its own, as a question and as a count
@@ -163,7 +169,8 @@ module _ (m : Name) (items : List Item) (c : Cut Item) (b : Body) (H : Here m it
       let s = stood m (entries (without c)) (omega arith) in
       let rest : T (all (notItsOwn m) (without c)) = own-none m (without c) (omega arith) in
       rw (H .found .same)
-      (all-put (notItsOwn m) (c .front) (c .hit) (c .back) rest (or-left (isRecord (c .hit)) (eqb (sum (stands m) (itemEntries (c .hit))) 0) (H .isRec)))
+      (all-put (notItsOwn m) (c .front) (c .hit) (c .back) rest
+      (or-left (isRecord (c .hit)) (eqb (sum (stands m) (itemEntries (c .hit))) 0) (H .isRec)))
 
 -- ---- an item of the name's own
 
@@ -173,12 +180,14 @@ unfolding inForm wellFormed
 form-out v true r e t = tt
 form-out v false r e t = absurd (subst (λ (y : View). T (wellFormed y)) e t)
 
-pub data-form : (i : Item) → i .key .kind ≡ 178 → T (good i) → (length (i .bytes) ≡ 28) × (i .key .offset ≡ placeOf 178 (words 3 (i .bytes)))
+pub data-form : (i : Item) → i .key .kind ≡ 178 → T (good i)
+    → (length (i .bytes) ≡ 28) × (i .key .offset ≡ placeOf 178 (words 3 (i .bytes)))
 unfolding viewRefItem place
 data-form i e t =
     let d : List ℕ = i .bytes in
     let f : Bool = eqb (length d) 28 && eqb (i .key .offset) (place (refAt 178 d)) in
-    let u : T f = form-out (viewOf i) f (refAt 178 d) (view-item i (is178 e) ∙ cond-yes (eqb (i .key .kind) 178) _ _ (yes-eqb e)) t in
+    let u : T f = form-out (viewOf i) f (refAt 178 d)
+    (view-item i (is178 e) ∙ cond-yes (eqb (i .key .kind) 178) _ _ (yes-eqb e)) t in
     let h = and-yes (eqb (length d) 28) _ u in
     (eqb→eq _ _ (h .0), eqb→eq _ _ (h .1) ∙ ap place (refAt-178 d))
 
@@ -196,7 +205,8 @@ plain-form i k q t = go (eqb (i .key .kind) 184) refl
         (view-item i k ∙ cond-no (eqb (i .key .kind) 178) _ _ n₁ ∙ cond-yes (eqb (i .key .kind) 184) _ _ (subst T (sym p) tt)) t)
     go false p =
         eqb→eq _ _ (form-out (viewOf i) (eqb (length (i .bytes)) 0) (ref (i .key .kind) (one (i .key .offset)) 1)
-        (view-item i k ∙ cond-no (eqb (i .key .kind) 178) _ _ n₁ ∙ cond-no (eqb (i .key .kind) 184) _ _ (subst (λ (c : Bool). T (not c)) (sym p) tt)) t)
+        (view-item i k ∙ cond-no (eqb (i .key .kind) 178) _ _ n₁ ∙ cond-no (eqb (i .key .kind) 184) _ _
+        (subst (λ (c : Bool). T (not c)) (sym p) tt)) t)
 
 -- an item that is no record and says anything is of one of the four types
 says-naming : (i : Item) (n : Name) → T (not (isRecord i)) → sum (stands n) (itemEntries i) ≢ 0 → Naming (i .key .kind)
@@ -231,7 +241,8 @@ pub record Own (m : Name) (items : List Item) (k : Cut Item) (w : ℕ) : Type 0 
 pub own-of : (m : Name) (items : List Item) (k : Cut Item) (w : ℕ) → Balanced items → items ≡ k .front ++ k .hit ∷ k .back
     → k .hit .key .kind ≡ m .kind → k .hit .key .objectid ≡ m .extent → itemEntries (k .hit) ≡ only m (some w) → Own m items k w
 own-of m items k w bal same kind extent entry =
-    let parts : (g : Entry → ℕ) → sum g (entries items) ≡ sum g (entries (k .front)) + sum g (only m (some w)) + sum g (entries (k .back)) =
+    let parts : (g : Entry → ℕ) → sum g (entries items) ≡ sum g (entries (k .front)) + sum g (only m (some w)) + sum g (entries
+    (k .back)) =
     (λ g. ap (λ (l : List Item). sum g (entries l)) same ∙ sum-mid g (k .front) (k .hit) (k .back)
     ∙ ap (λ (l : List Entry). sum g (entries (k .front)) + sum g l + sum g (entries (k .back))) entry) in
     let n₁ = bal .names m in
@@ -259,7 +270,8 @@ only-same m n w h = go (sameName m n) refl (λ (z : _≡_ {A = ℕ} (cond (sameN
     go true q f = sameName-yes m n (subst T (sym q) tt)
     go false q f = absurd (f refl)
 
-module _ (m : Name) (items : List Item) (c : Cut Item) (b : Body) (H : Here m items c b) (bal : Balanced items) (td : T (all tidy items)) where
+module _ (m : Name) (items : List Item) (c : Cut Item) (b : Body) (H : Here m items c b) (bal : Balanced items)
+    (td : T (all tidy items)) where
   -- an item that says the name and is no record
   record Says (k : Cut Item) : Type 0 where
     same : items ≡ k .front ++ k .hit ∷ k .back
@@ -272,7 +284,8 @@ module _ (m : Name) (items : List Item) (c : Cut Item) (b : Body) (H : Here m it
       go : (o : Option (Cut Item)) → cut (λ i. not (notItsOwn m i)) items ≡ o → (k : Cut Item) × Says k
       go none e =
           let z = own-out m items c b H bal td
-          (all-map (λ i. not (not (notItsOwn m i))) (notItsOwn m) (λ i t. T-not-not (notItsOwn m i) t) items (cut-none (λ i. not (notItsOwn m i)) items e)) in
+          (all-map (λ i. not (not (notItsOwn m i))) (notItsOwn m) (λ i t. T-not-not (notItsOwn m i) t) items
+          (cut-none (λ i. not (notItsOwn m i)) items e)) in
           absurd (omega arith)
       go (some k) e =
           let f = cut-some (λ i. not (notItsOwn m i)) items e in
@@ -294,7 +307,8 @@ module _ (m : Name) (items : List Item) (c : Cut Item) (b : Body) (H : Here m it
           let g : T (good (k .hit)) = all-mid good (k .front) (k .hit) (k .back) (rw (s .same) at (bal .goods)) in
           let kd : k .hit .key .kind ≡ 178 = eqb→eq _ _ (subst T (sym q) tt) in
           let n′ : Name = record { extent = k .hit .key .objectid; kind = 178; fields = words 3 (k .hit .bytes) } in
-          let e : m ≡ n′ = only-same m n′ (keyedCount (k .hit .bytes)) (λ z. s .says (ap (sum (stands m)) (data-entry (k .hit) kd g) ∙ z)) in
+          let e : m ≡ n′ = only-same m n′ (keyedCount (k .hit .bytes))
+          (λ z. s .says (ap (sum (stands m)) (data-entry (k .hit) kd g) ∙ z)) in
           absurd (subst T (sym (ap (λ (x : Name). eqb (x .kind) 178) e) ∙ no178) tt)
       go k s n false q =
           let g : T (good (k .hit)) = all-mid good (k .front) (k .hit) (k .back) (rw (s .same) at (bal .goods)) in
@@ -305,21 +319,24 @@ module _ (m : Name) (items : List Item) (c : Cut Item) (b : Body) (H : Here m it
           let e₂ : k .hit .key .kind ≡ m .kind = sym (ap (λ (x : Name). x .kind) e) in
           let e₃ : k .hit .key .offset ≡ field = ap (λ (l : List ℕ). getD l 0 0) (sym (ap (λ (x : Name). x .fields) e) ∙ fs) in (
             k,
-            own-of m items k (sharedCount (k .hit)) bal (s .same) e₂ e₁ (en ∙ ap (λ (x : Name). only x (some (sharedCount (k .hit)))) (sym e)),
+            own-of m items k (sharedCount (k .hit)) bal (s .same) e₂ e₁
+                (en ∙ ap (λ (x : Name). only x (some (sharedCount (k .hit)))) (sym e)),
             (λ i. record { objectid = e₁ i; kind = e₂ i; offset = e₃ i }),
             plain-form (k .hit) n q g ∙ ap (λ (x : ℕ). cond (eqb x 184) 4 0) e₂,
           )
 
   -- of 178: at the hash, with the fields in its data
   pub data-own : m .kind ≡ 178 → 1 ≤ apart m c
-      → (k : Cut Item) × Own m items k (keyedCount (k .hit .bytes)) × (k .hit .key ≡ keyOf (m .extent) 178 (placeOf 178 (m .fields)))
+      → (k : Cut Item) × Own m items k (keyedCount (k .hit .bytes)) ×
+      (k .hit .key ≡ keyOf (m .extent) 178 (placeOf 178 (m .fields)))
       × (words 3 (k .hit .bytes) ≡ m .fields) × (length (k .hit .bytes) ≡ 28)
   data-own is h =
       let (k, s) = says-of h in
       go k s (says-naming (k .hit) m (s .noRecord) (s .says)) (eqb (k .hit .key .kind) 178) refl
     where
       go : (k : Cut Item) → Says k → Naming (k .hit .key .kind) → (z : Bool) → eqb (k .hit .key .kind) 178 ≡ z
-          → (k : Cut Item) × Own m items k (keyedCount (k .hit .bytes)) × (k .hit .key ≡ keyOf (m .extent) 178 (placeOf 178 (m .fields)))
+          → (k : Cut Item) × Own m items k (keyedCount (k .hit .bytes)) ×
+          (k .hit .key ≡ keyOf (m .extent) 178 (placeOf 178 (m .fields)))
           × (words 3 (k .hit .bytes) ≡ m .fields) × (length (k .hit .bytes) ≡ 28)
       go k s n true q =
           let g : T (good (k .hit)) = all-mid good (k .front) (k .hit) (k .back) (rw (s .same) at (bal .goods)) in
@@ -341,7 +358,8 @@ module _ (m : Name) (items : List Item) (c : Cut Item) (b : Body) (H : Here m it
       go k s n false q =
           let g : T (good (k .hit)) = all-mid good (k .front) (k .hit) (k .back) (rw (s .same) at (bal .goods)) in
           let n′ : Name = record { extent = k .hit .key .objectid; kind = k .hit .key .kind; fields = one (k .hit .key .offset) } in
-          let e : m ≡ n′ = only-same m n′ (sharedCount (k .hit)) (λ z. s .says (ap (sum (stands m)) (plain-entry (k .hit) n q g) ∙ z)) in
+          let e : m ≡ n′ = only-same m n′ (sharedCount (k .hit))
+          (λ z. s .says (ap (sum (stands m)) (plain-entry (k .hit) n q g) ∙ z)) in
           absurd (subst T (sym (T-eq (eqb (m .kind) 178) (yes-eqb is)) ∙ ap (λ (x : Name). eqb (x .kind) 178) e ∙ q) tt)
 
 -- ---- the same, from the questions that all changes share

@@ -46,7 +46,8 @@ use Rattle.acceptance.proofs.Drops.{bind-ask, inline-found, inline-miss
 
 -- ---- a drop as its questions, for whatever 13 asks of the total and whatever goes
 
-record DropFacts (nodesize : ℕ) (sheet : List ℕ) (m : Name) (room : ℕ) (test : ℕ → Bool) (gone : List Item → Cut Item → ℕ) : Type 0 where
+record DropFacts (nodesize : ℕ) (sheet : List ℕ) (m : Name) (room : ℕ) (test : ℕ → Bool)
+    (gone : List Item → Cut Item → ℕ) : Type 0 where
   items : List Item
   at : Cut Item
   door : Door nodesize sheet (m .extent) items at
@@ -56,14 +57,16 @@ record DropFacts (nodesize : ℕ) (sheet : List ℕ) (m : Name) (room : ℕ) (te
 
 -- what a drop of the name gives on a record: the question that is left, and a list that is so much shorter
 abbrev Gives : List ℕ → (ℕ → Bool) → ℕ → Cut Item → Answer (List Item) → Type 0
-Gives sheet test gone c answer = (after : List Item) × (answer ≡ ask (test (totalOf (c .hit .bytes))) 13 (accepted after)) × Shorter sheet gone after
+Gives sheet test gone c answer = (after : List Item) × (answer ≡ ask (test (totalOf (c .hit .bytes))) 13
+    (accepted after)) × Shorter sheet gone after
 
 module _ (nodesize : ℕ) (sheet : List ℕ) (room : ℕ) (raw : T (areBytes sheet)) (change : Change) (kind : T (kindFits change))
     (next : List Item → Cut Item → Answer (List Item)) (test : ℕ → Bool) (gone : List Item → Cut Item → ℕ)
     (changes : (items : List Item) → changed nodesize change items ≡ onRecord (nameOf change .extent) items (next items))
     (counts : (items : List Item) → Scene sheet items → (c : Cut Item) (b : Body) → Here (nameOf change) items c b
     → (after : List Item) → next items c ≡ accepted after → 1 ≤ count (nameOf change) items)
-    (gives : (items : List Item) → Scene sheet items → (c : Cut Item) (b : Body) → Here (nameOf change) items c b → 1 ≤ count (nameOf change) items
+    (gives : (items : List Item) → Scene sheet items → (c : Cut Item) (b : Body) → Here
+    (nameOf change) items c b → 1 ≤ count (nameOf change) items
     → Gives sheet test (gone items c) c (next items c)) where
   abbrev m : Name
   m = nameOf change
@@ -111,7 +114,8 @@ module _ (nodesize : ℕ) (sheet : List ℕ) (room : ℕ) (raw : T (areBytes she
 
 -- ---- inline or else by its item
 
-inline-way : (r : Answer (List ℕ)) (t : Bool) (body : List ℕ) (k : List ℕ → Answer (List Item)) (a : List Item) (other : Answer (List Item))
+inline-way : (r : Answer (List ℕ)) (t : Bool) (body : List ℕ) (k : List ℕ → Answer (List Item)) (a : List Item)
+    (other : Answer (List Item))
     → r ≡ ask t 13 (accepted body) → k body ≡ accepted a → ifAbsent (bind r k) other ≡ ask t 13 (accepted a)
 unfolding ask bind ifAbsent
 inline-way r t body k a other e q = ap (λ (z : Answer (List ℕ)). ifAbsent (bind z k) other) e ∙ go t
@@ -120,23 +124,27 @@ inline-way r t body k a other e q = ap (λ (z : Answer (List ℕ)). ifAbsent (bi
     go true = ap (λ (z : Answer (List Item)). ifAbsent z other) q
     go false = refl
 
-absent-way : {A : Type 0} (r : Answer A) (k : A → Answer (List Item)) (other : Answer (List Item)) → r ≡ absent → ifAbsent (bind r k) other ≡ other
+absent-way : {A : Type 0} (r : Answer A) (k : A → Answer (List Item)) (other : Answer (List Item)) → r ≡ absent
+    → ifAbsent (bind r k) other ≡ other
 unfolding bind ifAbsent
 absent-way r k other e = ap (λ z. ifAbsent (bind z k) other) e
 
-found-way : {A : Type 0} (r : Answer A) (a : A) (k : A → Answer (List Item)) (after : List Item) (other : Answer (List Item)) → r ≡ accepted a
+found-way : {A : Type 0} (r : Answer A) (a : A) (k : A → Answer (List Item)) (after : List Item) (other : Answer (List Item))
+    → r ≡ accepted a
     → k a ≡ accepted after → ifAbsent (bind r k) other ≡ accepted after
 unfolding ifAbsent
 found-way r a k after other e q = ap (λ (z : Answer (List Item)). ifAbsent z other) (bind-yes r k e ∙ q)
 
 -- a question left in front
-ask-then : {A B : Type 0} (r : Answer A) (t : Bool) (a : A) (k : A → Answer B) (b : B) → r ≡ ask t 13 (accepted a) → k a ≡ accepted b
+ask-then : {A B : Type 0} (r : Answer A) (t : Bool) (a : A) (k : A → Answer B) (b : B) → r ≡ ask t 13 (accepted a)
+    → k a ≡ accepted b
     → bind r k ≡ ask t 13 (accepted b)
 unfolding bind
 ask-then r t a k b e q = ap (λ z. bind z k) e ∙ bind-ask t 13 (accepted a) k ∙ ap (ask t 13) q
 
 -- the item of a key, where it is known
-needed-yes : {B : Type 0} (key : Key) (items : List Item) (k : Cut Item) (next : Cut Item → Answer B) → cut (hasKey key) items ≡ some k
+needed-yes : {B : Type 0} (key : Key) (items : List Item) (k : Cut Item) (next : Cut Item → Answer B)
+    → cut (hasKey key) items ≡ some k
     → bind (needed 5 (cut (hasKey key) items)) next ≡ next k
 unfolding needed
 needed-yes key items k next e = bind-yes (needed 5 (cut (hasKey key) items)) next (ap (needed 5) e)
@@ -148,7 +156,8 @@ unfolding less
 less-length r k l h = go (ltb 1 (r .weight)) (eqb (r .weight) 1) refl refl
   where
     go : (c d : Bool) → ltb 1 (r .weight) ≡ c → eqb (r .weight) 1 ≡ d
-        → length (refsBytes (cond c (weighed r (r .weight - 1) ∷ []) [])) + cond d (1 + payloadLength (r .kind)) 0 ≡ 1 + payloadLength (r .kind)
+        → length (refsBytes (cond c (weighed r (r .weight - 1) ∷ []) [])) + cond d
+        (1 + payloadLength (r .kind)) 0 ≡ 1 + payloadLength (r .kind)
     go true true p q =
         let u : 1 < r .weight = ltb→lt 1 (r .weight) (subst T (sym p) tt) in
         let v : r .weight ≡ 1 = eqb→eq (r .weight) 1 (subst T (sym q) tt) in
@@ -162,7 +171,8 @@ less-length r k l h = go (ltb 1 (r .weight)) (eqb (r .weight) 1) refl refl
 
 -- ---- a drop on the record of a name
 
-module _ (sheet : List ℕ) (items : List Item) (S : Scene sheet items) (m : Name) (f : Formed m) (c : Cut Item) (b : Body) (H : Here m items c b) where
+module _ (sheet : List ℕ) (items : List Item) (S : Scene sheet items) (m : Name) (f : Formed m) (c : Cut Item) (b : Body)
+    (H : Here m items c b) where
   fits : length (c .hit .bytes) ≤ 65535
   fits = length-at sheet items S m c b H
 
@@ -185,13 +195,16 @@ module _ (sheet : List ℕ) (items : List Item) (S : Scene sheet items) (m : Nam
       let g : T (good (k .hit)) = all-mid good (k .front) (k .hit) (k .back) (rw same at (S .bal .goods)) in
       let key′ : k .hit .key ≡ keyOf (m .extent) (m .kind) field = key ∙ ap (λ (x : ℕ). keyOf x (m .kind) field) (H .extent) in
       let en = keyed-entry (k .hit) (m .extent) (m .kind) field key′ (f .naming) no178 g in
-      let O = own-of m items k (sharedCount (k .hit)) (S .bal) same (ap (λ (x : Key). x .kind) key′) (ap (λ (x : Key). x .objectid) key′)
-      (en ∙ ap (λ (l : List ℕ). only (record { extent = m .extent; kind = m .kind; fields = l }) (some (sharedCount (k .hit)))) (sym fs)) in
+      let O = own-of m items k (sharedCount (k .hit)) (S .bal) same (ap (λ (x : Key). x .kind) key′)
+      (ap (λ (x : Key). x .objectid) key′)
+      (en ∙ ap (λ (l : List ℕ). only (record { extent = m .extent; kind = m .kind; fields = l }) (some (sharedCount (k .hit))))
+      (sym fs)) in
       let o₁ = O .counts in
       let o₂ = O .some≤ in
       omega arith
 
-  data-counts : m .kind ≡ 178 → (at : ℕ) (k : Cut Item) → needed 5 (cut (hasKey (keyOf (c .hit .key .objectid) 178 at)) items) ≡ accepted k
+  data-counts : m .kind ≡ 178 → (at : ℕ) (k : Cut Item)
+      → needed 5 (cut (hasKey (keyOf (c .hit .key .objectid) 178 at)) items) ≡ accepted k
       → words 3 (k .hit .bytes) ≡ m .fields → 1 ≤ count m items
   data-counts is at k e ws =
       let (same, key) = key-found (keyOf (c .hit .key .objectid) 178 at) items k e in
@@ -226,7 +239,8 @@ module _ (sheet : List ℕ) (items : List Item) (S : Scene sheet items) (m : Nam
 
   -- a reference of the name is as long as its type says
   size-hit : (x : Cut Ref) → T (named (m .kind) (m .fields) (x .hit))
-      → T (known (x .hit .kind)) × (length (x .hit .fields) ≡ fieldCount (x .hit .kind)) × (payloadLength (x .hit .kind) ≡ payloadLength (m .kind))
+      → T (known (x .hit .kind)) × (length (x .hit .fields) ≡ fieldCount (x .hit .kind)) ×
+      (payloadLength (x .hit .kind) ≡ payloadLength (m .kind))
   size-hit x t =
       let k = named-yes (m .kind) (m .fields) (x .hit) t in (
         subst (λ (z : ℕ). T (known z)) (sym (k .0)) (naming-known (m .kind) (f .naming)),
@@ -237,7 +251,8 @@ module _ (sheet : List ℕ) (items : List Item) (S : Scene sheet items) (m : Nam
   -- one count off inline
   less-gives : (x : Cut Ref) → cut (named (m .kind) (m .fields)) (b .refs) ≡ some x → (gone : ℕ)
       → cond (eqb (x .hit .weight) 1) (1 + payloadLength (m .kind)) 0 ≡ gone
-      → (put : List ℕ → Answer (List Item)) → ((body : List ℕ) → put body ≡ accepted (putBack c body)) → (other : Answer (List Item))
+      → (put : List ℕ → Answer (List Item)) → ((body : List ℕ) → put body ≡ accepted (putBack c body))
+      → (other : Answer (List Item))
       → Gives sheet (leb 2) gone c (ifAbsent (bind (dropInline (c .hit .key .kind) (c .hit .bytes) (m .kind) (m .fields)) put) other)
   less-gives x e gone g put puts other =
       let t = cut-some (named (m .kind) (m .fields)) (b .refs) e in
@@ -245,14 +260,18 @@ module _ (sheet : List ℕ) (items : List Item) (S : Scene sheet items) (m : Nam
       let h = inline-one m items c b H (S .bal) (S .td) (f .naming) x (t .same) (t .hit) .2 in
       let e₁ = length-edit b (b .total - 1) (x .front) (x .hit ∷ []) (less (x .hit) 1) (x .back) (t .same) in
       let e₂ = length-ref (x .hit) k l in
-      let e₃ : length (refsBytes (less (x .hit) 1)) + cond (eqb (x .hit .weight) 1) (1 + payloadLength (m .kind)) 0 ≡ 1 + payloadLength (m .kind) =
-      subst (λ (n : ℕ). length (refsBytes (less (x .hit) 1)) + cond (eqb (x .hit .weight) 1) (1 + n) 0 ≡ 1 + n) p (less-length (x .hit) k l h) in
+      let e₃ : length (refsBytes (less (x .hit) 1)) + cond (eqb (x .hit .weight) 1)
+      (1 + payloadLength (m .kind)) 0 ≡ 1 + payloadLength (m .kind) =
+      subst (λ (n : ℕ). length (refsBytes (less (x .hit) 1)) + cond (eqb (x .hit .weight) 1) (1 + n) 0 ≡ 1 + n) p
+      (less-length (x .hit) k l h) in
       let e₄ = ap length (bodyBytes-read (c .hit .key .kind) (c .hit .bytes) b (H .bytes) (H .reads)) in
       let body : List ℕ = bodyBytes (bodyWith b (b .total - 1) (x .front ++ (less (x .hit) 1 ++ x .back))) in (
         putBack c body,
-        inline-way (dropInline (c .hit .key .kind) (c .hit .bytes) (m .kind) (m .fields)) (leb 2 (b .total)) body put (putBack c body) other
+        inline-way (dropInline (c .hit .key .kind) (c .hit .bytes) (m .kind) (m .fields)) (leb 2 (b .total)) body put
+            (putBack c body) other
             (inline-found (c .hit .key .kind) (c .hit .bytes) b (m .kind) (m .fields) x fits (H .reads) e) (puts body)
-            ∙ ap (λ (n : ℕ). ask (leb 2 n) 13 (accepted (putBack c body))) (sym (read-total (c .hit .key .kind) (c .hit .bytes) b (H .reads))),
+            ∙ ap (λ (n : ℕ). ask (leb 2 n) 13 (accepted (putBack c body)))
+            (sym (read-total (c .hit .key .kind) (c .hit .bytes) b (H .reads))),
         shorter-put body gone (omega arith),
       )
 
@@ -305,7 +324,8 @@ module _ (sheet : List ℕ) (extent : ℕ) (name : BlockRef) (items : List Item)
           let h₂ = bind-ok (needed 5 (cut (hasKey (keyOf (c .hit .key .objectid) 176 (name .tree))) items)) _ (h₁ .1) in
           item-counts sheet items S block-name block-formed c b H (name .tree) refl refl (h₂ .0) (h₂ .1)
 
-  block-by-item : cut (named 176 (one (name .tree))) (b .refs) ≡ none → inline block-name c ≡ 0 → (k : Cut Item) → Own block-name items k (sharedCount (k .hit))
+  block-by-item : cut (named 176 (one (name .tree))) (b .refs) ≡ none → inline block-name c ≡ 0 → (k : Cut Item)
+      → Own block-name items k (sharedCount (k .hit))
       → k .hit .key ≡ keyOf extent 176 (name .tree) → length (k .hit .bytes) ≡ 0
       → Gives sheet (leb 2) (freed block-name c 9 21) c (dropTreeRef name false items c)
   unfolding dropTreeRef dropInlineTreeRef deleted flagged bind
@@ -318,13 +338,16 @@ module _ (sheet : List ℕ) (extent : ℕ) (name : BlockRef) (items : List Item)
       let at : cut (hasKey key) items ≡ some k =
       key-at sheet items S k (O .same) key (q ∙ ap (λ (x : ℕ). keyOf x 176 (name .tree)) (sym (H .extent))) in
       let g : freed block-name c 9 21 ≡ 21 = cond-yes {A = ℕ} (eqb (inline block-name c) 0) 21 9 (yes-eqb z) in
-      let (after, r, short) = kept sheet items S block-name c b H k (O .same) nr [] tt tt (freed block-name c 9 21) (omega arith) (omega arith) d′
+      let (after, r, short) = kept sheet items S block-name c b H k (O .same) nr [] tt tt (freed block-name c 9 21) (omega arith)
+      (omega arith) d′
       (length-total d (totalOf d - 1) long) in (
         after,
         none-way sheet items S block-name block-formed c b H e block-put block-item
-            ∙ ap (λ (x : Answer (List Item)). bind x (λ others. bind (lowerTotal d) (λ rest. bind (flagged false rest) (λ body. replaced (c .hit .key) body others))))
+            ∙ ap (λ (x : Answer (List Item)). bind x (λ others. bind (lowerTotal d)
+            (λ rest. bind (flagged false rest) (λ body. replaced (c .hit .key) body others))))
             (needed-yes key items k (λ k. accepted (without k)) at)
-            ∙ ask-then (lowerTotal d) (leb 2 (totalOf d)) d′ _ after (lower-in d (fits sheet items S block-name block-formed c b H) long) r,
+            ∙ ask-then (lowerTotal d) (leb 2 (totalOf d)) d′ _ after
+            (lower-in d (fits sheet items S block-name block-formed c b H) long) r,
         short,
       )
 
@@ -345,7 +368,8 @@ module _ (sheet : List ℕ) (extent : ℕ) (name : BlockRef) (items : List Item)
           let ne = inline-counts sheet items S block-name block-formed c b H x e .1 in
           let w₁ = weighs x (cut-some (named 176 (one (name .tree))) (b .refs) e) in
           less-gives sheet items S block-name block-formed c b H x e (freed block-name c 9 21)
-          (cond-yes {A = ℕ} (eqb (x .hit .weight) 1) 9 0 (yes-eqb w₁) ∙ sym (cond-no {A = ℕ} (eqb (inline block-name c) 0) 21 9 (no-eqb ne)))
+          (cond-yes {A = ℕ} (eqb (x .hit .weight) 1) 9 0 (yes-eqb w₁)
+          ∙ sym (cond-no {A = ℕ} (eqb (inline block-name c) 0) 21 9 (no-eqb ne)))
           block-put (λ body. refl) block-item
       go none e =
           let (z, a) = apart-counts sheet items S block-name block-formed c b H e n in
@@ -353,16 +377,35 @@ module _ (sheet : List ℕ) (extent : ℕ) (name : BlockRef) (items : List Item)
           block-by-item e z k O q l
 
 pub drops-block : (nodesize : ℕ) (sheet : List ℕ) (extent : ℕ) (name : BlockRef) (room : ℕ) → T (areBytes sheet)
-    → Exactly (Accepts nodesize sheet (DropBlock extent name) room) (DropsBlock nodesize sheet (nameOf (DropBlock extent name)) room)
+    → Exactly (Accepts nodesize sheet (DropBlock extent name) room)
+    (DropsBlock nodesize sheet (nameOf (DropBlock extent name)) room)
 unfolding changed
 drops-block nodesize sheet extent name room raw =
     record {
       only = λ acc.
-          (let f = drop-only nodesize sheet room raw (DropBlock extent name) tt (dropTreeRef name false) (leb 2) gone (λ items. refl) counts gives acc in
-          record { items = f .items; at = f .at; door = f .door; named = f .counts; two = leb→le _ _ (f .asked); roomy = f .roomy });
+          (let f = drop-only nodesize sheet room raw (DropBlock extent name) tt (dropTreeRef name false) (leb 2) gone
+          (λ items. refl) counts gives acc in
+          record {
+            items = f .items;
+            at = f .at;
+            door = f .door;
+            named = f .counts;
+            two = leb→le _ _
+                (f .asked);
+            roomy = f .roomy;
+          });
       enough = λ f.
-          drop-enough nodesize sheet room raw (DropBlock extent name) tt (dropTreeRef name false) (leb 2) gone (λ items. refl) counts gives
-          (record { items = f .items; at = f .at; door = f .door; counts = f .named; asked = le→leb 2 (totalOf (f .at .hit .bytes)) (f .two); roomy = f .roomy });
+          drop-enough nodesize sheet room raw (DropBlock extent name) tt (dropTreeRef name false) (leb 2) gone
+          (λ items. refl) counts gives
+          (record {
+            items = f .items;
+            at = f .at;
+            door = f .door;
+            counts = f .named;
+            asked = le→leb 2 (totalOf (f .at .hit .bytes))
+                (f .two);
+            roomy = f .roomy;
+          });
     }
   where
     gone : List Item → Cut Item → ℕ
@@ -378,14 +421,16 @@ drops-block nodesize sheet extent name room raw =
 
 -- ---- a data reference
 
-dropped-ask : (k : Cut Item) (t : Bool) (n : ℕ) (next : Answer (List ℕ)) {others : List Item} → droppedAt k (ask t n next) ≡ accepted others
+dropped-ask : (k : Cut Item) (t : Bool) (n : ℕ) (next : Answer (List ℕ)) {others : List Item}
+    → droppedAt k (ask t n next) ≡ accepted others
     → T t × (droppedAt k next ≡ accepted others)
 unfolding droppedAt ask
 dropped-ask k true n next e = (tt, e)
 dropped-ask k false n next e = refused-not e
 
 -- an item that drops one has the three fields
-dropped-triple : (k : Cut Item) (d : DataRef) (others : List Item) → droppedAt k (dropKeyedDataRef (k .hit .bytes) d) ≡ accepted others
+dropped-triple : (k : Cut Item) (d : DataRef) (others : List Item)
+    → droppedAt k (dropKeyedDataRef (k .hit .bytes) d) ≡ accepted others
     → words 3 (k .hit .bytes) ≡ triple d
 unfolding dropKeyedDataRef
 dropped-triple k d others e =
@@ -424,14 +469,18 @@ module _ (sheet : List ℕ) (extent : ℕ) (name : DataRef) (items : List Item) 
       go : (o : Option (Cut Ref)) → cut (named 178 (triple name)) (b .refs) ≡ o → 1 ≤ count data-name items
       go (some x) q = inline-counts sheet items S data-name data-formed c b H x q .2
       go none q =
-          let h₁ = bind-ok (needed 5 (cut (hasKey data-key) items)) _ (sym (none-way sheet items S data-name data-formed c b H q data-put data-item) ∙ e) in
+          let h₁ = bind-ok (needed 5 (cut (hasKey data-key) items)) _
+          (sym (none-way sheet items S data-name data-formed c b H q data-put data-item) ∙ e) in
           let h₂ = bind-ok (lowerTotal (c .hit .bytes)) _ (h₁ .2) in
           let h₃ = bind-ok (droppedAt (h₁ .0) (dropKeyedDataRef (h₁ .0 .hit .bytes) name)) _ (h₂ .2) in
-          data-counts sheet items S data-name data-formed c b H refl (placeOf 178 (triple name)) (h₁ .0) (h₁ .1) (dropped-triple (h₁ .0) name (h₃ .0) (h₃ .1))
+          data-counts sheet items S data-name data-formed c b H refl (placeOf 178 (triple name)) (h₁ .0) (h₁ .1)
+          (dropped-triple (h₁ .0) name (h₃ .0) (h₃ .1))
 
   -- the item's own drop, with what stands in its place
-  data-by-item : cut (named 178 (triple name)) (b .refs) ≡ none → inline data-name c ≡ 0 → (k : Cut Item) → Own data-name items k (keyedCount (k .hit .bytes))
-      → k .hit .key ≡ keyOf extent 178 (placeOf 178 (triple name)) → words 3 (k .hit .bytes) ≡ triple name → length (k .hit .bytes) ≡ 28
+  data-by-item : cut (named 178 (triple name)) (b .refs) ≡ none → inline data-name c ≡ 0 → (k : Cut Item)
+      → Own data-name items k (keyedCount (k .hit .bytes))
+      → k .hit .key ≡ keyOf extent 178 (placeOf 178 (triple name)) → words 3 (k .hit .bytes) ≡ triple name
+      → length (k .hit .bytes) ≡ 28
       → Gives sheet (leb 2) data-gone c (dropDataRef name items c)
   unfolding dropDataRef dropInlineDataRef dropKeyedDataRef droppedAt bodyFits dataFits isRecord
   data-by-item e z k O q ws l = finish (left (eqb w 1) refl)
@@ -462,7 +511,8 @@ module _ (sheet : List ℕ) (extent : ℕ) (name : DataRef) (items : List Item) 
       asked =
           ask-yes (bodyFits (k .hit .bytes)) 3 _ (le→leb (length (k .hit .bytes)) 65535 (omega arith))
           ∙ ask-yes (eqb (length (k .hit .bytes)) 28 && same (words 3 (k .hit .bytes)) (triple name)) 15 _
-          (yes-and (eqb (length (k .hit .bytes)) 28) _ (yes-eqb l) (subst (λ (x : List ℕ). T (same x (triple name))) (sym ws) (same-refl (triple name))))
+          (yes-and (eqb (length (k .hit .bytes)) 28) _ (yes-eqb l)
+          (subst (λ (x : List ℕ). T (same x (triple name))) (sym ws) (same-refl (triple name))))
           ∙ ask-yes (leb 1 w) 16 _ (le→leb 1 w (O .some≤))
 
       Left : Bool → Type 0
@@ -471,25 +521,31 @@ module _ (sheet : List ℕ) (extent : ℕ) (name : DataRef) (items : List Item) 
 
       left : (y : Bool) → eqb w 1 ≡ y → Left y
       left true p =
-          let (after, r, short) = kept sheet items S data-name c b H k (O .same) nr [] tt tt 49 (omega arith) (omega arith) d′ (length-total d (totalOf d - 1) long) in
+          let (after, r, short) = kept sheet items S data-name c b H k (O .same) nr [] tt tt 49 (omega arith) (omega arith) d′
+          (length-total d (totalOf d - 1) long) in
           (without k, after, refl, r, short)
       left false p =
-          let (after, r, short) = kept sheet items S data-name c b H k (O .same) nr (withBytes (k .hit) lower ∷ []) (yes-and (not (isRecord (k .hit))) true nr tt)
-          (yes-and (leb (length lower) 65535) true (le→leb (length lower) 65535 (omega (arith, lower-size))) tt) 0 (omega (arith, lower-size)) (omega arith) d′
+          let (after, r, short) = kept sheet items S data-name c b H k (O .same) nr (withBytes (k .hit) lower ∷ [])
+          (yes-and (not (isRecord (k .hit))) true nr tt)
+          (yes-and (leb (length lower) 65535) true (le→leb (length lower) 65535 (omega (arith, lower-size))) tt) 0
+          (omega (arith, lower-size)) (omega arith) d′
           (length-total d (totalOf d - 1) long) in
           (putBack k lower, after, refl, r, short)
 
       finish : Left (eqb w 1) → Gives sheet (leb 2) data-gone c (dropDataRef name items c)
       finish (others, after, dr, r, short) =
           let at : cut (hasKey data-key) items ≡ some k =
-          key-at sheet items S k (O .same) data-key (q ∙ ap (λ (x : ℕ). keyOf x 178 (placeOf 178 (triple name))) (sym (H .extent))) in
+          key-at sheet items S k (O .same) data-key
+          (q ∙ ap (λ (x : ℕ). keyOf x 178 (placeOf 178 (triple name))) (sym (H .extent))) in
           let g : cond (eqb w 1) 49 0 ≡ data-gone =
           ap (λ (x : ℕ). cond (eqb x 1) 49 0) (sym (O .counts))
-          ∙ ap (λ (x : ℕ). cond (eqb (count data-name items) 1) x 0) (sym (cond-yes {A = ℕ} (eqb (inline data-name c) 0) 49 29 (yes-eqb z))) in (
+          ∙ ap (λ (x : ℕ). cond (eqb (count data-name items) 1) x 0)
+          (sym (cond-yes {A = ℕ} (eqb (inline data-name c) 0) 49 29 (yes-eqb z))) in (
             after,
             none-way sheet items S data-name data-formed c b H e data-put data-item
                 ∙ needed-yes data-key items k _ at
-                ∙ ask-then (lowerTotal d) (leb 2 (totalOf d)) d′ (data-left k) after (lower-in d (fits sheet items S data-name data-formed c b H) long)
+                ∙ ask-then (lowerTotal d) (leb 2 (totalOf d)) d′ (data-left k) after
+                (lower-in d (fits sheet items S data-name data-formed c b H) long)
                 (bind-yes (droppedAt k (dropKeyedDataRef (k .hit .bytes) name)) _ (ap (droppedAt k) asked ∙ dr) ∙ r),
             subst (λ (t : ℕ). Shorter sheet t after) g short,
           )
@@ -498,12 +554,14 @@ module _ (sheet : List ℕ) (extent : ℕ) (name : DataRef) (items : List Item) 
   unfolding dropDataRef dropInlineDataRef payloadLength rowIn
   data-gives n = go (cut (named 178 (triple name)) (b .refs)) refl
     where
-      go : (o : Option (Cut Ref)) → cut (named 178 (triple name)) (b .refs) ≡ o → Gives sheet (leb 2) data-gone c (dropDataRef name items c)
+      go : (o : Option (Cut Ref)) → cut (named 178 (triple name)) (b .refs) ≡ o
+          → Gives sheet (leb 2) data-gone c (dropDataRef name items c)
       go (some x) e =
           let (w, ne, _) = inline-counts sheet items S data-name data-formed c b H x e in
           less-gives sheet items S data-name data-formed c b H x e data-gone
           (ap (λ (y : ℕ). cond (eqb y 1) 29 0) w
-          ∙ ap (λ (y : ℕ). cond (eqb (count data-name items) 1) y 0) (sym (cond-no {A = ℕ} (eqb (inline data-name c) 0) 49 29 (no-eqb ne))))
+          ∙ ap (λ (y : ℕ). cond (eqb (count data-name items) 1) y 0)
+          (sym (cond-no {A = ℕ} (eqb (inline data-name c) 0) 49 29 (no-eqb ne))))
           data-put (λ body. refl) data-item
       go none e =
           let (z, a) = apart-counts sheet items S data-name data-formed c b H e n in
@@ -516,11 +574,28 @@ unfolding changed
 drops-data nodesize sheet extent name room raw =
     record {
       only = λ acc.
-          (let f = drop-only nodesize sheet room raw (DropData extent name) tt (dropDataRef name) (leb 2) gone (λ items. refl) counts gives acc in
-          record { items = f .items; at = f .at; door = f .door; named = f .counts; two = leb→le _ _ (f .asked); roomy = f .roomy });
+          (let f = drop-only nodesize sheet room raw (DropData extent name) tt (dropDataRef name) (leb 2) gone
+          (λ items. refl) counts gives acc in
+          record {
+            items = f .items;
+            at = f .at;
+            door = f .door;
+            named = f .counts;
+            two = leb→le _ _
+                (f .asked);
+            roomy = f .roomy;
+          });
       enough = λ f.
           drop-enough nodesize sheet room raw (DropData extent name) tt (dropDataRef name) (leb 2) gone (λ items. refl) counts gives
-          (record { items = f .items; at = f .at; door = f .door; counts = f .named; asked = le→leb 2 (totalOf (f .at .hit .bytes)) (f .two); roomy = f .roomy });
+          (record {
+            items = f .items;
+            at = f .at;
+            door = f .door;
+            counts = f .named;
+            asked = le→leb 2 (totalOf (f .at .hit .bytes))
+                (f .two);
+            roomy = f .roomy;
+          });
     }
   where
     m : Name
@@ -551,7 +626,8 @@ shared-item kind = go (eqb kind 184)
 abbrev unasked : ℕ → Bool
 unasked total = true
 
-module _ (sheet : List ℕ) (extent : ℕ) (name : SharedRef) (sk : T (sharedKind (name .kind))) (items : List Item) (S : Scene sheet items) (c : Cut Item)
+module _ (sheet : List ℕ) (extent : ℕ) (name : SharedRef) (sk : T (sharedKind (name .kind))) (items : List Item)
+    (S : Scene sheet items) (c : Cut Item)
     (b : Body) (H : Here (nameOf (DropShared extent name)) items c b) where
   abbrev shared-name : Name
   shared-name = nameOf (DropShared extent name)
@@ -581,13 +657,19 @@ module _ (sheet : List ℕ) (extent : ℕ) (name : SharedRef) (sk : T (sharedKin
 
   -- taken out inline, or absent
   abbrev out-of : Option (Cut Ref) → Answer TakenOut
-  out-of o = bind (found o) (λ x. accepted (record { bytes = bodyBytes (bodyWith b (b .total) (x .front ++ x .back)); count = x .hit .weight }))
+  out-of o = bind (found o) (λ x. accepted (record {
+    bytes = bodyBytes
+        (bodyWith b (b .total) (x .front ++ x .back));
+    count = x .hit .weight;
+  }))
 
-  taken : (o : Option (Cut Ref)) → cut is-shared (b .refs) ≡ o → takeInlineShared (c .hit .key .kind) (c .hit .bytes) name ≡ out-of o
+  taken : (o : Option (Cut Ref)) → cut is-shared (b .refs) ≡ o
+      → takeInlineShared (c .hit .key .kind) (c .hit .bytes) name ≡ out-of o
   unfolding takeInlineShared
   taken o e =
       ask-yes (sharedKind (name .kind)) 3 _ sk
-      ∙ body-in (c .hit .key .kind) (c .hit .bytes) b _ (fits sheet items S shared-name shared-formed c b H) (H .reads) ∙ ap out-of e
+      ∙ body-in (c .hit .key .kind) (c .hit .bytes) b _ (fits sheet items S shared-name shared-formed c b H) (H .reads)
+      ∙ ap out-of e
 
   shared-none : cut is-shared (b .refs) ≡ none → dropSharedRef name items c ≡ shared-by-key
   unfolding dropSharedRef found bind
@@ -623,19 +705,22 @@ module _ (sheet : List ℕ) (extent : ℕ) (name : SharedRef) (sk : T (sharedKin
       let fr : shared-gone ≡ sharedSize (name .kind) =
       cond-no {A = ℕ} (eqb (inline shared-name c) 0) (sharedItem (name .kind)) (sharedSize (name .kind)) (no-eqb ne) in (
         putBack c body,
-        found-way (takeInlineShared (c .hit .key .kind) (c .hit .bytes) name) _ shared-put (putBack c body) shared-by-key (taken (some x) e)
+        found-way (takeInlineShared (c .hit .key .kind) (c .hit .bytes) name) _ shared-put (putBack c body) shared-by-key
+            (taken (some x) e)
             (bind-yes (reduceTotal rest (x .hit .weight)) (λ z. accepted (putBack c z)) red)
             ∙ sym (ask-yes true 13 (accepted (putBack c body)) tt),
         shorter-put sheet items S shared-name shared-formed c b H body shared-gone (omega arith),
       )
 
-  shared-by-item : cut is-shared (b .refs) ≡ none → inline shared-name c ≡ 0 → (k : Cut Item) → Own shared-name items k (sharedCount (k .hit))
+  shared-by-item : cut is-shared (b .refs) ≡ none → inline shared-name c ≡ 0 → (k : Cut Item)
+      → Own shared-name items k (sharedCount (k .hit))
       → k .hit .key ≡ keyOf extent (name .kind) (name .parent) → length (k .hit .bytes) ≡ cond (eqb (name .kind) 184) 4 0
       → Gives sheet unasked shared-gone c (dropSharedRef name items c)
   shared-by-item e z k O q l =
       let d : List ℕ = c .hit .bytes in
       let w : ℕ = sharedCount (k .hit) in
-      let nr : T (not (isRecord (k .hit))) = naming-no-record (k .hit) (subst Naming (sym (ap (λ (x : Key). x .kind) q)) (shared-formed .naming)) in
+      let nr : T (not (isRecord (k .hit))) = naming-no-record (k .hit)
+      (subst Naming (sym (ap (λ (x : Key). x .kind) q)) (shared-formed .naming)) in
       let long = read-long (c .hit .key .kind) d b (H .reads) in
       let tl : totalOf d ≡ b .total = read-total (c .hit .key .kind) d b (H .reads) in
       let wt : w ≤ totalOf d = omega (arith, shared-most, O .counts) in
@@ -645,11 +730,13 @@ module _ (sheet : List ℕ) (extent : ℕ) (name : SharedRef) (sk : T (sharedKin
       let fr : shared-gone ≡ sharedItem (name .kind) =
       cond-yes {A = ℕ} (eqb (inline shared-name c) 0) (sharedItem (name .kind)) (sharedSize (name .kind)) (yes-eqb z) in
       let si = shared-item (name .kind) in
-      let (after, r, short) = kept sheet items S shared-name c b H k (O .same) nr [] tt tt shared-gone (omega arith) (omega arith) d′
+      let (after, r, short) = kept sheet items S shared-name c b H k (O .same) nr [] tt tt shared-gone (omega arith)
+      (omega arith) d′
       (length-total d (totalOf d - w) long) in (
         after,
         shared-none e ∙ needed-yes shared-key items k _ at
-            ∙ bind-yes (reduceTotal d w) (λ body. replaced (c .hit .key) body (without k)) (reduce-in d w (fits sheet items S shared-name shared-formed c b H) long wt) ∙ r
+            ∙ bind-yes (reduceTotal d w) (λ body. replaced (c .hit .key) body (without k))
+            (reduce-in d w (fits sheet items S shared-name shared-formed c b H) long wt) ∙ r
             ∙ sym (ask-yes true 13 (accepted after) tt),
         short,
       )
@@ -665,16 +752,19 @@ module _ (sheet : List ℕ) (extent : ℕ) (name : SharedRef) (sk : T (sharedKin
           shared-by-item e z k O q l
 
 pub drops-shared : (nodesize : ℕ) (sheet : List ℕ) (extent : ℕ) (name : SharedRef) (room : ℕ) → T (areBytes sheet)
-    → Exactly (Accepts nodesize sheet (DropShared extent name) room) (DropsShared nodesize sheet (nameOf (DropShared extent name)) room)
+    → Exactly (Accepts nodesize sheet (DropShared extent name) room)
+    (DropsShared nodesize sheet (nameOf (DropShared extent name)) room)
 unfolding changed
 drops-shared nodesize sheet extent name room raw =
     record {
       only = λ acc.
           (let k = posts-out nodesize sheet (DropShared extent name) room acc .kind in
-          let f = drop-only nodesize sheet room raw (DropShared extent name) k (dropSharedRef name) unasked gone (λ items. refl) (counts k) (gives k) acc in
+          let f = drop-only nodesize sheet room raw (DropShared extent name) k (dropSharedRef name) unasked gone (λ items. refl)
+          (counts k) (gives k) acc in
           record { items = f .items; at = f .at; kind = k; door = f .door; named = f .counts; roomy = f .roomy });
       enough = λ f.
-          drop-enough nodesize sheet room raw (DropShared extent name) (f .kind) (dropSharedRef name) unasked gone (λ items. refl) (counts (f .kind)) (gives (f .kind))
+          drop-enough nodesize sheet room raw (DropShared extent name) (f .kind) (dropSharedRef name) unasked gone (λ items. refl)
+          (counts (f .kind)) (gives (f .kind))
           (record { items = f .items; at = f .at; door = f .door; counts = f .named; asked = tt; roomy = f .roomy });
     }
   where
@@ -688,6 +778,7 @@ drops-shared nodesize sheet extent name room raw =
         → (after : List Item) → dropSharedRef name items c ≡ accepted after → 1 ≤ count m items
     counts k items S c b H after e = shared-stands sheet extent name k items S c b H after e
 
-    gives : T (sharedKind (name .kind)) → (items : List Item) → Scene sheet items → (c : Cut Item) (b : Body) → Here m items c b → 1 ≤ count m items
+    gives : T (sharedKind (name .kind)) → (items : List Item) → Scene sheet items → (c : Cut Item) (b : Body) → Here m items c b
+        → 1 ≤ count m items
         → Gives sheet unasked (gone items c) c (dropSharedRef name items c)
     gives k items S c b H n = shared-gives sheet extent name k items S c b H n

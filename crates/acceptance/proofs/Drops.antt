@@ -35,18 +35,21 @@ use Rattle.acceptance.proofs.Adds.{body-in}
 
 -- ---- questions that are left
 
-pub bind-ask : {A B : Type 0} (t : Bool) (n : ℕ) (r : Answer A) (next : A → Answer B) → bind (ask t n r) next ≡ ask t n (bind r next)
+pub bind-ask : {A B : Type 0} (t : Bool) (n : ℕ) (r : Answer A) (next : A → Answer B)
+    → bind (ask t n r) next ≡ ask t n (bind r next)
 unfolding ask bind
 bind-ask true n r next = refl
 bind-ask false n r next = refl
 
-pub ifAbsent-ask : {A : Type 0} (t : Bool) (n : ℕ) (a : A) (other : Answer A) → ifAbsent (ask t n (accepted a)) other ≡ ask t n (accepted a)
+pub ifAbsent-ask : {A : Type 0} (t : Bool) (n : ℕ) (a : A) (other : Answer A)
+    → ifAbsent (ask t n (accepted a)) other ≡ ask t n (accepted a)
 unfolding ask ifAbsent
 ifAbsent-ask true n a other = refl
 ifAbsent-ask false n a other = refl
 
 -- one count off inline
-pub inline-found : (type : ℕ) (d : List ℕ) (b : Body) (kind : ℕ) (fields : List ℕ) (x : Cut Ref) → length d ≤ 65535 → readBody type d ≡ accepted b
+pub inline-found : (type : ℕ) (d : List ℕ) (b : Body) (kind : ℕ) (fields : List ℕ) (x : Cut Ref) → length d ≤ 65535
+    → readBody type d ≡ accepted b
     → cut (named kind fields) (b .refs) ≡ some x
     → dropInline type d kind fields
     ≡ ask (leb 2 (b .total)) 13 (accepted (bodyBytes (bodyWith b (b .total - 1) (x .front ++ (less (x .hit) 1 ++ x .back)))))
@@ -55,7 +58,8 @@ inline-found type d b kind fields x l r e =
     body-in type d b _ l r ∙ bind-yes (found (cut (named kind fields) (b .refs))) _ (ap found e)
     ∙ bind-ask (leb 2 (b .total)) 13 (accepted (b .total - 1)) _
 
-pub inline-missing : (type : ℕ) (d : List ℕ) (b : Body) (kind : ℕ) (fields : List ℕ) → length d ≤ 65535 → readBody type d ≡ accepted b
+pub inline-missing : (type : ℕ) (d : List ℕ) (b : Body) (kind : ℕ) (fields : List ℕ) → length d ≤ 65535
+    → readBody type d ≡ accepted b
     → cut (named kind fields) (b .refs) ≡ none → dropInline type d kind fields ≡ absent
 unfolding dropInline found bind
 inline-missing type d b kind fields l r e = body-in type d b _ l r ∙ ap (λ (o : Option (Cut Ref)). bind (found o) (λ c.
@@ -66,7 +70,8 @@ inline-missing type d b kind fields l r e = body-in type d b _ l r ∙ ap (λ (o
 total-in : (d : List ℕ) (next : ℕ → Answer ℕ) → length d ≤ 65535 → 24 ≤ length d
     → onTotal d next ≡ bind (next (totalOf d)) (λ total. accepted (written 0 (leBytes 8 total) d))
 unfolding onTotal onHead bodyFits
-total-in d next l h = ask-yes (bodyFits d) 3 _ (le→leb (length d) 65535 l) ∙ ask-yes (leb 24 (length d)) 6 _ (le→leb 24 (length d) h)
+total-in d next l h = ask-yes (bodyFits d) 3 _ (le→leb (length d) 65535 l) ∙ ask-yes (leb 24 (length d)) 6 _
+    (le→leb 24 (length d) h)
 
 pub lower-in : (d : List ℕ) → length d ≤ 65535 → 24 ≤ length d
     → lowerTotal d ≡ ask (leb 2 (totalOf d)) 13 (accepted (written 0 (leBytes 8 (totalOf d - 1)) d))
@@ -89,7 +94,8 @@ under-extent : (m : Name) (l : List Entry) → sum (under m) l ≤ sum (ofExtent
 under-extent m [] = omega arith
 under-extent m (e ∷ l) = go (sameName m (e .name)) (eqb (m .extent) (e .name .extent)) refl refl (under-extent m l)
   where
-    go : (c d : Bool) → sameName m (e .name) ≡ c → eqb (m .extent) (e .name .extent) ≡ d → sum (under m) l ≤ sum (ofExtent (m .extent)) l
+    go : (c d : Bool) → sameName m (e .name) ≡ c → eqb (m .extent) (e .name .extent) ≡ d
+        → sum (under m) l ≤ sum (ofExtent (m .extent)) l
         → cond c (e .weight) 0 + sum (under m) l ≤ cond d (e .weight) 0 + sum (ofExtent (m .extent)) l
     go true true p q h = omega arith
     go true false p q h =
@@ -108,10 +114,12 @@ pub record Shorter (sheet : List ℕ) (gone : ℕ) (after : List Item) : Type 0 
   pub few : length after ≤ 4096
   pub fit : T (all (λ i. dataFits (i .bytes)) after)
 
-pub shorter-out : (sheet : List ℕ) (gone room : ℕ) (after : List Item) → Shorter sheet gone after → T (sheetHolds room after) → length sheet - gone ≤ room
+pub shorter-out : (sheet : List ℕ) (gone room : ℕ) (after : List Item) → Shorter sheet gone after → T (sheetHolds room after)
+    → length sheet - gone ≤ room
 shorter-out sheet gone room after s t = let h = holds-out room after t .0 in let e = s .size in omega arith
 
-pub shorter-in : (sheet : List ℕ) (gone room : ℕ) (after : List Item) → Shorter sheet gone after → length sheet ≤ 262144 → length sheet - gone ≤ room
+pub shorter-in : (sheet : List ℕ) (gone room : ℕ) (after : List Item) → Shorter sheet gone after → length sheet ≤ 262144
+    → length sheet - gone ≤ room
     → T (sheetHolds room after)
 shorter-in sheet gone room after s l h = let e = s .size in holds-in room after (omega arith) (omega arith) (s .few) (s .fit)
 
@@ -132,13 +140,15 @@ first-cut {A} p l x e = go (cut p l) refl
 
 module _ (sheet : List ℕ) (items : List Item) (S : Scene sheet items) (m : Name) (c : Cut Item) (b : Body) (H : Here m items c b)
     (k : Cut Item) (ek : items ≡ k .front ++ k .hit ∷ k .back) (nr : T (not (isRecord (k .hit)))) where
-  kept-first : (o : List Item) → T (all (λ i. not (isRecord i)) o) → first (hasKey (c .hit .key)) (k .front ++ (o ++ k .back)) ≡ some (c .hit)
+  kept-first : (o : List Item) → T (all (λ i. not (isRecord i)) o)
+      → first (hasKey (c .hit .key)) (k .front ++ (o ++ k .back)) ≡ some (c .hit)
   kept-first o t =
       let p : Item → Bool = hasKey (c .hit .key) in
       let r : T (recordOf (m .extent) (c .hit)) = H .found .hit in
       let front : T (all (λ i. not (p i)) (c .front)) =
       all-map (λ i. not (recordOf (m .extent) i)) (λ i. not (p i))
-      (λ i u. not-T (p i) (λ v. T-not (recordOf (m .extent) i) (key-record (m .extent) (c .hit) i r v) u)) (c .front) (H .found .miss) in
+      (λ i u. not-T (p i) (λ v. T-not (recordOf (m .extent) i) (key-record (m .extent) (c .hit) i r v) u)) (c .front)
+      (H .found .miss) in
       let no-key : (i : Item) → T (not (isRecord i)) → T (not (p i)) =
       (λ i u. not-T (p i) (λ v. T-not (isRecord i) (and-yes (isRecord i) _ (key-record (m .extent) (c .hit) i r v) .0) u)) in
       first-skip p (k .front) o (k .back) (all-map (λ i. not (isRecord i)) (λ i. not (p i)) no-key o t)
@@ -157,11 +167,14 @@ module _ (sheet : List ℕ) (items : List Item) (S : Scene sheet items) (m : Nam
       let f = cut-some (hasKey (c .hit .key)) others cut′ in
       let fits : T (all (λ i. dataFits (i .bytes)) (k .front ++ k .hit ∷ k .back)) = rw ek at (S .fit) in
       let fits′ : T (all (λ i. dataFits (i .bytes)) others) =
-      all-both (λ i. dataFits (i .bytes)) (k .front) (o ++ k .back) (all-left (λ i. dataFits (i .bytes)) (k .front) (k .hit ∷ k .back) fits)
+      all-both (λ i. dataFits (i .bytes)) (k .front) (o ++ k .back)
+      (all-left (λ i. dataFits (i .bytes)) (k .front) (k .hit ∷ k .back) fits)
       (all-both (λ i. dataFits (i .bytes)) o (k .back) fo
-      (all-right (λ i. dataFits (i .bytes)) (k .front) (k .back) (all-rest (λ i. dataFits (i .bytes)) (k .front) (k .hit) (k .back) fits))) in
+      (all-right (λ i. dataFits (i .bytes)) (k .front) (k .back)
+      (all-rest (λ i. dataFits (i .bytes)) (k .front) (k .hit) (k .back) fits))) in
       let at : T (all (λ i. dataFits (i .bytes)) (c′ .front ++ c′ .hit ∷ c′ .back)) = rw (f .same) at fits′ in
-      let l₀ : length (c′ .hit .bytes) ≤ 65535 = leb→le _ _ (all-mid (λ i. dataFits (i .bytes)) (c′ .front) (c′ .hit) (c′ .back) at) in
+      let l₀ : length (c′ .hit .bytes) ≤ 65535 =
+      leb→le _ _ (all-mid (λ i. dataFits (i .bytes)) (c′ .front) (c′ .hit) (c′ .back) at) in
       let lh : length (c′ .hit .bytes) ≡ length (c .hit .bytes) = ap (λ (i : Item). length (i .bytes)) hit′ in
       let s₁ = size-put c′ d in
       let s₂ = ap (sum itemSize) (f .same) in
@@ -181,7 +194,8 @@ module _ (sheet : List ℕ) (items : List Item) (S : Scene sheet items) (m : Nam
       )
 
 -- the key of an item of a sheet finds it
-pub key-at : (sheet : List ℕ) (items : List Item) → Scene sheet items → (k : Cut Item) → items ≡ k .front ++ k .hit ∷ k .back → (key : Key) → k .hit .key ≡ key
+pub key-at : (sheet : List ℕ) (items : List Item) → Scene sheet items → (k : Cut Item) → items ≡ k .front ++ k .hit ∷ k .back
+    → (key : Key) → k .hit .key ≡ key
     → cut (hasKey key) items ≡ some k
 key-at sheet items S k e key q =
     ap₂ (λ (x : Key) (l : List Item). cut (hasKey x) l) (sym q) e ∙ cut-at-key (k .front) (k .hit) (k .back) (rw e at (S .rise))

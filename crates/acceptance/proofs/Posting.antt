@@ -40,7 +40,8 @@ pub record Posts (nodesize : ℕ) (sheet : List ℕ) (change : Change) (room : �
   pub done : changed nodesize change items ≡ accepted after
   pub holds : T (sheetHolds room after)
 
-pub posts-out : (nodesize : ℕ) (sheet : List ℕ) (change : Change) (room : ℕ) → Accepts nodesize sheet change room → Posts nodesize sheet change room
+pub posts-out : (nodesize : ℕ) (sheet : List ℕ) (change : Change) (room : ℕ) → Accepts nodesize sheet change room
+    → Posts nodesize sheet change room
 unfolding posted heldSheet post onSheet nodesizeFits
 posts-out nodesize sheet change room (t, e) =
     let h₀ = bind-ok (held (sheetHolds room) (post nodesize sheet change)) _ e in
@@ -62,12 +63,14 @@ posts-out nodesize sheet change room (t, e) =
       holds = h₁ .1;
     }
 
-pub posts-in : (nodesize : ℕ) (sheet : List ℕ) (change : Change) (room : ℕ) → Posts nodesize sheet change room → Accepts nodesize sheet change room
+pub posts-in : (nodesize : ℕ) (sheet : List ℕ) (change : Change) (room : ℕ) → Posts nodesize sheet change room
+    → Accepts nodesize sheet change room
 unfolding posted heldSheet post onSheet nodesizeFits held
 posts-in nodesize sheet change room p =
     let three : T (nodesizeFits nodesize && kindFits change) =
     yes-and (nodesizeFits nodesize) (kindFits change)
-    (yes-and (leb 501 nodesize) (leb nodesize 65536) (le→leb 501 nodesize (p .least)) (le→leb nodesize 65536 (p .most))) (p .kind) in
+    (yes-and (leb 501 nodesize) (leb nodesize 65536) (le→leb 501 nodesize (p .least)) (le→leb nodesize 65536 (p .most)))
+    (p .kind) in
     let e₁ : post nodesize sheet change ≡ accepted (p .after) =
     bind-yes (readSheet sheet) _ (p .reads) ∙ ask-yes (nodesizeFits nodesize && kindFits change) 3 _ three
     ∙ ask-yes (balanced (p .items)) 4 _ (p .balance) ∙ p .done in
@@ -84,7 +87,8 @@ pub sheet-size : (items : List Item) → length (sheetBytes items) ≡ 1 + sum i
 sheet-size items = let e₁ = length-sheetBytes items in let e₂ = length-itemsBytes items in omega arith
 
 -- question 21 of a list with as many items as a sheet may have
-pub holds-out : (room : ℕ) (items : List Item) → T (sheetHolds room items) → (1 + sum itemSize items ≤ room) × (1 + sum itemSize items ≤ 262144)
+pub holds-out : (room : ℕ) (items : List Item) → T (sheetHolds room items)
+    → (1 + sum itemSize items ≤ room) × (1 + sum itemSize items ≤ 262144)
 unfolding sheetHolds
 holds-out room items t =
     let b₁ : Bool = leb (length (sheetBytes items)) room in
@@ -97,7 +101,8 @@ holds-out room items t =
     let e = sheet-size items in
     (omega arith, omega arith)
 
-pub holds-in : (room : ℕ) (items : List Item) → 1 + sum itemSize items ≤ room → 1 + sum itemSize items ≤ 262144 → length items ≤ 4096
+pub holds-in : (room : ℕ) (items : List Item) → 1 + sum itemSize items ≤ room → 1 + sum itemSize items ≤ 262144
+    → length items ≤ 4096
     → T (all (λ i. dataFits (i .bytes)) items) → T (sheetHolds room items)
 unfolding sheetHolds
 holds-in room items h k few fit =
@@ -159,7 +164,8 @@ pub record Scene (sheet : List ℕ) (items : List Item) : Type 0 where
   pub size : length sheet ≡ 1 + sum itemSize items
   pub light : (m : Name) (c : Cut Item) (b : Body) → Here m items c b → b .total ≤ 4294967296 * 262144
 
-pub scene : (sheet : List ℕ) (items : List Item) → T (areBytes sheet) → readSheet sheet ≡ accepted items → T (balanced items) → Scene sheet items
+pub scene : (sheet : List ℕ) (items : List Item) → T (areBytes sheet) → readSheet sheet ≡ accepted items → T (balanced items)
+    → Scene sheet items
 unfolding dataFits
 scene sheet items raw reads balance =
     let s = sheet-sane sheet items raw reads in
@@ -194,7 +200,8 @@ record-out sheet m items after next s e =
     let (b, H) = here-of m items (h .0) (s .bal) (s .td) k in
     record { c = h .0; stands = k; b = b; here = H; then = h .2 }
 
-pub record-in : (extent : ℕ) (items : List Item) (next : Cut Item → Answer (List Item)) (c : Cut Item) → cut (recordOf extent) items ≡ some c
+pub record-in : (extent : ℕ) (items : List Item) (next : Cut Item → Answer (List Item)) (c : Cut Item)
+    → cut (recordOf extent) items ≡ some c
     → onRecord extent items next ≡ next c
 unfolding onRecord needed
 record-in extent items next c e = bind-yes (needed 5 (cut (recordOf extent) items)) next (ap (needed 5) e)
