@@ -35,7 +35,7 @@ use Rattle.history.proofs.Edit.{Balanced}
 use Rattle.history.proofs.Steps.{tidy, Here, here-of, ordered-at, long-at}
 use Rattle.history.proofs.Adds.{added-out}
 use Rattle.acceptance.specs.Acceptance.{Accepts, Exactly, Door, inline, apart, grown, sharedSize, AddsBlock, AddsData, AddsShared}
-use Rattle.acceptance.proofs.Posting.{Posts, posts-out, posts-in, itemSize, holds-out, holds-in, size-put, few-put, fit-put, limit-small, Scene, scene, Found5, record-out, record-in}
+use Rattle.acceptance.proofs.Posting.{Posts, posts-out, posts-in, itemSize, holds-out, holds-in, size-put, few-put, fit-put, limit-small, Scene, scene, AtRecord, record-out, record-in}
 use Rattle.acceptance.proofs.Counts.{Formed, formed, two-places, inline-none, inline-one, own-out, own-in}
 
 -- ---- lengths of references and bodies
@@ -235,7 +235,7 @@ record AddFacts (nodesize : ℕ) (sheet : List ℕ) (m : Name) (amount room : �
   door : Door nodesize sheet (m .extent) items at
   own : apart m at ≡ 0
   nine : T (counted (m .kind) || eqb (inline m at) 0)
-  some≤ : 1 ≤ amount
+  positive : 1 ≤ amount
   ten : T (counted (m .kind) || eqb amount 1)
   eleven : inline m at + amount < 4294967296
   seventeen : T (test (length (at .hit .bytes)) (length (at .hit .bytes) + grown m at (1 + payloadLength (m .kind))))
@@ -263,47 +263,47 @@ module _ (nodesize : ℕ) (sheet : List ℕ) (room : ℕ) (raw : T (areBytes she
 
   ok-spot : (items : List Item) → Scene sheet items → (c : Cut Item) (b : Body) → Here m items c b
       → SpotOk (m .kind) (m .fields) amount (nm .naming) (nm .size) (b .refs) (spot b)
-  ok-spot items S c b H = spots nm b (ordered-at m items c b H (S .bal) (S .td)) (long-at m items c b H (S .bal) (S .td))
+  ok-spot items S c b H = spots nm b (ordered-at m items c b H (S .balance) (S .tidied)) (long-at m items c b H (S .balance) (S .tidied))
 
   from-body : (P : Posts nodesize sheet change room) → Scene sheet (P .items) → T (all (notItsOwn m) (P .items)) → 1 ≤ amount
-      → (F : Found5 m (P .items) next (P .after)) (body : List ℕ) → call (F .c .hit) ≡ accepted body
-      → T (test (length (F .c .hit .bytes)) (length body)) → putBack (F .c) body ≡ P .after
+      → (F : AtRecord m (P .items) next (P .after)) (body : List ℕ) → call (F .at .hit) ≡ accepted body
+      → T (test (length (F .at .hit .bytes)) (length body)) → putBack (F .at) body ≡ P .after
       → AddFacts nodesize sheet m amount room test
-  from-body P S own some≤ F body e t q =
-      let A = adds-out m nm amount (P .items) (F .c) (F .b) (F .here) (S .bal) (S .td) (S .light m (F .c) (F .b) (F .here))
-      (spot (F .b))
-      (ok-spot (P .items) S (F .c) (F .b) (F .here)) body
-      (sym (calls (F .c .hit) (F .b) some≤ (length-at sheet (P .items) S m (F .c) (F .b) (F .here)) (F .here .reads)) ∙ e) in
-      let r = room-out sheet (P .items) S m (F .c) (F .b) (F .here) room (grown m (F .c) (1 + payloadLength (m .kind))) body
+  from-body P S own positive F body e t q =
+      let A = adds-out m nm amount (P .items) (F .at) (F .body) (F .here) (S .balance) (S .tidied) (S .light m (F .at) (F .body) (F .here))
+      (spot (F .body))
+      (ok-spot (P .items) S (F .at) (F .body) (F .here)) body
+      (sym (calls (F .at .hit) (F .body) positive (length-at sheet (P .items) S m (F .at) (F .body) (F .here)) (F .here .reads)) ∙ e) in
+      let r = room-out sheet (P .items) S m (F .at) (F .body) (F .here) room (grown m (F .at) (1 + payloadLength (m .kind))) body
       (A .sized)
       (subst (λ (x : List Item). T (sheetHolds room x)) (sym q) (P .holds)) in
       record {
         items = P .items;
-        at = F .c;
+        at = F .at;
         door = record { reads = P .reads; least = P .least; most = P .most; balance = P .balance; stands = F .stands };
-        own = own-out m (P .items) (F .c) (F .b) (F .here) (S .bal) (S .td) own;
+        own = own-out m (P .items) (F .at) (F .body) (F .here) (S .balance) (S .tidied) own;
         nine = A .nine;
-        some≤ = some≤;
+        positive = positive;
         ten = A .ten;
         eleven = A .eleven;
-        seventeen = subst (λ (x : ℕ). T (test (length (F .c .hit .bytes)) x)) (A .sized) t;
+        seventeen = subst (λ (x : ℕ). T (test (length (F .at .hit .bytes)) x)) (A .sized) t;
         roomy = r .0;
         small = r .1;
       }
 
   from-record : (P : Posts nodesize sheet change room) → Scene sheet (P .items) → T (all (notItsOwn m) (P .items)) → 1 ≤ amount
-      → Found5 m (P .items) next (P .after) → AddFacts nodesize sheet m amount room test
-  from-record P S own some≤ F =
-      let h = bind-ok (call (F .c .hit)) _ (F .then) in
-      let h₁₇ = ask-ok (test (length (F .c .hit .bytes)) (length (h .0))) 17 _ (h .2) in
-      from-body P S own some≤ F (h .0) (h .1) (h₁₇ .0) (accepted-inj (h₁₇ .1))
+      → AtRecord m (P .items) next (P .after) → AddFacts nodesize sheet m amount room test
+  from-record P S own positive F =
+      let h = bind-ok (call (F .at .hit)) _ (F .then) in
+      let h₁₇ = ask-ok (test (length (F .at .hit .bytes)) (length (h .0))) 17 _ (h .2) in
+      from-body P S own positive F (h .0) (h .1) (h₁₇ .0) (accepted-inj (h₁₇ .1))
 
   add-only : Accepts nodesize sheet change room → AddFacts nodesize sheet m amount room test
   add-only acc =
       let P = posts-out nodesize sheet change room acc in
       let S = scene sheet (P .items) raw (P .reads) (P .balance) in
-      let (own, some≤, e) = questions-out m amount (P .items) (P .after) _ (sym (changes (P .items)) ∙ P .done) in
-      from-record P S own some≤ (record-out sheet m (P .items) (P .after) next S e)
+      let (own, positive, e) = questions-out m amount (P .items) (P .after) _ (sym (changes (P .items)) ∙ P .done) in
+      from-record P S own positive (record-out sheet m (P .items) (P .after) next S e)
 
   to-body : (f : AddFacts nodesize sheet m amount room test) → Scene sheet (f .items) → (b : Body) → Here m (f .items) (f .at) b
       → (body : List ℕ)
@@ -324,9 +324,9 @@ module _ (nodesize : ℕ) (sheet : List ℕ) (room : ℕ) (raw : T (areBytes she
         kind = kind;
         balance = f .door .balance;
         done = changes (f .items)
-            ∙ questions-in m amount (f .items) _ (own-in m (f .items) (f .at) b H (S .bal) (S .td) (f .own)) (f .some≤)
+            ∙ questions-in m amount (f .items) _ (own-in m (f .items) (f .at) b H (S .balance) (S .tidied) (f .own)) (f .positive)
             ∙ record-in (m .extent) (f .items) next (f .at) (f .door .stands)
-            ∙ bind-yes (call (f .at .hit)) _ (calls (f .at .hit) b (f .some≤) l₀ (H .reads) ∙ e)
+            ∙ bind-yes (call (f .at .hit)) _ (calls (f .at .hit) b (f .positive) l₀ (H .reads) ∙ e)
             ∙ ask-yes (test (length (f .at .hit .bytes)) (length body)) 17 _ t;
         holds = room-in sheet (f .items) S m (f .at) b H room (grown m (f .at) (1 + payloadLength (m .kind))) body long′
             (bounded (length (f .at .hit .bytes)) (length body) (f .door .most) l₀ t) (f .roomy) (f .small);
@@ -335,8 +335,8 @@ module _ (nodesize : ℕ) (sheet : List ℕ) (room : ℕ) (raw : T (areBytes she
   add-enough : AddFacts nodesize sheet m amount room test → Accepts nodesize sheet change room
   add-enough f =
       let S = scene sheet (f .items) raw (f .door .reads) (f .door .balance) in
-      let (b, H) = here-of m (f .items) (f .at) (S .bal) (S .td) (f .door .stands) in
-      let (body, e, long′) = adds-in m nm amount (f .items) (f .at) b H (S .bal) (S .td) (S .light m (f .at) b H) (spot b)
+      let (b, H) = here-of m (f .items) (f .at) (S .balance) (S .tidied) (f .door .stands) in
+      let (body, e, long′) = adds-in m nm amount (f .items) (f .at) b H (S .balance) (S .tidied) (S .light m (f .at) b H) (spot b)
       (ok-spot (f .items) S (f .at) b H)
       (f .nine) (f .ten) (f .eleven) in
       to-body f S b H body e long′
@@ -424,7 +424,7 @@ add-block nodesize sheet extent name room raw =
           door = f .door;
           own = omega arith;
           nine = yes-eqb z;
-          some≤ = omega arith;
+          positive = omega arith;
           ten = tt;
           eleven = omega arith;
           seventeen = or-right (leb (l + grown m (f .at) 9) l) _ (le→leb (l + grown m (f .at) 9) (inlineLimit nodesize) k);
@@ -477,7 +477,7 @@ add-data nodesize sheet extent name amount room raw =
           at = f .at;
           door = f .door;
           free = f .own;
-          positive = f .some≤;
+          positive = f .positive;
           holds = f .eleven;
           short = λ z.
               (let g : grown m (f .at) 29 ≡ 29 = cond-yes {A = ℕ} (eqb (inline m (f .at)) 0) 29 0 (yes-eqb z) in
@@ -496,7 +496,7 @@ add-data nodesize sheet extent name amount room raw =
           door = f .door;
           own = f .free;
           nine = tt;
-          some≤ = f .positive;
+          positive = f .positive;
           ten = tt;
           eleven = f .holds;
           seventeen = limit (eqb (inline m (f .at)) 0) refl;
@@ -594,7 +594,7 @@ add-shared nodesize sheet extent name amount room raw =
           door = f .door;
           free = f .own;
           new = of-182 (name .kind) (inline m (f .at)) 0 (f .nine);
-          positive = f .some≤;
+          positive = f .positive;
           single = of-182 (name .kind) amount 1 (f .ten);
           holds = f .eleven;
           short = subst (λ (x : ℕ). length (f .at .hit .bytes) + x ≤ inlineLimit nodesize) e s;
@@ -614,7 +614,7 @@ add-shared nodesize sheet extent name amount room raw =
           door = f .door;
           own = f .free;
           nine = only-182 (name .kind) (inline m (f .at)) 0 k (f .new);
-          some≤ = f .positive;
+          positive = f .positive;
           ten = only-182 (name .kind) amount 1 k (f .single);
           eleven = f .holds;
           seventeen = le→leb (l + grown m (f .at) (1 + payloadLength (name .kind))) (inlineLimit nodesize)

@@ -236,7 +236,7 @@ pub record Own (m : Name) (items : List Item) (k : Cut Item) (w : ℕ) : Type 0 
   pub extent : k .hit .key .objectid ≡ m .extent
   pub entry : itemEntries (k .hit) ≡ only m (some w)
   pub counts : count m items ≡ w
-  pub some≤ : 1 ≤ w
+  pub positive : 1 ≤ w
 
 pub own-of : (m : Name) (items : List Item) (k : Cut Item) (w : ℕ) → Balanced items → items ≡ k .front ++ k .hit ∷ k .back
     → k .hit .key .kind ≡ m .kind → k .hit .key .objectid ≡ m .extent → itemEntries (k .hit) ≡ only m (some w) → Own m items k w
@@ -259,7 +259,7 @@ own-of m items k w bal same kind extent entry =
       extent = extent;
       entry = entry;
       counts = omega arith;
-      some≤ = item-counts items bal k same m w entry;
+      positive = item-counts items bal k same m w entry;
     }
 
 -- one entry under a name that stands there
@@ -368,5 +368,5 @@ pub two-places : (nodesize : ℕ) (sheet : List ℕ) (n : Name) (items : List It
     → Door nodesize sheet (n .extent) items at → (count n items ≡ inline n at + apart n at) × ((inline n at ≡ 0) ⊎ (apart n at ≡ 0))
 two-places nodesize sheet n items at raw d =
     let S = scene sheet items raw (d .reads) (d .balance) in
-    let (b, H) = here-of n items at (S .bal) (S .td) (d .stands) in
-    (count-split n items at b H (S .bal) (S .td), one-place n items at b H (S .bal) (S .td))
+    let (b, H) = here-of n items at (S .balance) (S .tidied) (d .stands) in
+    (count-split n items at b H (S .balance) (S .tidied), one-place n items at b H (S .balance) (S .tidied))

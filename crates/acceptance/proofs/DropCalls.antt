@@ -39,7 +39,7 @@ use Rattle.history.proofs.Facts.{data-entry}
 use Rattle.history.proofs.Steps.{Here, here-of}
 use Rattle.history.proofs.DropCalls.{key-found, keyed-entry, not-178}
 use Rattle.acceptance.specs.Acceptance.{Accepts, Exactly, Door, inline, apart, freed, sharedSize, sharedItem, DropsBlock, DropsData, DropsShared}
-use Rattle.acceptance.proofs.Posting.{Posts, posts-out, posts-in, itemSize, size-put, few-put, fit-put, Scene, scene, Found5, record-out, record-in}
+use Rattle.acceptance.proofs.Posting.{Posts, posts-out, posts-in, itemSize, size-put, few-put, fit-put, Scene, scene, AtRecord, record-out, record-in}
 use Rattle.acceptance.proofs.Counts.{Formed, formed, count-split, inline-none, inline-one, Own, own-of, plain-own, data-own}
 use Rattle.acceptance.proofs.Adds.{length-ref, length-none, length-edit, body-in, length-at, shared-size}
 use Rattle.acceptance.proofs.Drops.{bind-ask, inline-found, inline-missing, lower-in, reduce-in, length-total, within-total, Shorter, shorter-out, shorter-in, kept, key-at}
@@ -71,19 +71,19 @@ module _ (nodesize : ℕ) (sheet : List ℕ) (room : ℕ) (raw : T (areBytes she
   abbrev m : Name
   m = nameOf change
 
-  from-record : (P : Posts nodesize sheet change room) → Scene sheet (P .items) → Found5 m (P .items) (next (P .items)) (P .after)
+  from-record : (P : Posts nodesize sheet change room) → Scene sheet (P .items) → AtRecord m (P .items) (next (P .items)) (P .after)
       → DropFacts nodesize sheet m room test gone
   from-record P S F =
-      let n = counts (P .items) S (F .c) (F .b) (F .here) (P .after) (F .then) in
-      let (after, e, short) = gives (P .items) S (F .c) (F .b) (F .here) n in
-      let h = ask-ok (test (totalOf (F .c .hit .bytes))) 13 (accepted after) (sym e ∙ F .then) in
+      let n = counts (P .items) S (F .at) (F .body) (F .here) (P .after) (F .then) in
+      let (after, e, short) = gives (P .items) S (F .at) (F .body) (F .here) n in
+      let h = ask-ok (test (totalOf (F .at .hit .bytes))) 13 (accepted after) (sym e ∙ F .then) in
       record {
         items = P .items;
-        at = F .c;
+        at = F .at;
         door = record { reads = P .reads; least = P .least; most = P .most; balance = P .balance; stands = F .stands };
         counts = n;
         asked = h .0;
-        roomy = shorter-out sheet (gone (P .items) (F .c)) room after short
+        roomy = shorter-out sheet (gone (P .items) (F .at)) room after short
             (subst (λ (x : List Item). T (sheetHolds room x)) (sym (accepted-inj (h .1))) (P .holds));
       }
 
@@ -96,7 +96,7 @@ module _ (nodesize : ℕ) (sheet : List ℕ) (room : ℕ) (raw : T (areBytes she
   drop-enough : DropFacts nodesize sheet m room test gone → Accepts nodesize sheet change room
   drop-enough f =
       let S = scene sheet (f .items) raw (f .door .reads) (f .door .balance) in
-      let (b, H) = here-of m (f .items) (f .at) (S .bal) (S .td) (f .door .stands) in
+      let (b, H) = here-of m (f .items) (f .at) (S .balance) (S .tidied) (f .door .stands) in
       let (after, e, short) = gives (f .items) S (f .at) b H (f .counts) in
       posts-in nodesize sheet change room
       (record {
@@ -181,26 +181,26 @@ module _ (sheet : List ℕ) (items : List Item) (S : Scene sheet items) (m : Nam
       → (x .hit .weight ≡ count m items) × (inline m c ≢ 0) × (1 ≤ count m items)
   inline-counts x e =
       let g = cut-some (named (m .kind) (m .fields)) (b .refs) e in
-      let i = inline-one m items c b H (S .bal) (S .td) (f .naming) x (g .same) (g .hit) in
+      let i = inline-one m items c b H (S .balance) (S .tidied) (f .naming) x (g .same) (g .hit) in
       let i₀ = i .0 in
       let i₁ = i .1 in
       let i₂ = i .2 in
-      let cs = count-split m items c b H (S .bal) (S .td) in
+      let cs = count-split m items c b H (S .balance) (S .tidied) in
       (omega arith, λ (z : inline m c ≡ 0). omega arith, omega arith)
 
   item-counts : (field : ℕ) → m .fields ≡ one field → eqb (m .kind) 178 ≡ false → (k : Cut Item)
       → needed 5 (cut (hasKey (keyOf (c .hit .key .objectid) (m .kind) field)) items) ≡ accepted k → 1 ≤ count m items
   item-counts field fs no178 k e =
       let (same, key) = key-found (keyOf (c .hit .key .objectid) (m .kind) field) items k e in
-      let g : T (good (k .hit)) = all-mid good (k .front) (k .hit) (k .back) (rw same at (S .bal .goods)) in
+      let g : T (good (k .hit)) = all-mid good (k .front) (k .hit) (k .back) (rw same at (S .balance .goods)) in
       let key′ : k .hit .key ≡ keyOf (m .extent) (m .kind) field = key ∙ ap (λ (x : ℕ). keyOf x (m .kind) field) (H .extent) in
       let en = keyed-entry (k .hit) (m .extent) (m .kind) field key′ (f .naming) no178 g in
-      let O = own-of m items k (sharedCount (k .hit)) (S .bal) same (ap (λ (x : Key). x .kind) key′)
+      let O = own-of m items k (sharedCount (k .hit)) (S .balance) same (ap (λ (x : Key). x .kind) key′)
       (ap (λ (x : Key). x .objectid) key′)
       (en ∙ ap (λ (l : List ℕ). only (record { extent = m .extent; kind = m .kind; fields = l }) (some (sharedCount (k .hit))))
       (sym fs)) in
       let o₁ = O .counts in
-      let o₂ = O .some≤ in
+      let o₂ = O .positive in
       omega arith
 
   data-counts : m .kind ≡ 178 → (at : ℕ) (k : Cut Item)
@@ -208,21 +208,21 @@ module _ (sheet : List ℕ) (items : List Item) (S : Scene sheet items) (m : Nam
       → words 3 (k .hit .bytes) ≡ m .fields → 1 ≤ count m items
   data-counts is at k e ws =
       let (same, key) = key-found (keyOf (c .hit .key .objectid) 178 at) items k e in
-      let g : T (good (k .hit)) = all-mid good (k .front) (k .hit) (k .back) (rw same at (S .bal .goods)) in
+      let g : T (good (k .hit)) = all-mid good (k .front) (k .hit) (k .back) (rw same at (S .balance .goods)) in
       let kd : k .hit .key .kind ≡ 178 = ap (λ (x : Key). x .kind) key in
       let ox : k .hit .key .objectid ≡ m .extent = ap (λ (x : Key). x .objectid) key ∙ H .extent in
       let w : ℕ = keyedCount (k .hit .bytes) in
-      let O = own-of m items k w (S .bal) same (kd ∙ sym is) ox
+      let O = own-of m items k w (S .balance) same (kd ∙ sym is) ox
       (data-entry (k .hit) kd g ∙ (λ i. only (record { extent = ox i; kind = sym is i; fields = ws i }) (some w))) in
       let o₁ = O .counts in
-      let o₂ = O .some≤ in
+      let o₂ = O .positive in
       omega arith
 
   -- where it does not stand inline, it has an item
   apart-counts : cut (named (m .kind) (m .fields)) (b .refs) ≡ none → 1 ≤ count m items → (inline m c ≡ 0) × (1 ≤ apart m c)
   apart-counts e n =
-      let z : inline m c ≡ 0 = inline-none m items c b H (S .bal) (S .td) (cut-none (named (m .kind) (m .fields)) (b .refs) e) in
-      let cs = count-split m items c b H (S .bal) (S .td) in
+      let z : inline m c ≡ 0 = inline-none m items c b H (S .balance) (S .tidied) (cut-none (named (m .kind) (m .fields)) (b .refs) e) in
+      let cs = count-split m items c b H (S .balance) (S .tidied) in
       (z, omega arith)
 
   -- the record with a shorter body
@@ -257,7 +257,7 @@ module _ (sheet : List ℕ) (items : List Item) (S : Scene sheet items) (m : Nam
   less-gives x e gone g put puts other =
       let t = cut-some (named (m .kind) (m .fields)) (b .refs) e in
       let (k, l, p) = size-hit x (t .hit) in
-      let h = inline-one m items c b H (S .bal) (S .td) (f .naming) x (t .same) (t .hit) .2 in
+      let h = inline-one m items c b H (S .balance) (S .tidied) (f .naming) x (t .same) (t .hit) .2 in
       let e₁ = length-edit b (b .total - 1) (x .front) (x .hit ∷ []) (less (x .hit) 1) (x .back) (t .same) in
       let e₂ = length-ref (x .hit) k l in
       let e₃ : length (refsBytes (less (x .hit) 1)) + cond (eqb (x .hit .weight) 1)
@@ -373,7 +373,7 @@ module _ (sheet : List ℕ) (extent : ℕ) (name : BlockRef) (items : List Item)
           block-put (λ body. refl) block-item
       go none e =
           let (z, a) = apart-counts sheet items S block-name block-formed c b H e n in
-          let (k, O, q, l) = plain-own block-name items c b H (S .bal) (S .td) (name .tree) refl refl a in
+          let (k, O, q, l) = plain-own block-name items c b H (S .balance) (S .tidied) (name .tree) refl refl a in
           block-by-item e z k O q l
 
 pub drops-block : (nodesize : ℕ) (sheet : List ℕ) (extent : ℕ) (name : BlockRef) (room : ℕ) → T (areBytes sheet)
@@ -513,7 +513,7 @@ module _ (sheet : List ℕ) (extent : ℕ) (name : DataRef) (items : List Item) 
           ∙ ask-yes (eqb (length (k .hit .bytes)) 28 && same (words 3 (k .hit .bytes)) (triple name)) 15 _
           (yes-and (eqb (length (k .hit .bytes)) 28) _ (yes-eqb l)
           (subst (λ (x : List ℕ). T (same x (triple name))) (sym ws) (same-refl (triple name))))
-          ∙ ask-yes (leb 1 w) 16 _ (le→leb 1 w (O .some≤))
+          ∙ ask-yes (leb 1 w) 16 _ (le→leb 1 w (O .positive))
 
       Left : Bool → Type 0
       Left y = (others : List Item) × (after : List Item) × (droppedAt k (cond y remove (accepted lower)) ≡ accepted others)
@@ -565,7 +565,7 @@ module _ (sheet : List ℕ) (extent : ℕ) (name : DataRef) (items : List Item) 
           data-put (λ body. refl) data-item
       go none e =
           let (z, a) = apart-counts sheet items S data-name data-formed c b H e n in
-          let (k, O, q, ws, l) = data-own data-name items c b H (S .bal) (S .td) refl a in
+          let (k, O, q, ws, l) = data-own data-name items c b H (S .balance) (S .tidied) refl a in
           data-by-item e z k O q ws l
 
 pub drops-data : (nodesize : ℕ) (sheet : List ℕ) (extent : ℕ) (name : DataRef) (room : ℕ) → T (areBytes sheet)
@@ -653,7 +653,7 @@ module _ (sheet : List ℕ) (extent : ℕ) (name : SharedRef) (sk : T (sharedKin
   shared-formed = formed (DropShared extent name) sk
 
   shared-most : count shared-name items ≤ b .total
-  shared-most = within-total shared-name items c b H (S .bal) (S .td)
+  shared-most = within-total shared-name items c b H (S .balance) (S .tidied)
 
   -- taken out inline, or absent
   abbrev out-of : Option (Cut Ref) → Answer TakenOut
@@ -748,7 +748,7 @@ module _ (sheet : List ℕ) (extent : ℕ) (name : SharedRef) (sk : T (sharedKin
       go (some x) e = shared-inline x e
       go none e =
           let (z, a) = apart-counts sheet items S shared-name shared-formed c b H e n in
-          let (k, O, q, l) = plain-own shared-name items c b H (S .bal) (S .td) (name .parent) refl (not-178 (name .kind) sk) a in
+          let (k, O, q, l) = plain-own shared-name items c b H (S .balance) (S .tidied) (name .parent) refl (not-178 (name .kind) sk) a in
           shared-by-item e z k O q l
 
 pub drops-shared : (nodesize : ℕ) (sheet : List ℕ) (extent : ℕ) (name : SharedRef) (room : ℕ) → T (areBytes sheet)

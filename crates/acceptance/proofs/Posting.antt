@@ -155,8 +155,8 @@ limit-small nodesize h = omega arith
 -- ---- a balanced sheet
 
 pub record Scene (sheet : List ℕ) (items : List Item) : Type 0 where
-  pub bal : Balanced items
-  pub td : T (all tidy items)
+  pub balance : Balanced items
+  pub tidied : T (all tidy items)
   pub fit : T (all (λ i. dataFits (i .bytes)) items)
   pub rise : T (rising items)
   pub few : length items ≤ 4096
@@ -172,8 +172,8 @@ scene sheet items raw reads balance =
     let bal = balanced-out items balance in
     let td = all-map sane tidy sane-tidy items (s .0) in
     record {
-      bal = bal;
-      td = td;
+      balance = bal;
+      tidied = td;
       fit = all-map sane (λ i. dataFits (i .bytes)) (λ i t. le→leb (length (i .bytes)) 65535 (sane-out i t .bytesFit)) items (s .0);
       rise = s .2;
       few = s .1;
@@ -184,21 +184,21 @@ scene sheet items raw reads balance =
 
 -- ---- question 5 of the record
 
-pub record Found5 (m : Name) (items : List Item) (next : Cut Item → Answer (List Item)) (after : List Item) : Type 0 where
-  pub c : Cut Item
-  pub stands : cut (recordOf (m .extent)) items ≡ some c
-  pub b : Body
-  pub here : Here m items c b
-  pub then : next c ≡ accepted after
+pub record AtRecord (m : Name) (items : List Item) (next : Cut Item → Answer (List Item)) (after : List Item) : Type 0 where
+  pub at : Cut Item
+  pub stands : cut (recordOf (m .extent)) items ≡ some at
+  pub body : Body
+  pub here : Here m items at body
+  pub then : next at ≡ accepted after
 
 pub record-out : (sheet : List ℕ) (m : Name) (items after : List Item) (next : Cut Item → Answer (List Item)) → Scene sheet items
-    → onRecord (m .extent) items next ≡ accepted after → Found5 m items next after
+    → onRecord (m .extent) items next ≡ accepted after → AtRecord m items next after
 unfolding onRecord
 record-out sheet m items after next s e =
     let h = bind-ok (needed 5 (cut (recordOf (m .extent)) items)) next e in
     let k = needed-ok 5 (cut (recordOf (m .extent)) items) (h .1) in
-    let (b, H) = here-of m items (h .0) (s .bal) (s .td) k in
-    record { c = h .0; stands = k; b = b; here = H; then = h .2 }
+    let (b, H) = here-of m items (h .0) (s .balance) (s .tidied) k in
+    record { at = h .0; stands = k; body = b; here = H; then = h .2 }
 
 pub record-in : (extent : ℕ) (items : List Item) (next : Cut Item → Answer (List Item)) (c : Cut Item)
     → cut (recordOf extent) items ≡ some c
