@@ -1,0 +1,34 @@
+//! The proved reference books as a Rust crate.
+//!
+//! [`backref`], [`leaf_edit`], [`extent_write`] and [`transaction`] have the signatures of the
+//! driver's own modules, so that a driver swaps a module and keeps its callers: it re-exports
+//! [`chunk::DiskKey`] in place of its own key and gives its error type a
+//! `From<extent_refs::error::Error>`. [`ledger`] posts a change to a balanced item list.
+//! [`lent`] has every call in its plain form, which allocates nothing.
+//!
+//! Every result comes from the archive; this crate turns lists into bytes and codes into errors.
+pub mod backref;
+pub mod by_name;
+pub mod chunk;
+pub mod error;
+pub mod extent_write;
+pub mod leaf_edit;
+pub mod ledger;
+pub mod lent;
+pub mod raw;
+pub mod sheet;
+pub mod transaction;
+pub mod tree_write;
+
+mod answer;
+
+/// What the stand-in of a call answers that the archive does not define yet.
+pub const NOT_THERE: u32 = 999;
+
+/// The declared calls that the linked archive does not define.
+pub use missing::MISSING;
+
+mod missing {
+    use super::NOT_THERE;
+    include!(concat!(env!("OUT_DIR"), "/missing.rs"));
+}
