@@ -1,4 +1,5 @@
 //! Bodies: well ordered, badly ordered, damaged, and as long as they may be.
+use crate::collide::collide;
 use crate::random::Random;
 use model::asked::le64;
 use model::body::{Body, Reference, BLOCK, DATA, OWNER, SHARED_BLOCK, SHARED_DATA};
@@ -48,6 +49,13 @@ pub fn body(r: &mut Random, item_type: u8) -> Vec<u8> {
         return long(r, item_type);
     }
     let mut references: Vec<_> = (0..r.below(7)).map(|_| reference(r)).collect();
+    if r.chance(1, 8) {
+        // Two triples of one hash.
+        if let Some(data) = references.iter().find(|x| x.kind == DATA).cloned() {
+            let [tree, objectid, offset] = collide([data.fields[0], data.fields[1], data.fields[2]], r.field());
+            references.push(Reference::data(tree, objectid, offset, r.count()));
+        }
+    }
     if r.chance(1, 2) {
         in_order(&mut references);
     }

@@ -1,6 +1,7 @@
 //! One call, all comparisons.
 use crate::archive::{self, Archive};
 use crate::generate::{ample, lent, random, short};
+use crate::questions;
 use crate::random::Random;
 use crate::show;
 use crate::verdict::{agreement, inside, of_original, Agreement, Verdict, ORIGINAL_HERE};
@@ -169,6 +170,7 @@ impl Both {
         if ORIGINAL_HERE {
             lines.push(self.model_original.line(self.call, "original/model"));
         }
+        lines.extend(questions::line(self.call, &self.model_original.codes));
         if self.archive.is_some() {
             lines.push(self.archive_model.line(self.call, "archive/model"));
             if ORIGINAL_HERE {

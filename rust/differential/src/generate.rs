@@ -1,5 +1,6 @@
 //! The inputs of each call, from the names of its parameters.
 use crate::bodies;
+use crate::collide::collide;
 use crate::random::Random;
 use crate::sheets;
 use model::asked::le64;
@@ -166,6 +167,10 @@ impl Draw<'_> {
             let fields = (0..fields).map(|_| self.r.field()).collect();
             Reference { kind, fields, count: None }
         };
+        if self.focus.kind == DATA && self.r.chance(1, 10) {
+            let f = &self.focus.fields;
+            self.focus.fields = collide([f[0], f[1], f[2]], self.r.field()).to_vec();
+        }
         if self.r.chance(1, 8) {
             let at = self.r.below(self.focus.fields.len());
             self.focus.fields[at] ^= 1;

@@ -15,8 +15,10 @@ pub mod show;
 pub mod verdict;
 
 mod bodies;
+mod collide;
 mod guarded;
 mod ledger_history;
+mod questions;
 mod sheets;
 
 pub use ledger_history::histories;

@@ -165,10 +165,27 @@ fn large(r: &mut Random) -> Vec<u8> {
     bytes(&items)
 }
 
+/// A list of records, filled up with items so that little room is left under the limit.
+fn nearly_full(r: &mut Random) -> Vec<u8> {
+    let mut items = balanced(r);
+    items.retain(|i| i.key.0 != u64::MAX);
+    let mut left = 262_144 - bytes(&items).len() - r.below(32);
+    while left > 21 {
+        let data = (left - 21).min(65_535);
+        items.push(Item::new(u64::MAX, 1, left as u64, vec![0; data]));
+        left -= data + 21;
+    }
+    in_order(&mut items);
+    bytes(&items)
+}
+
 /// Of a list, its bytes; one time in eight damaged.
 pub fn sheet(r: &mut Random) -> Vec<u8> {
     if r.chance(1, 300) {
         return large(r);
+    }
+    if r.chance(1, 300) {
+        return nearly_full(r);
     }
     let mut items = match r.below(10) {
         0..=4 => balanced(r),
