@@ -20,5 +20,7 @@ mod guarded;
 mod ledger_history;
 mod questions;
 mod sheets;
+mod swap;
 
 pub use ledger_history::histories;
+pub use swap::swapped;

@@ -5,7 +5,7 @@
 //!     differential --record      writes recorded/answers.txt from the original
 //!
 //! Each call runs in a process of its own: a read past a lent slice ends that process alone.
-use differential::{compare, generate, histories, recorded, verdict};
+use differential::{compare, generate, histories, recorded, swapped, verdict};
 use std::process::{Command, ExitCode};
 use std::time::Duration;
 
@@ -51,8 +51,8 @@ fn all(seconds: f64) -> ExitCode {
         println!("the archive is not there ('rt staticlib extent_refs'): nothing is compared with it");
     }
     let mut count = Count::default();
-    // A share for each call, and one each for the recorded answers and the histories.
-    let share = seconds / (calls.len() + 2) as f64;
+    // A share for each call, and one each for the recorded answers, the histories and the swap.
+    let share = seconds / (calls.len() + 3) as f64;
     for call in calls {
         let run = Command::new(std::env::current_exe().expect("this program"))
             .args(["--only", call])
@@ -67,6 +67,7 @@ fn all(seconds: f64) -> ExitCode {
     }
     count.lines(recorded::replay().iter().map(String::as_str));
     count.lines(histories(Duration::from_secs_f64(share)).iter().map(String::as_str));
+    count.lines([swapped(Duration::from_secs_f64(share)).as_str()]);
     if count.waiting > 0 {
         println!("{} wait for the archive", count.waiting);
     }

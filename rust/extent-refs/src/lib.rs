@@ -29,6 +29,7 @@ pub const NOT_THERE: u32 = 999;
 pub use missing::MISSING;
 
 mod missing {
+    #[allow(unused_imports)]
     use super::NOT_THERE;
     include!(concat!(env!("OUT_DIR"), "/missing.rs"));
 }
