@@ -30,9 +30,17 @@ fn main() {
         .filter_map(|rest| rest.split('(').next())
         .filter(|name| !defined.contains(*name))
         .collect();
+    // With an archive at hand, only what the source does not export yet may be missing.
+    let waits =
+        |name: &str| raw.lines().any(|line| line.starts_with(&format!("// waits: {name} ")));
+    let linked = !defined.is_empty();
+    let lost: Vec<&str> = missing.iter().copied().filter(|name| linked && !waits(name)).collect();
     let mut text = format!("pub const MISSING: &[&str] = &{missing:?};\n");
+    text += &format!("pub const LOST: &[&str] = &{lost:?};\npub const LINKED: bool = {linked};\n");
     for name in &missing {
-        text += &format!("#[no_mangle]\nextern \"C\" fn {name}() -> u64 {{\n    NOT_THERE as u64\n}}\n");
+        text += &format!(
+            "#[no_mangle]\nextern \"C\" fn {name}() -> u64 {{\n    NOT_THERE as u64\n}}\n"
+        );
     }
     fs::write(PathBuf::from(env::var("OUT_DIR").unwrap()).join("missing.rs"), text).unwrap();
 }

@@ -65,7 +65,8 @@ fn main() {
     }
     fs::write(out.join("modules.rs"), modules).unwrap();
 
-    let btree = "use crate::chunk::DISK_KEY_SIZE;\n".to_string() + &cut(&folder, "btree", &OF_BTREE);
+    let btree =
+        "use crate::chunk::DISK_KEY_SIZE;\n".to_string() + &cut(&folder, "btree", &OF_BTREE);
     fs::write(out.join("btree.rs"), btree).unwrap();
 
     let text = fs::read_to_string(folder.join("transaction.rs")).unwrap();
@@ -91,7 +92,8 @@ fn cut(folder: &Path, file: &str, heads: &[&str]) -> String {
     let mut items = String::new();
     for head in heads {
         let begins = |line: &str| {
-            let line = line.strip_prefix("pub(crate) ").or(line.strip_prefix("pub ")).unwrap_or(line);
+            let line =
+                line.strip_prefix("pub(crate) ").or(line.strip_prefix("pub ")).unwrap_or(line);
             line.strip_prefix(head)
                 .is_some_and(|rest| !rest.starts_with(|c: char| c.is_alphanumeric() || c == '_'))
         };

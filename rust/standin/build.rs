@@ -9,15 +9,18 @@ fn main() {
         let (mut head, mut args, mut back) = (String::new(), String::new(), String::new());
         for (at, word) in line.split_whitespace().enumerate() {
             let (name, kind) = word.split_once(':').expect("name:kind");
-            let slice = |mutable, element| format!("{name}: *{mutable} {element}, {name}_len: usize, ");
+            let slice =
+                |mutable, element| format!("{name}: *{mutable} {element}, {name}_len: usize, ");
             match kind {
                 "bytes" | "words" => {
-                    let (element, case) = if kind == "bytes" { ("u8", "Bytes") } else { ("u64", "Words") };
+                    let (element, case) =
+                        if kind == "bytes" { ("u8", "Bytes") } else { ("u64", "Words") };
                     head += &slice("const", element);
                     args += &format!("Arg::{case}(from_raw_parts({name}, {name}_len).to_vec()), ");
                 }
                 "out" | "cuts" => {
-                    let (element, case) = if kind == "out" { ("u8", "Out") } else { ("u16", "Cuts") };
+                    let (element, case) =
+                        if kind == "out" { ("u8", "Out") } else { ("u16", "Cuts") };
                     head += &slice("mut", element);
                     args += &format!("Arg::{case}(from_raw_parts({name}, {name}_len).to_vec()), ");
                     back += &format!("if let Arg::{case}(now) = &said.args[{at}] {{ from_raw_parts_mut({name}, {name}_len).copy_from_slice(now); }}\n");
@@ -28,7 +31,8 @@ fn main() {
                 "lent" => {
                     head += &format!("{name}: *mut u64, ");
                     args += &format!("Arg::Lent(*{name}), ");
-                    back += &format!("if let Arg::Lent(now) = said.args[{at}] {{ *{name} = now; }}\n");
+                    back +=
+                        &format!("if let Arg::Lent(now) = said.args[{at}] {{ *{name} = now; }}\n");
                 }
                 _ => {
                     head += &format!("{name}: {kind}, ");

@@ -24,24 +24,40 @@ fn shared_body(count: u64) -> Vec<u8> {
 
 /// Block references of trees 5 on.
 fn block_body(count: u64) -> Vec<u8> {
-    let first = TreeBlockAllocation { bytenr: 0, level: 0, generation: 7, owner: 5 }.body().to_vec();
-    (1..count).fold(first, |body, n| backref::add_inline_tree_ref(169, &body, 5 + n).expect("one more"))
+    let first =
+        TreeBlockAllocation { bytenr: 0, level: 0, generation: 7, owner: 5 }.body().to_vec();
+    (1..count)
+        .fold(first, |body, n| backref::add_inline_tree_ref(169, &body, 5 + n).expect("one more"))
 }
 
 pub fn rows(b: &mut Bench) {
-    b.row("extent_write_data_ref_hash", "", || extent_write::data_ref_hash(black_box(5), 257, 0), &mut |_, _| {
-        lent::extent_write_data_ref_hash(black_box(5), 257, 0)
-    });
-    b.row("extent_write_data_extent_body", "", || door::data_extent_body(black_box(7), 5, 257, 0), &mut |out, len| {
-        lent::extent_write_data_extent_body(black_box(7), 5, 257, 0, out, len).into()
-    });
-    b.row("backref_keyed_data_ref_body", "", || backref::keyed_data_ref_body(black_box(5), 257, 0, 3), &mut |out, len| {
-        lent::backref_keyed_data_ref_body(black_box(5), 257, 0, 3, out, len).into()
-    });
+    b.row(
+        "extent_write_data_ref_hash",
+        "",
+        || extent_write::data_ref_hash(black_box(5), 257, 0),
+        &mut |_, _| lent::extent_write_data_ref_hash(black_box(5), 257, 0),
+    );
+    b.row(
+        "extent_write_data_extent_body",
+        "",
+        || door::data_extent_body(black_box(7), 5, 257, 0),
+        &mut |out, len| {
+            lent::extent_write_data_extent_body(black_box(7), 5, 257, 0, out, len).into()
+        },
+    );
+    b.row(
+        "backref_keyed_data_ref_body",
+        "",
+        || backref::keyed_data_ref_body(black_box(5), 257, 0, 3),
+        &mut |out, len| lent::backref_keyed_data_ref_body(black_box(5), 257, 0, 3, out, len).into(),
+    );
     let item = backref::keyed_data_ref_body(5, 257, 0, 3);
-    b.row("backref_drop_keyed_data_ref", "", || backref::drop_keyed_data_ref(&item, 5, 257, 0), &mut |out, len| {
-        lent::backref_drop_keyed_data_ref(&item, 5, 257, 0, out, len).into()
-    });
+    b.row(
+        "backref_drop_keyed_data_ref",
+        "",
+        || backref::drop_keyed_data_ref(&item, 5, 257, 0),
+        &mut |out, len| lent::backref_drop_keyed_data_ref(&item, 5, 257, 0, out, len).into(),
+    );
     for count in [1, 6, 60, 1_000] {
         with_references(b, count);
     }
@@ -68,35 +84,68 @@ fn with_references(b: &mut Bench, count: u64) {
     b.row("backref_with_flags", size, || backref::with_flags(&data, 256), &mut |out, len| {
         lent::backref_with_flags(&data, 256, out, len).into()
     });
-    b.row("backref_holds_inline_data_ref", size, || backref::holds_inline_data_ref(168, &data, 5, inode, 0), &mut |_, holds| {
-        lent::backref_holds_inline_data_ref(168, &data, 5, inode, 0, holds).into()
-    });
-    b.row("backref_add_inline_data_ref", size, || backref::add_inline_data_ref(168, &data, 5, inode, 0), &mut |out, len| {
-        lent::backref_add_inline_data_ref(168, &data, 5, inode, 0, out, len).into()
-    });
+    b.row(
+        "backref_holds_inline_data_ref",
+        size,
+        || backref::holds_inline_data_ref(168, &data, 5, inode, 0),
+        &mut |_, holds| lent::backref_holds_inline_data_ref(168, &data, 5, inode, 0, holds).into(),
+    );
+    b.row(
+        "backref_add_inline_data_ref",
+        size,
+        || backref::add_inline_data_ref(168, &data, 5, inode, 0),
+        &mut |out, len| lent::backref_add_inline_data_ref(168, &data, 5, inode, 0, out, len).into(),
+    );
     let keyed = Keyed::Data { tree: 5, objectid: inode, offset: 0 };
-    b.row("backref_add_inline_keyed_data", size, || backref::add_inline_keyed(168, &data, keyed, 3), &mut |out, len| {
-        lent::backref_add_inline_keyed_data(168, &data, 5, inode, 0, 3, out, len).into()
-    });
+    b.row(
+        "backref_add_inline_keyed_data",
+        size,
+        || backref::add_inline_keyed(168, &data, keyed, 3),
+        &mut |out, len| {
+            lent::backref_add_inline_keyed_data(168, &data, 5, inode, 0, 3, out, len).into()
+        },
+    );
     let two = backref::raise_total(168, &data, 1).expect("a total");
-    b.row("backref_drop_inline_data_ref", size, || backref::drop_inline_data_ref(168, &two, 5, inode, 0), &mut |out, len| {
-        lent::backref_drop_inline_data_ref(168, &two, 5, inode, 0, out, len).into()
-    });
-    b.row("backref_add_inline_shared", size, || backref::add_inline_shared(168, &shared, 184, 4096, 1), &mut |out, len| {
-        lent::backref_add_inline_shared(168, &shared, 184, 4096, 1, out, len).into()
-    });
-    b.row("backref_take_inline_shared", size, || backref::take_inline_shared(168, &shared, 184, 4096), &mut |out, len| {
-        lent::backref_take_inline_shared(168, &shared, 184, 4096, out, len, &mut 0).into()
-    });
-    b.row("backref_add_inline_tree_ref", size, || backref::add_inline_tree_ref(169, &block, 3), &mut |out, len| {
-        lent::backref_add_inline_tree_ref(169, &block, 3, out, len).into()
-    });
+    b.row(
+        "backref_drop_inline_data_ref",
+        size,
+        || backref::drop_inline_data_ref(168, &two, 5, inode, 0),
+        &mut |out, len| lent::backref_drop_inline_data_ref(168, &two, 5, inode, 0, out, len).into(),
+    );
+    b.row(
+        "backref_add_inline_shared",
+        size,
+        || backref::add_inline_shared(168, &shared, 184, 4096, 1),
+        &mut |out, len| {
+            lent::backref_add_inline_shared(168, &shared, 184, 4096, 1, out, len).into()
+        },
+    );
+    b.row(
+        "backref_take_inline_shared",
+        size,
+        || backref::take_inline_shared(168, &shared, 184, 4096),
+        &mut |out, len| {
+            lent::backref_take_inline_shared(168, &shared, 184, 4096, out, len, &mut 0).into()
+        },
+    );
+    b.row(
+        "backref_add_inline_tree_ref",
+        size,
+        || backref::add_inline_tree_ref(169, &block, 3),
+        &mut |out, len| lent::backref_add_inline_tree_ref(169, &block, 3, out, len).into(),
+    );
     let two = backref::raise_total(169, &block, 1).expect("a total");
-    b.row("backref_drop_inline_tree_ref", size, || backref::drop_inline_tree_ref(169, &two, 5), &mut |out, len| {
-        lent::backref_drop_inline_tree_ref(169, &two, 5, out, len).into()
-    });
+    b.row(
+        "backref_drop_inline_tree_ref",
+        size,
+        || backref::drop_inline_tree_ref(169, &two, 5),
+        &mut |out, len| lent::backref_drop_inline_tree_ref(169, &two, 5, out, len).into(),
+    );
     let offsets = vec![0; 1];
-    b.row("transaction_held_only_by", size, || door::held_only_by(&data, 5, 257, &offsets), &mut |_, holds| {
-        lent::transaction_held_only_by(&data, 5, 257, &offsets, holds).into()
-    });
+    b.row(
+        "transaction_held_only_by",
+        size,
+        || door::held_only_by(&data, 5, 257, &offsets),
+        &mut |_, holds| lent::transaction_held_only_by(&data, 5, 257, &offsets, holds).into(),
+    );
 }

@@ -54,13 +54,25 @@ fn with_items(b: &mut Bench, count: u64) {
     let mut cuts = vec![0; 4096];
 
     if leaf_edit::insert(node, &items, item.clone()).is_ok() {
-        b.row("leaf_edit_insert", size, || leaf_edit::insert(node, &items, item.clone()), &mut |out, len| {
-            lent::leaf_edit_insert(node, &sheet, new.objectid, 168, 4096, &data, out, len).into()
-        });
+        b.row(
+            "leaf_edit_insert",
+            size,
+            || leaf_edit::insert(node, &items, item.clone()),
+            &mut |out, len| {
+                lent::leaf_edit_insert(node, &sheet, new.objectid, 168, 4096, &data, out, len)
+                    .into()
+            },
+        );
     }
-    b.row("leaf_edit_insert_unbounded", size, || leaf_edit::insert_unbounded(&items, item.clone()), &mut |out, len| {
-        lent::leaf_edit_insert_unbounded(&sheet, new.objectid, 168, 4096, &data, out, len).into()
-    });
+    b.row(
+        "leaf_edit_insert_unbounded",
+        size,
+        || leaf_edit::insert_unbounded(&items, item.clone()),
+        &mut |out, len| {
+            lent::leaf_edit_insert_unbounded(&sheet, new.objectid, 168, 4096, &data, out, len)
+                .into()
+        },
+    );
     let key = items[0].key;
     b.row("leaf_edit_delete", size, || leaf_edit::delete(&items, &key), &mut |out, len| {
         lent::leaf_edit_delete(&sheet, key.objectid, key.key_type, key.offset, out, len).into()
@@ -73,26 +85,57 @@ fn with_items(b: &mut Bench, count: u64) {
     });
     // The original tries every cut by measuring both halves: the square of the items.
     if count <= 800 {
-        b.row("leaf_edit_split_to_fit", size, || leaf_edit::split_to_fit(4096, &items), &mut |_, count| {
-            lent::leaf_edit_split_to_fit(4096, &sheet, &mut cuts, count).into()
-        });
+        b.row(
+            "leaf_edit_split_to_fit",
+            size,
+            || leaf_edit::split_to_fit(4096, &items),
+            &mut |_, count| lent::leaf_edit_split_to_fit(4096, &sheet, &mut cuts, count).into(),
+        );
     }
-    b.row("transaction_record_of", size, || door::record_of(&items, last).map(|i| i.data.len()), &mut |_, number| {
-        lent::transaction_record_of(&sheet, last, number).into()
-    });
+    b.row(
+        "transaction_record_of",
+        size,
+        || door::record_of(&items, last).map(|i| i.data.len()),
+        &mut |_, number| lent::transaction_record_of(&sheet, last, number).into(),
+    );
     let block = Keyed::Block { tree: 7 };
-    b.row("transaction_apply_keyed_add_block", size, || door::apply_keyed_add(16_384, items.clone(), last, block, 1, false), &mut |out, len| {
-        lent::transaction_apply_keyed_add_block(16_384, &sheet, last, 7, 1, false, out, len).into()
-    });
+    b.row(
+        "transaction_apply_keyed_add_block",
+        size,
+        || door::apply_keyed_add(16_384, items.clone(), last, block, 1, false),
+        &mut |out, len| {
+            lent::transaction_apply_keyed_add_block(16_384, &sheet, last, 7, 1, false, out, len)
+                .into()
+        },
+    );
     let name = Keyed::Data { tree: 6, objectid: 257, offset: 0 };
-    b.row("transaction_apply_keyed_add_data", size, || door::apply_keyed_add(16_384, items.clone(), middle, name, 1, false), &mut |out, len| {
-        lent::transaction_apply_keyed_add_data(16_384, &sheet, middle, 6, 257, 0, 1, false, out, len).into()
-    });
-    b.row("transaction_apply_shared_add", size, || door::apply_shared_add(16_384, items.clone(), middle, 184, 8192, 2, false), &mut |out, len| {
-        lent::transaction_apply_shared_add(16_384, &sheet, middle, 184, 8192, 2, false, out, len).into()
-    });
+    b.row(
+        "transaction_apply_keyed_add_data",
+        size,
+        || door::apply_keyed_add(16_384, items.clone(), middle, name, 1, false),
+        &mut |out, len| {
+            lent::transaction_apply_keyed_add_data(
+                16_384, &sheet, middle, 6, 257, 0, 1, false, out, len,
+            )
+            .into()
+        },
+    );
+    b.row(
+        "transaction_apply_shared_add",
+        size,
+        || door::apply_shared_add(16_384, items.clone(), middle, 184, 8192, 2, false),
+        &mut |out, len| {
+            lent::transaction_apply_shared_add(
+                16_384, &sheet, middle, 184, 8192, 2, false, out, len,
+            )
+            .into()
+        },
+    );
     // The books have no counterpart in the original: beside it stands its call for the same edit.
-    b.row("ledger_post", &format!("{size}, give data"), || door::apply_keyed_add(16_384, items.clone(), middle, name, 1, false), &mut |out, len| {
-        lent::ledger_post(16_384, &sheet, 2, middle, 6, 257, 0, 1, out, len).into()
-    });
+    b.row(
+        "ledger_post",
+        &format!("{size}, give data"),
+        || door::apply_keyed_add(16_384, items.clone(), middle, name, 1, false),
+        &mut |out, len| lent::ledger_post(16_384, &sheet, 2, middle, 6, 257, 0, 1, out, len).into(),
+    );
 }

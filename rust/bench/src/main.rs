@@ -22,10 +22,15 @@ fn main() {
         lists::rows(&mut bench);
     }
     if !original::HERE {
-        println!("the original's folder is missing (EXTENT_REFS_ORIGINAL): nothing to measure against");
+        println!(
+            "the original's folder is missing (EXTENT_REFS_ORIGINAL): nothing to measure against"
+        );
     }
     if !extent_refs::MISSING.is_empty() {
-        println!("{} calls are not in the archive: they show the original alone\n", extent_refs::MISSING.len());
+        println!(
+            "{} calls are not in the archive: they show the original alone\n",
+            extent_refs::MISSING.len()
+        );
     }
     bench.print();
 }

@@ -37,7 +37,13 @@ impl Bench {
     }
 
     /// `archive` is not run where the archive has no such call.
-    pub fn row<T>(&mut self, call: &str, size: &str, mut original: impl FnMut() -> T, archive: Lent) {
+    pub fn row<T>(
+        &mut self,
+        call: &str,
+        size: &str,
+        mut original: impl FnMut() -> T,
+        archive: Lent,
+    ) {
         if self.only.as_ref().is_some_and(|word| !call.contains(word.as_str())) {
             return;
         }

@@ -52,7 +52,8 @@ pub fn body(r: &mut Random, item_type: u8) -> Vec<u8> {
     if r.chance(1, 8) {
         // Two triples of one hash.
         if let Some(data) = references.iter().find(|x| x.kind == DATA).cloned() {
-            let [tree, objectid, offset] = collide([data.fields[0], data.fields[1], data.fields[2]], r.field());
+            let [tree, objectid, offset] =
+                collide([data.fields[0], data.fields[1], data.fields[2]], r.field());
             references.push(Reference::data(tree, objectid, offset, r.count()));
         }
     }

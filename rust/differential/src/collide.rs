@@ -5,7 +5,8 @@ use model::hash::{data_ref_hash, register};
 fn back(mut register: u32, count: usize) -> u32 {
     for _ in 0..8 * count {
         // The polynomial's top bit is set, so the register's top bit says whether it was xored in.
-        register = if register >> 31 == 1 { ((register ^ 0x82f6_3b78) << 1) | 1 } else { register << 1 };
+        register =
+            if register >> 31 == 1 { ((register ^ 0x82f6_3b78) << 1) | 1 } else { register << 1 };
     }
     register
 }
@@ -17,7 +18,10 @@ pub fn collide([tree, objectid, offset]: [u64; 3], other: u64) -> [u64; 3] {
     // Four bytes run like zero bytes over the register xored with them; the upper four stay 0.
     let low = back(wanted, 8) ^ before;
     let found = [tree, other, u64::from(low)];
-    debug_assert_eq!(data_ref_hash(found[0], found[1], found[2]), data_ref_hash(tree, objectid, offset));
+    debug_assert_eq!(
+        data_ref_hash(found[0], found[1], found[2]),
+        data_ref_hash(tree, objectid, offset)
+    );
     found
 }
 

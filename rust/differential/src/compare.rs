@@ -140,7 +140,8 @@ impl Both {
         if !lends {
             return;
         }
-        let length = crate::verdict::written(call, said).numbers.first().copied().unwrap_or(0) as usize;
+        let length =
+            crate::verdict::written(call, said).numbers.first().copied().unwrap_or(0) as usize;
         let few = match said.code {
             0 => vec![length, length.saturating_sub(1), 0],
             _ => vec![self.turn % 3],
@@ -156,7 +157,11 @@ impl Both {
         let given = self.archive.as_ref()?.run(call, args, at_end);
         let same = given.as_ref() == Ok(said);
         let agreed = if same { Agreement::Same } else { Agreement::Different };
-        *self.archive_model.codes.entry(if call.ends_with("hash") { 0 } else { said.code }).or_default() += 1;
+        *self
+            .archive_model
+            .codes
+            .entry(if call.ends_with("hash") { 0 } else { said.code })
+            .or_default() += 1;
         self.archive_model.note(agreed, args, || {
             let (asked, model) = (show::args(call, args), show::outcome(said));
             let archive = given.as_ref().map_or_else(|stray| stray.clone(), show::outcome);

@@ -55,7 +55,13 @@ pub fn short(call: &'static str, r: &mut Random) -> Vec<Vec<Arg>> {
     }
 }
 
-fn draw(call: &'static str, r: &mut Random, item_type: u8, body: Vec<u8>, sheet: Option<Vec<u8>>) -> Vec<Arg> {
+fn draw(
+    call: &'static str,
+    r: &mut Random,
+    item_type: u8,
+    body: Vec<u8>,
+    sheet: Option<Vec<u8>>,
+) -> Vec<Arg> {
     let on_sheet = parameters(call).iter().any(|p| p.0 == "sheet");
     let sheet = match sheet {
         Some(sheet) => sheet,
@@ -147,7 +153,9 @@ impl Draw<'_> {
         let mut stands = bodies::references(self.item_type, &self.body);
         for item in &self.items {
             let own = match item.key {
-                (extent, kind @ (BLOCK | SHARED_BLOCK | SHARED_DATA), place) if extent == self.extent => {
+                (extent, kind @ (BLOCK | SHARED_BLOCK | SHARED_DATA), place)
+                    if extent == self.extent =>
+                {
                     Some(Reference { kind, fields: vec![place], count: Some(1) })
                 }
                 (extent, DATA, _) if extent == self.extent && item.data.len() >= 24 => {

@@ -3,7 +3,14 @@
 use std::ffi::c_void;
 
 extern "C" {
-    fn mmap(at: *mut c_void, length: usize, prot: i32, flags: i32, fd: i32, offset: i64) -> *mut c_void;
+    fn mmap(
+        at: *mut c_void,
+        length: usize,
+        prot: i32,
+        flags: i32,
+        fd: i32,
+        offset: i64,
+    ) -> *mut c_void;
     fn mprotect(at: *mut c_void, length: usize, prot: i32) -> i32;
 }
 
@@ -24,7 +31,8 @@ impl Guarded {
         const READ_WRITE: i32 = 3;
         const PRIVATE_ANONYMOUS: i32 = 0x22;
         unsafe {
-            let base = mmap(std::ptr::null_mut(), CAPACITY + 2 * PAGE, NONE, PRIVATE_ANONYMOUS, -1, 0);
+            let base =
+                mmap(std::ptr::null_mut(), CAPACITY + 2 * PAGE, NONE, PRIVATE_ANONYMOUS, -1, 0);
             assert!(base as isize != -1, "no memory");
             let start = base.cast::<u8>().add(PAGE);
             assert_eq!(mprotect(start.cast(), CAPACITY, READ_WRITE), 0);

@@ -77,7 +77,8 @@ fn history(r: &mut Random, post: Poster) -> Result<usize, String> {
             _ => row.2 += row.0 + row.1 - row.2,
         }
         sheet = crate::verdict::written("ledger_post", &said).bytes;
-        let items = read(&sheet).map_err(|_| format!("change {change} gave a sheet that does not read"))?;
+        let items =
+            read(&sheet).map_err(|_| format!("change {change} gave a sheet that does not read"))?;
         if !balanced(&items) {
             return Err(format!("change {change} gave a sheet that is not balanced"));
         }

@@ -16,11 +16,13 @@ pub mod verdict;
 
 mod bodies;
 mod collide;
+mod differences;
 mod guarded;
 mod ledger_history;
 mod questions;
 mod sheets;
 mod swap;
 
+pub use differences::differences;
 pub use ledger_history::histories;
 pub use swap::swapped;

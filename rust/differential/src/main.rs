@@ -5,7 +5,7 @@
 //!     differential --record      writes recorded/answers.txt from the original
 //!
 //! Each call runs in a process of its own: a read past a lent slice ends that process alone.
-use differential::{compare, generate, histories, recorded, swapped, verdict};
+use differential::{compare, differences, generate, histories, recorded, swapped, verdict};
 use std::process::{Command, ExitCode};
 use std::time::Duration;
 
@@ -14,7 +14,8 @@ fn main() -> ExitCode {
     let words: Vec<&str> = words.iter().map(String::as_str).collect();
     // The original's panics are counted, not printed.
     std::panic::set_hook(Box::new(|_| {}));
-    let seconds = std::env::var("DIFFERENTIAL_SECONDS").ok().and_then(|s| s.parse().ok()).unwrap_or(100.0);
+    let seconds =
+        std::env::var("DIFFERENTIAL_SECONDS").ok().and_then(|s| s.parse().ok()).unwrap_or(100.0);
     match words[..] {
         [] => all(seconds),
         ["--only", call] => one(call, seconds),
@@ -45,12 +46,18 @@ fn all(seconds: f64) -> ExitCode {
     if !verdict::ORIGINAL_HERE {
         println!("the original's folder is missing (EXTENT_REFS_ORIGINAL): its recorded answers are replayed");
     }
-    let missing = extent_refs::MISSING.len();
     let calls: Vec<&str> = generate::calls().collect();
-    if missing == calls.len() {
-        println!("the archive is not there ('rt staticlib extent_refs'): nothing is compared with it");
+    if !extent_refs::LINKED {
+        println!(
+            "the archive is not there ('rt staticlib extent_refs'): nothing is compared with it"
+        );
     }
     let mut count = Count::default();
+    for call in extent_refs::LOST {
+        count.lines([
+            format!("FAIL {call}: the source exports it and the archive has it not").as_str()
+        ]);
+    }
     // A share for each call, and one each for the recorded answers, the histories and the swap.
     let share = seconds / (calls.len() + 3) as f64;
     for call in calls {
@@ -65,6 +72,7 @@ fn all(seconds: f64) -> ExitCode {
             count.lines([format!("FAIL {call}: the process ended with {}", run.status).as_str()]);
         }
     }
+    count.lines(differences().iter().map(String::as_str));
     count.lines(recorded::replay().iter().map(String::as_str));
     count.lines(histories(Duration::from_secs_f64(share)).iter().map(String::as_str));
     count.lines([swapped(Duration::from_secs_f64(share)).as_str()]);

@@ -57,7 +57,8 @@ fn items(sheet: &[u8]) -> Vec<OwnedItem> {
     while at < sheet.len() {
         let be64 = |at: usize| u64::from_be_bytes(sheet[at..at + 8].try_into().unwrap());
         let length = u32::from_be_bytes(sheet[at..at + 4].try_into().unwrap()) as usize;
-        let key = DiskKey { objectid: be64(at + 4), key_type: sheet[at + 12], offset: be64(at + 13) };
+        let key =
+            DiskKey { objectid: be64(at + 4), key_type: sheet[at + 12], offset: be64(at + 13) };
         list.push(OwnedItem { key, data: sheet[at + 21..at + 4 + length].to_vec() });
         at += 4 + length;
     }
@@ -111,12 +112,14 @@ pub fn verdict(call: &str, args: &[Arg]) -> Verdict {
             numbers(&[extent_write::data_ref_hash(g.u64(), g.u64(), g.u64())])
         }
         "extent_write_tree_block_key" => {
-            let block = TreeBlockAllocation { bytenr: g.u64(), level: g.u8(), generation: 0, owner: 0 };
+            let block =
+                TreeBlockAllocation { bytenr: g.u64(), level: g.u8(), generation: 0, owner: 0 };
             let key = block.key();
             numbers(&[key.objectid, u64::from(key.key_type), key.offset])
         }
         "extent_write_tree_block_body" => {
-            let block = TreeBlockAllocation { bytenr: 0, level: 0, generation: g.u64(), owner: g.u64() };
+            let block =
+                TreeBlockAllocation { bytenr: 0, level: 0, generation: g.u64(), owner: g.u64() };
             bytes(block.body().to_vec())
         }
         "extent_write_data_extent_body" => {
@@ -280,7 +283,9 @@ pub fn verdict(call: &str, args: &[Arg]) -> Verdict {
             // The original indexes its list; the place in the sheet is the bytes before it.
             let list = g.items();
             match usize::try_from(g.u64()).ok().filter(|&n| n < list.len()) {
-                Some(n) => numbers(&[sheet(&list[..n]).len() as u64 + 21, list[n].data.len() as u64]),
+                Some(n) => {
+                    numbers(&[sheet(&list[..n]).len() as u64 + 21, list[n].data.len() as u64])
+                }
                 None => Refused,
             }
         }
@@ -356,15 +361,16 @@ fn post(
             }
         },
         _ => {
-            let (body, count, rest) = match backref::take_inline_shared(kind, &record.data, a as u8, b)? {
-                Some((body, count)) => (body, count, items.clone()),
-                None => {
-                    let item = at(key(a as u8, b)).ok_or_else(no)?;
-                    let count = item.data.try_into().map_or(1, u32::from_le_bytes);
-                    let rest = leaf_edit::delete(&items, &key(a as u8, b))?;
-                    (record.data.clone(), count, rest)
-                }
-            };
+            let (body, count, rest) =
+                match backref::take_inline_shared(kind, &record.data, a as u8, b)? {
+                    Some((body, count)) => (body, count, items.clone()),
+                    None => {
+                        let item = at(key(a as u8, b)).ok_or_else(no)?;
+                        let count = item.data.try_into().map_or(1, u32::from_le_bytes);
+                        let rest = leaf_edit::delete(&items, &key(a as u8, b))?;
+                        (record.data.clone(), count, rest)
+                    }
+                };
             Ok(with(&rest, backref::reduce_total(kind, &body, u64::from(count))?))
         }
     }

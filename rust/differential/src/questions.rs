@@ -52,5 +52,6 @@ pub fn line(call: &str, seen: &BTreeMap<u64, usize>) -> Option<String> {
         return Some(format!("FAIL {call}: the model gives {strange:?}, which this call cannot"));
     }
     codes.retain(|c| !seen.contains_key(c));
-    (!codes.is_empty()).then(|| format!("note {call}: codes {codes:?} were not reached in this time"))
+    (!codes.is_empty())
+        .then(|| format!("note {call}: codes {codes:?} were not reached in this time"))
 }

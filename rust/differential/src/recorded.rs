@@ -109,7 +109,9 @@ pub fn replay() -> Vec<String> {
         let words: Vec<&str> = line.split(' ').collect();
         let (all, list) = cases(call);
         if words[1] != format!("{all:016x}") {
-            lines.push(format!("FAIL {call} recorded: the inputs are others, make it with --record"));
+            lines.push(format!(
+                "FAIL {call} recorded: the inputs are others, make it with --record"
+            ));
             continue;
         }
         let mut held = |what: &str, answer: &dyn Fn(&[Arg]) -> Option<Outcome>| {
@@ -124,7 +126,9 @@ pub fn replay() -> Vec<String> {
                 }
             }
             let mark = if different == 0 { "ok  " } else { "FAIL" };
-            lines.push(format!("{mark} {call} recorded/{what}: {same} the same, {different} differ"));
+            lines.push(format!(
+                "{mark} {call} recorded/{what}: {same} the same, {different} differ"
+            ));
         };
         held("model", &|args| Some(outcome(call, args)));
         if archive::has(call) {

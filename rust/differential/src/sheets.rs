@@ -1,7 +1,9 @@
 //! Item lists: balanced, nearly balanced, loose, out of order, damaged, and at the limits.
 use crate::bodies;
 use crate::random::Random;
-use model::body::{keyed_data_ref_body, Body, Reference, BLOCK, DATA, OWNER, SHARED_BLOCK, SHARED_DATA};
+use model::body::{
+    keyed_data_ref_body, Body, Reference, BLOCK, DATA, OWNER, SHARED_BLOCK, SHARED_DATA,
+};
 use model::hash::data_ref_hash;
 use model::sheet::{bytes, Item};
 
@@ -90,7 +92,8 @@ pub fn in_order(items: &mut Vec<Item>) {
 fn loose(r: &mut Random) -> Vec<Item> {
     let mut items: Vec<Item> = (0..r.below(9))
         .map(|_| {
-            let kind = r.pick(&[168, 168, 169, 169, BLOCK, DATA, SHARED_BLOCK, SHARED_DATA, OWNER, 1]);
+            let kind =
+                r.pick(&[168, 168, 169, 169, BLOCK, DATA, SHARED_BLOCK, SHARED_DATA, OWNER, 1]);
             let data = match kind {
                 168 | 169 => bodies::body(r, kind),
                 _ => (0..r.pick(&[0, 0, 4, 28, 24, 1, 27])).map(|_| r.below(3) as u8).collect(),
@@ -226,7 +229,14 @@ pub fn short() -> Vec<Vec<u8>> {
     list.extend((0..=255).map(|b| vec![b]));
     list.extend((0..=255).map(|b| vec![1, b]));
     for length in (0..=40u32).chain([65_551, 65_552, 65_553, 1 << 24, u32::MAX]) {
-        let there = [0, 1, length.saturating_sub(1), length, length.saturating_add(1), length.saturating_add(22)];
+        let there = [
+            0,
+            1,
+            length.saturating_sub(1),
+            length,
+            length.saturating_add(1),
+            length.saturating_add(22),
+        ];
         for bytes in there.into_iter().filter(|&n| n < 70_000) {
             let mut sheet = [&[1][..], &length.to_be_bytes(), &vec![0; bytes as usize]].concat();
             list.push(sheet.clone());

@@ -29,14 +29,31 @@ macro_rules! driver {
                 let block = TreeBlockAllocation { bytenr: a, level: t, generation: b, owner: c };
                 vec![
                     format!("{:?}", backref::flags(body)),
-                    format!("{:?}", backref::inline_refs(t, body).ok().map(|refs| {
-                        refs.iter().map(|r| (r.kind, r.payload.clone(), r.offset())).collect::<Vec<_>>()
-                    })),
+                    format!(
+                        "{:?}",
+                        backref::inline_refs(t, body).ok().map(|refs| {
+                            refs.iter()
+                                .map(|r| (r.kind, r.payload.clone(), r.offset()))
+                                .collect::<Vec<_>>()
+                        })
+                    ),
                     format!("{:?}", backref::take_inline_shared(t, body, kind, a).ok()),
                     format!("{:?}", backref::add_inline_keyed(t, body, keyed, 1).ok()),
-                    format!("{:?}", backref::add_inline_keyed(t, body, Keyed::Block { tree: a }, 1).ok()),
+                    format!(
+                        "{:?}",
+                        backref::add_inline_keyed(t, body, Keyed::Block { tree: a }, 1).ok()
+                    ),
                     format!("{:?}", backref::drop_inline_data_ref(t, body, a, b, c).ok()),
-                    format!("{:?}", backref::drop_keyed_data_ref(&backref::keyed_data_ref_body(a, b, c, 2), a, b, c).ok()),
+                    format!(
+                        "{:?}",
+                        backref::drop_keyed_data_ref(
+                            &backref::keyed_data_ref_body(a, b, c, 2),
+                            a,
+                            b,
+                            c
+                        )
+                        .ok()
+                    ),
                     format!("{:?}", backref::lower_total(t, body).ok()),
                     format!("{:?}", backref::reduce_total(t, body, 2).ok()),
                     format!("{:?}", backref::raise_total(t, body, 2).ok()),
@@ -45,7 +62,10 @@ macro_rules! driver {
                     format!("{:?}", backref::add_inline_tree_ref(t, body, a).ok()),
                     format!("{:?}", backref::add_inline_shared(t, body, kind, a, 1).ok()),
                     format!("{:?}", backref::drop_inline_tree_ref(t, body, a).ok()),
-                    format!("{:?}", backref::with_flags(body, backref::BLOCK_FLAG_FULL_BACKREF).ok()),
+                    format!(
+                        "{:?}",
+                        backref::with_flags(body, backref::BLOCK_FLAG_FULL_BACKREF).ok()
+                    ),
                     format!("{:?} {:?} {}", block.key(), block.body(), data_ref_hash(a, b, c)),
                 ]
             }
@@ -59,7 +79,10 @@ macro_rules! driver {
                 vec![
                     format!("{:?}", leaf_edit::insert(g.nodesize, &list, item.clone()).ok()),
                     format!("{:?}", leaf_edit::insert_unbounded(&list, item.clone()).ok()),
-                    format!("{:?}", leaf_edit::insert_or_split(g.nodesize, &list, item.clone()).ok()),
+                    format!(
+                        "{:?}",
+                        leaf_edit::insert_or_split(g.nodesize, &list, item.clone()).ok()
+                    ),
                     format!("{:?}", leaf_edit::delete(&list, &key).ok()),
                     format!("{:?}", leaf_edit::delete(&list, &there).ok()),
                     format!("{:?}", leaf_edit::fit(g.nodesize, &list)),
@@ -129,7 +152,9 @@ pub fn swapped(time: Duration) -> String {
             };
             for (line, (o, a)) in original.iter().zip(&archive).enumerate() {
                 if o != a {
-                    return format!("FAIL swap: line {line}\n       original {o}\n       crate    {a}");
+                    return format!(
+                        "FAIL swap: line {line}\n       original {o}\n       crate    {a}"
+                    );
                 }
             }
             compared += original.len();

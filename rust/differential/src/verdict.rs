@@ -66,7 +66,9 @@ pub fn agreement(call: &str, verdict: &Verdict, outcome: &Outcome) -> Agreement 
     let same = match (verdict, outcome.code) {
         (Verdict::NotAsked, _) => return Agreement::Outside,
         (Verdict::Panicked, 11 | 12) if OVERFLOWING.contains(&call) => return Agreement::Overflow,
-        (Verdict::Accepted(w), _) if call == "extent_write_data_ref_hash" => *w == written(call, outcome),
+        (Verdict::Accepted(w), _) if call == "extent_write_data_ref_hash" => {
+            *w == written(call, outcome)
+        }
         (Verdict::Accepted(w), 0) => *w == written(call, outcome),
         (Verdict::Absent, code) => code == 100,
         (Verdict::Remove, code) => code == 101,

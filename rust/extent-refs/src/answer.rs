@@ -11,7 +11,10 @@ pub fn accepted(code: u32) -> Result<bool> {
 }
 
 /// A call that lends one output of `room` bytes; `None` for absent and remove.
-pub fn edited(room: usize, call: impl FnOnce(&mut [u8], &mut u64) -> u32) -> Result<Option<Vec<u8>>> {
+pub fn edited(
+    room: usize,
+    call: impl FnOnce(&mut [u8], &mut u64) -> u32,
+) -> Result<Option<Vec<u8>>> {
     let mut out = vec![0; room];
     let mut len = 0;
     let there = accepted(call(&mut out, &mut len))?;

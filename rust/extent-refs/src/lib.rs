@@ -8,13 +8,16 @@
 //!
 //! Every result comes from the archive; this crate turns lists into bytes and codes into errors.
 pub mod backref;
+#[rustfmt::skip]
 pub mod by_name;
 pub mod chunk;
 pub mod error;
 pub mod extent_write;
 pub mod leaf_edit;
 pub mod ledger;
+#[rustfmt::skip]
 pub mod lent;
+#[rustfmt::skip]
 pub mod raw;
 pub mod sheet;
 pub mod transaction;
@@ -25,9 +28,10 @@ mod answer;
 /// What the stand-in of a call answers that the archive does not define yet.
 pub const NOT_THERE: u32 = 999;
 
-/// The declared calls that the linked archive does not define.
-pub use missing::MISSING;
+pub use missing::{LINKED, LOST, MISSING};
 
+/// `MISSING`: the declared calls that the linked archive does not define. `LOST`: those of them
+/// that the source exports, so that the archive is an old one. `LINKED`: whether there is one.
 mod missing {
     #[allow(unused_imports)]
     use super::NOT_THERE;

@@ -140,7 +140,14 @@ pub fn apply_shared_drop(items: Vec<OwnedItem>, drop: &SharedDrop) -> Result<Vec
     let as_item = drop.item_leaf.is_some();
     let out = written(room(&sheet, 0), |out, len| {
         lent::transaction_apply_shared_drop(
-            &sheet, drop.bytenr, drop.kind, drop.parent, drop.count, as_item, out, len,
+            &sheet,
+            drop.bytenr,
+            drop.kind,
+            drop.parent,
+            drop.count,
+            as_item,
+            out,
+            len,
         )
     })?;
     Ok(to_items(&out))
@@ -154,7 +161,13 @@ pub fn drop_kept_tree_ref(
     let sheet = from_items(&items);
     let out = written(room(&sheet, 0), |out, len| {
         lent::transaction_drop_kept_tree_ref(
-            &sheet, rewrite.old, rewrite.level, rewrite.owner, own, out, len,
+            &sheet,
+            rewrite.old,
+            rewrite.level,
+            rewrite.owner,
+            own,
+            out,
+            len,
         )
     })?;
     Ok(to_items(&out))

@@ -151,7 +151,13 @@ pub fn apply_shared_drop(
     with_data(items, at, new)
 }
 
-pub fn drop_kept_tree_ref(sheet: &[u8], bytenr: u64, level: u8, tree: u64, own: bool) -> Asked<Vec<u8>> {
+pub fn drop_kept_tree_ref(
+    sheet: &[u8],
+    bytenr: u64,
+    level: u8,
+    tree: u64,
+    own: bool,
+) -> Asked<Vec<u8>> {
     let mut items = read(sheet)?;
     let key = (bytenr, 169, u64::from(level));
     let at = want(5, items.iter().position(|i| i.key == key))?;

@@ -293,7 +293,12 @@ pub fn inline_refs(item_type: u8, body: &[u8]) -> Asked<Vec<u16>> {
     Ok(positions)
 }
 
-pub fn take_inline_shared(item_type: u8, body: &[u8], kind: u8, parent: u64) -> Asked<(Vec<u8>, u64)> {
+pub fn take_inline_shared(
+    item_type: u8,
+    body: &[u8],
+    kind: u8,
+    parent: u64,
+) -> Asked<(Vec<u8>, u64)> {
     shared_kind(kind)?;
     let mut read = opened(item_type, body)?;
     let taken = read.take(kind, &[parent]).ok_or(Stop::Absent)?;
@@ -306,7 +311,12 @@ pub fn add_inline_keyed_block(item_type: u8, body: &[u8], tree: u64) -> Asked<Ve
     held(read.bytes())
 }
 
-pub fn add_inline_keyed_data(item_type: u8, body: &[u8], triple: [u64; 3], count: u32) -> Asked<Vec<u8>> {
+pub fn add_inline_keyed_data(
+    item_type: u8,
+    body: &[u8],
+    triple: [u64; 3],
+    count: u32,
+) -> Asked<Vec<u8>> {
     let mut read = opened(item_type, body)?;
     match read.find(DATA, &triple) {
         Some(at) => read.gain(at, count)?,
@@ -374,7 +384,13 @@ pub fn keyed_data_ref_body(triple: [u64; 3], count: u32) -> Vec<u8> {
     Reference::data(tree, objectid, offset, count).payload()
 }
 
-pub fn add_inline_shared(item_type: u8, body: &[u8], kind: u8, parent: u64, count: u32) -> Asked<Vec<u8>> {
+pub fn add_inline_shared(
+    item_type: u8,
+    body: &[u8],
+    kind: u8,
+    parent: u64,
+    count: u32,
+) -> Asked<Vec<u8>> {
     shared_kind(kind)?;
     let mut read = opened(item_type, body)?;
     read.add_shared(kind, parent, count)?;

@@ -193,14 +193,9 @@ pub fn answer(call: &str, args: &[Arg]) -> Asked<Written> {
             g.u32(),
             g.bool(),
         )?),
-        "transaction_apply_shared_drop" => bytes(apply::apply_shared_drop(
-            g.bytes(),
-            g.u64(),
-            g.u8(),
-            g.u64(),
-            g.u32(),
-            g.bool(),
-        )?),
+        "transaction_apply_shared_drop" => {
+            bytes(apply::apply_shared_drop(g.bytes(), g.u64(), g.u8(), g.u64(), g.u32(), g.bool())?)
+        }
         "transaction_drop_kept_tree_ref" => {
             bytes(apply::drop_kept_tree_ref(g.bytes(), g.u64(), g.u8(), g.u64(), g.bool())?)
         }

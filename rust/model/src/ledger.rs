@@ -39,7 +39,9 @@ impl Change {
     pub fn name(&self) -> Name {
         match *self {
             Change::GiveBlock { tree } | Change::TakeBlock { tree } => (BLOCK, vec![tree]),
-            Change::GiveData { triple, .. } | Change::TakeData { triple } => (DATA, triple.to_vec()),
+            Change::GiveData { triple, .. } | Change::TakeData { triple } => {
+                (DATA, triple.to_vec())
+            }
             Change::GiveShared { kind, parent, .. } | Change::TakeShared { kind, parent } => {
                 (kind, vec![parent])
             }

@@ -48,7 +48,8 @@ fn marked() {
     let keyed = |count| drop_keyed_data_ref(&keyed_data_ref_body([1, 2, 3], count), [1, 2, 3]);
     assert_eq!((keyed(0), keyed(1)), (Err(Refused(16)), Err(Remove)));
     // j
-    let list = |n: u64| bytes(&(0..n).map(|i| Item::new(i, 1, 0, vec![0; 175])).collect::<Vec<_>>());
+    let list =
+        |n: u64| bytes(&(0..n).map(|i| Item::new(i, 1, 0, vec![0; 175])).collect::<Vec<_>>());
     let cuts = [3, 4, 5].map(|n| split_to_fit(501, &list(n)).unwrap());
     assert_eq!(cuts, [vec![1], vec![2], vec![2, 4]]);
     // k

@@ -24,7 +24,9 @@ fn faulty(call: &str, args: &[Arg]) -> Outcome {
         "other number" if said.code == 12 => said.code = 11,
         "no room" if said.code == 0 && length > 0 => return blank(args, 21),
         "hands back" if said.code == 0 => {
-            let given = args.iter().find_map(|a| if let Arg::Bytes(b) = a { Some(b.clone()) } else { None });
+            let given =
+                args.iter()
+                    .find_map(|a| if let Arg::Bytes(b) = a { Some(b.clone()) } else { None });
             for arg in &mut said.args {
                 if let (Arg::Out(out), Some(given)) = (arg, &given) {
                     let n = out.len().min(given.len());

@@ -76,7 +76,8 @@ type Fault<T> = Result<T, String>;
 impl Run {
     fn leaf(&mut self, path: &Path) -> Fault<()> {
         let image = std::fs::read(path).map_err(|e| e.to_string())?;
-        let text = std::fs::read_to_string(path.with_extension("txt")).map_err(|e| e.to_string())?;
+        let text =
+            std::fs::read_to_string(path.with_extension("txt")).map_err(|e| e.to_string())?;
         let items = model::leaf::items(&image)?;
         read(&bytes(&items)).map_err(|stop| format!("the sheet is refused: {stop:?}"))?;
         self.texts(&items, &text)?;
@@ -99,8 +100,12 @@ impl Run {
         for (number, (item, part)) in items.iter().zip(parts).enumerate() {
             let printed = self.printed(item).map_err(|f| format!("item {number}: {f}"))?;
             let mut told = part.lines().skip(1).map(str::trim).filter(|l| {
-                !l.starts_with("block group") && !l.starts_with("tree block") && !l.starts_with("total bytes")
-                    && !l.starts_with("bytes used") && !l.contains("uuid") && !l.is_empty()
+                !l.starts_with("block group")
+                    && !l.starts_with("tree block")
+                    && !l.starts_with("total bytes")
+                    && !l.starts_with("bytes used")
+                    && !l.contains("uuid")
+                    && !l.is_empty()
             });
             let (objectid, kind, offset) = item.key;
             let head = format!("{number} key ({objectid} {} {offset})", kind_name(kind));
@@ -127,7 +132,12 @@ impl Run {
         let data = &item.data;
         match item.key.1 {
             168 | 169 => {
-                let args = [Arg::Number(item.key.1.into()), Arg::Bytes(data.clone()), Arg::Cuts(vec![]), Arg::Lent(0)];
+                let args = [
+                    Arg::Number(item.key.1.into()),
+                    Arg::Bytes(data.clone()),
+                    Arg::Cuts(vec![]),
+                    Arg::Lent(0),
+                ];
                 self.ask("backref_inline_refs", &args)?;
                 let body = Body::read(item.key.1, data).map_err(|s| format!("{s:?}"))?;
                 self.records += 1;
@@ -146,7 +156,10 @@ impl Run {
                     let words = match r.kind {
                         OWNER => format!("textent owner root {}", f[0]),
                         BLOCK => format!("tree block backref root {}", f[0]),
-                        DATA => format!("extent data backref root {} objectid {} offset {} count {count}", f[0], f[1], f[2]),
+                        DATA => format!(
+                            "extent data backref root {} objectid {} offset {} count {count}",
+                            f[0], f[1], f[2]
+                        ),
                         SHARED_BLOCK => format!("shared block backref parent {}", f[0]),
                         _ => format!("shared data backref parent {} count {count}", f[0]),
                     };
@@ -158,7 +171,12 @@ impl Run {
                 self.own += 1;
                 let f = |i: usize| le64(&data[8 * i..]);
                 let count = model::asked::le32(&data[24..]);
-                Ok(vec![format!("extent data backref root {} objectid {} offset {} count {count}", f(0), f(1), f(2))])
+                Ok(vec![format!(
+                    "extent data backref root {} objectid {} offset {} count {count}",
+                    f(0),
+                    f(1),
+                    f(2)
+                )])
             }
             SHARED_DATA => {
                 self.own += 1;
@@ -182,7 +200,8 @@ impl Run {
             return Ok(());
         };
         let body = Body::read(record.key.1, &record.data).map_err(|s| format!("{s:?}"))?;
-        let mut names: Vec<[u64; 4]> = vec![[4, 999, 0, 0], [5, 999, 1, 2], [6, 182, 999, 0], [6, 184, 999, 0]];
+        let mut names: Vec<[u64; 4]> =
+            vec![[4, 999, 0, 0], [5, 999, 1, 2], [6, 182, 999, 0], [6, 184, 999, 0]];
         for r in &body.references {
             names.extend(named(r.kind, &r.fields));
         }
@@ -205,7 +224,8 @@ impl Run {
             // Drop, then add: the whole of a block, one count of a data reference.
             if dropped.code == 0 && added.code == 0 && change != 6 {
                 let name = differential::generate::name_of(change, a, b, c);
-                let (before, after) = (count(own, extent, &name), count(&items_of(&added)?, extent, &name));
+                let (before, after) =
+                    (count(own, extent, &name), count(&items_of(&added)?, extent, &name));
                 if before != after {
                     return Err(format!("{name:?} counts {after} and not {before}"));
                 }
@@ -214,7 +234,13 @@ impl Run {
         Ok(())
     }
 
-    fn post(&mut self, nodesize: u64, items: &[Item], extent: u64, [change, a, b, c]: [u64; 4]) -> Fault<Outcome> {
+    fn post(
+        &mut self,
+        nodesize: u64,
+        items: &[Item],
+        extent: u64,
+        [change, a, b, c]: [u64; 4],
+    ) -> Fault<Outcome> {
         self.posted += 1;
         let mut args = vec![Arg::Number(nodesize), Arg::Bytes(bytes(items))];
         args.extend([change, extent, a, b, c, 1].map(Arg::Number));
@@ -282,7 +308,10 @@ fn numbered(line: &str) -> String {
         ("DATA_RELOC_TREE", 9u64.wrapping_neg()),
     ];
     let words = line.split(' ').map(|word| {
-        TREES.iter().find(|(name, _)| *name == word).map_or(word.to_string(), |(_, n)| n.to_string())
+        TREES
+            .iter()
+            .find(|(name, _)| *name == word)
+            .map_or(word.to_string(), |(_, n)| n.to_string())
     });
     words.collect::<Vec<_>>().join(" ")
 }
