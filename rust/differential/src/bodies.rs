@@ -81,7 +81,7 @@ pub fn body(r: &mut Random, item_type: u8) -> Vec<u8> {
 }
 
 /// Close to the largest length of question 3, on both sides of it.
-fn long(r: &mut Random, item_type: u8) -> Vec<u8> {
+pub fn long(r: &mut Random, item_type: u8) -> Vec<u8> {
     let kind = r.pick(&KINDS);
     let flags = flags(r);
     let target = 65_535 - 40 + r.below(48);

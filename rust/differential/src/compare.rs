@@ -1,6 +1,6 @@
 //! One call, all comparisons.
 use crate::archive::{self, Archive};
-use crate::generate::{ample, lent, random, short};
+use crate::generate::{ample, edges, lent, random};
 use crate::questions;
 use crate::random::Random;
 use crate::show;
@@ -13,6 +13,9 @@ pub const SEED: u64 = 20_261_115;
 
 /// No more than this many random cases of one call, however much time there is.
 const MOST: usize = 400_000;
+
+/// And no fewer than this many, however little.
+const LEAST: usize = 600;
 
 /// What one comparison of one call came to.
 #[derive(Default)]
@@ -45,7 +48,8 @@ impl Tally {
     pub fn line(&self, call: &str, what: &str) -> String {
         let mut line = format!(
             "{} {call} {what}: {} the same",
-            if self.different == 0 { "ok  " } else { "FAIL" },
+            // A comparison that compared nothing has shown nothing.
+            if self.different == 0 && self.cases > 0 { "ok  " } else { "FAIL" },
             self.cases
         );
         if self.outside > 0 {
@@ -65,13 +69,24 @@ impl Tally {
     }
 }
 
-/// The comparisons of one call, within a time.
+/// The comparisons of one call, within a time: some random cases whatever the time, the edges,
+/// then random cases again. On a busy machine the edges may be cut, which is then said.
 pub fn call(name: &'static str, time: Duration) -> Vec<String> {
     let begun = Instant::now();
-    let mut r = Random::named(name, SEED);
     let mut both = Both::new(name);
-    for args in short(name, &mut r) {
+    let mut r = Random::named(name, SEED);
+    for _ in 0..LEAST {
+        let args = random(name, &mut r);
         both.case(&args);
+    }
+    let edges = edges(name, &mut Random::named(name, SEED + 1));
+    let mut done = 0;
+    for args in &edges {
+        if begun.elapsed() > 2 * time {
+            break;
+        }
+        both.case(args);
+        done += 1;
     }
     for _ in 0..MOST {
         if begun.elapsed() > time {
@@ -80,7 +95,11 @@ pub fn call(name: &'static str, time: Duration) -> Vec<String> {
         let args = random(name, &mut r);
         both.case(&args);
     }
-    both.lines()
+    let mut lines = both.lines();
+    if done < edges.len() {
+        lines.push(format!("note {name}: {done} of {} edge cases in this time", edges.len()));
+    }
+    lines
 }
 
 struct Both {

@@ -43,16 +43,27 @@ pub fn random(call: &'static str, r: &mut Random) -> Vec<Arg> {
     draw(call, r, item_type, body, None)
 }
 
-/// The short cases, all of them: every short body or sheet of a few forms.
-pub fn short(call: &'static str, r: &mut Random) -> Vec<Vec<Arg>> {
+/// Every short body or sheet of a few forms, and some of the longest.
+pub fn edges(call: &'static str, r: &mut Random) -> Vec<Vec<Arg>> {
     let names: Vec<&str> = parameters(call).iter().map(|p| p.0).collect();
+    let mut cases = Vec::new();
     if names.contains(&"body") {
-        bodies::short().into_iter().map(|(t, body)| draw(call, r, t, body, None)).collect()
-    } else if names.contains(&"sheet") {
-        sheets::short().into_iter().map(|sheet| draw(call, r, 168, vec![], Some(sheet))).collect()
-    } else {
-        vec![]
+        for _ in 0..40 {
+            let item_type = r.pick(&[168, 169]);
+            let body = bodies::long(r, item_type);
+            cases.push(draw(call, r, item_type, body, None));
+        }
+        cases.extend(bodies::short().into_iter().map(|(t, body)| draw(call, r, t, body, None)));
     }
+    if names.contains(&"sheet") {
+        for number in 0..60 {
+            let sheet = if number % 4 == 0 { sheets::large(r) } else { sheets::nearly_full(r) };
+            cases.push(draw(call, r, 168, vec![], Some(sheet)));
+        }
+        let short = sheets::short().into_iter();
+        cases.extend(short.map(|sheet| draw(call, r, 168, vec![], Some(sheet))));
+    }
+    cases
 }
 
 fn draw(

@@ -151,7 +151,7 @@ fn nearly(r: &mut Random) -> Vec<Item> {
 }
 
 /// Many items, or long ones, on both sides of the limits of question 1.
-fn large(r: &mut Random) -> Vec<u8> {
+pub fn large(r: &mut Random) -> Vec<u8> {
     let (count, length) = match r.below(5) {
         0 => (4_094 + r.below(4), 0),
         1 => (4_095 + r.below(3), r.below(44)),
@@ -169,7 +169,7 @@ fn large(r: &mut Random) -> Vec<u8> {
 }
 
 /// A list of records, filled up with items so that little room is left under the limit.
-fn nearly_full(r: &mut Random) -> Vec<u8> {
+pub fn nearly_full(r: &mut Random) -> Vec<u8> {
     let mut items = balanced(r);
     items.retain(|i| i.key.0 != u64::MAX);
     let mut left = 262_144 - bytes(&items).len() - r.below(32);
