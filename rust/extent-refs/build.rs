@@ -1,6 +1,7 @@
 //! Links target/staticlib/libextent_refs.a of the repository, or the one in the folder that
 //! EXTENT_REFS_ARCHIVE names. A declared call that the archive does not define gets a stand-in
-//! that answers `NOT_THERE`, so that the crate builds while calls are still being written.
+//! that ends the program, so that the crate builds while calls are still being written and no
+//! made-up answer is ever taken for one.
 use std::collections::BTreeSet;
 use std::path::PathBuf;
 use std::{env, fs};
@@ -39,7 +40,7 @@ fn main() {
     text += &format!("pub const LOST: &[&str] = &{lost:?};\npub const LINKED: bool = {linked};\n");
     for name in &missing {
         text += &format!(
-            "#[no_mangle]\nextern \"C\" fn {name}() -> u64 {{\n    NOT_THERE as u64\n}}\n"
+            "#[no_mangle]\nextern \"C\" fn {name}() -> u64 {{\n    not_there({name:?})\n}}\n"
         );
     }
     fs::write(PathBuf::from(env::var("OUT_DIR").unwrap()).join("missing.rs"), text).unwrap();

@@ -53,6 +53,9 @@ fn all(seconds: f64) -> ExitCode {
         );
     }
     let mut count = Count::default();
+    for call in extent_refs::by_name::NAMES.iter().filter(|name| !calls.contains(name)) {
+        count.lines([format!("FAIL {call}: it is declared and the model has it not").as_str()]);
+    }
     for call in extent_refs::LOST {
         count.lines([
             format!("FAIL {call}: the source exports it and the archive has it not").as_str()

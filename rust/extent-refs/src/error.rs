@@ -33,7 +33,6 @@ impl Error {
             19 => "fewer than two items cannot be split",
             20 => "a leaf would be empty",
             21 => "the result does not fit in the output or the limits",
-            crate::NOT_THERE => "the linked archive does not have this call yet",
             _ => "an unknown code",
         }
     }

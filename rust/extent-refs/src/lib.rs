@@ -25,15 +25,18 @@ pub mod tree_write;
 
 mod answer;
 
-/// What the stand-in of a call answers that the archive does not define yet.
-pub const NOT_THERE: u32 = 999;
-
 pub use missing::{LINKED, LOST, MISSING};
 
 /// `MISSING`: the declared calls that the linked archive does not define. `LOST`: those of them
 /// that the source exports, so that the archive is an old one. `LINKED`: whether there is one.
 mod missing {
     #[allow(unused_imports)]
-    use super::NOT_THERE;
+    use super::not_there;
     include!(concat!(env!("OUT_DIR"), "/missing.rs"));
+}
+
+#[allow(dead_code)]
+fn not_there(call: &str) -> ! {
+    eprintln!("{call} is not in the linked archive: run 'rt staticlib extent_refs'");
+    std::process::abort()
 }
