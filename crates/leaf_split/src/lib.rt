@@ -3,6 +3,7 @@
 mod best;
 mod fill;
 mod halves;
+mod number;
 mod whole;
 
 pub use halves::split;

@@ -8,6 +8,7 @@ ghost use Rattle.leaf_split.specs.Division.{Sized};
 use super::Cutting;
 use super::best;
 use super::fill;
+use super::number;
 use format::Edited;
 use item_list::Checked;
 
@@ -26,7 +27,7 @@ fn divide(sheet: &[u8], nodesize: usize, count: usize, lent: &mut [u16]) -> Edit
             return Edited::Written(1);
         }
         Cutting::Nowhere => {
-            let leaves = fill::fill_count(sheet, nodesize, count);
+            let leaves = number::fill_count(sheet, nodesize, count);
             if lent.len() < leaves {
                 return Edited::Refused(21);
             }
