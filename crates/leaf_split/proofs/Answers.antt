@@ -1,18 +1,17 @@
 -- What a splitting call answers and leaves in the lent slice. Assumes nothing.
 use mathlib.Core.Path.{_≡_, refl, sym, ap, _∙_, subst}
-use mathlib.Core.List.{List, [], _∷_, _++_}
+use mathlib.Core.List.{List, [], _∷_}
 use Prim.Native.Nat.{ℕ, _+_, _≤_, _<_, _/_}
 use native.Mathlib.Omega.{arith}
-use lib.ListN.{length, drop, set}
+use lib.ListN.{length, set}
 use borrow.Author.Tests.{le-leb, lt-leb}
 use Rattle.fields.specs.Parts.{written}
 use Rattle.fields.proofs.Parts.{stores-one, written-front}
 use Rattle.format.specs.declared.Edited.{Edited}
 use Rattle.format.specs.declared.Edited.the-variants.{Written, Refused}
 use Rattle.format.specs.Questions.{Answer, refused, accepted, ask, bind, held, lent, editedOf, Answered}
-use Rattle.format.specs.Items.{Item, readSheet, onSheet}
+use Rattle.format.specs.Items.{readSheet, onSheet}
 use Rattle.format.specs.Sheets.{split, heldCuts}
-use Rattle.item_list.specs.Steps.{itemsOf}
 use Rattle.item_list.proofs.Reading.{Counted}
 
 module _ (a : Answer (List ℕ)) (room : ℕ) (old new : List ℕ) where

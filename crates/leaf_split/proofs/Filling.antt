@@ -1,18 +1,17 @@
 -- Leaves filled from the left, counted and written. Assumes nothing.
-use mathlib.Core.Path.{_≡_, refl, sym, ap, _∙_, subst}
-use mathlib.Core.Bool.{Bool, true, false, cond}
+use mathlib.Core.Path.{_≡_, refl, sym, ap, _∙_}
+use mathlib.Core.Bool.{cond}
 use mathlib.Core.List.{List, [], _∷_, _++_, append-assoc, append-nil}
-use Prim.Native.Nat.{ℕ, zero, suc, _+_, _-_, _*_, _≤_, _<_}
+use Prim.Native.Nat.{ℕ, _+_, _-_, _*_, _≤_, _<_}
 use native.Mathlib.Omega.{arith}
 use native.Mathlib.Nat.{zero-add}
 use lib.Dec.{leb}
-use lib.ListN.{length, take, drop, set, length-append, length-set}
+use lib.ListN.{length, set, length-append, length-set}
 use borrow.Author.Tests.{le-leb, lt-leb}
 use Rattle.fields.specs.Parts.{written}
-use Rattle.fields.proofs.Parts.{stores-one, written-next, length-written}
+use Rattle.fields.proofs.Parts.{stores-one, written-next}
 use Rattle.format.specs.Items.{Item}
-use Rattle.format.specs.Sheets.{itemSpace, filled}
-use Rattle.item_list.specs.Steps.{itemAt}
+use Rattle.format.specs.Sheets.{filled}
 use Rattle.item_list.proofs.Walks.{More}
 use Rattle.leaf_split.proofs.Running.{space-at}
 

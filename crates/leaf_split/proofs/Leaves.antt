@@ -1,24 +1,22 @@
 -- split_to_fit: its cuts, and question 20, which can't be answered with no once 18 was answered with yes. Assumes nothing.
 use mathlib.Core.Path.{_≡_, refl, sym, ap, _∙_, subst}
-use mathlib.Core.Bool.{Bool, true, false, _&&_, cond}
+use mathlib.Core.Bool.{Bool, true, false, cond}
 use mathlib.Core.Option.{Option, none, some}
 use mathlib.Core.List.{List, [], _∷_}
-use Prim.Native.Nat.{ℕ, zero, suc, _+_, _-_, _*_, _≤_, _<_}
+use Prim.Native.Nat.{ℕ, zero, suc, _+_, _-_, _≤_, _<_}
 use native.Mathlib.Omega.{arith}
 use lib.Dec.{T, leb, ltb, lt→ltb, leb→le}
 use lib.ListN.{length}
 use mir.Facts.{and-yes, yes-and}
-use borrow.Author.Tests.{le-leb, lt-leb, leb-true}
+use borrow.Author.Tests.{le-leb, lt-leb}
 use Rattle.fields.specs.Lists.{all}
 use Rattle.fields.proofs.Lists.{T-eq, some-inj, no-some}
 use Rattle.format.specs.Questions.{Answer, refused, accepted, ask, bind}
 use Rattle.format.specs.Items.{Item, readSheet, onSheet, nodesizeFits}
 use Rattle.format.specs.Sheets.{itemSpace, cutFits, gapOf, closer, bestCut, filled, cutsOf, cuts, leavesHold, splitToFit}
-use Rattle.format.proofs.Answers.{ask-yes}
 use Rattle.item_list.specs.Steps.{itemsOf}
 use Rattle.item_list.proofs.Reading.{Counted}
 use Rattle.item_list.proofs.Spaces.{space-sheet}
-use Rattle.leaf_split.specs.declared.Cutting.{Cutting}
 use Rattle.leaf_split.specs.declared.Cutting.the-variants.{Before, Nowhere}
 use Rattle.leaf_split.specs.Division.{Sized, alone, cuttingOf}
 

@@ -1,7 +1,6 @@
 use mathlib.Core.Path.{_≡_, _∙_}
 use mathlib.Core.Logic.{⊎-elim}
-use Prim.Native.Nat.{ℕ, _+_, _-_}
-use native.Mathlib.Omega.{arith}
+use Prim.Native.Nat.{_+_, _-_}
 use Rattle.leaf_split.proofs.Running.{keep-first, keep-left, keep-right, cut-new, cut-closer, cut-kept, gap-up, gap-down}
 use borrow.Author.Needs.{needs}
 use Rattle.leaf_split.proofs.best.improve.Statement.{statement}
