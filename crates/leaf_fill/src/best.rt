@@ -5,7 +5,7 @@ ghost use lib.ListN.{length};
 ghost use Rattle.fields.specs.Lists.{all};
 ghost use Rattle.format.specs.Sheets.{bestCut};
 ghost use Rattle.item_list.specs.Steps.{itemsOf};
-ghost use Rattle.leaf_split.specs.Division.{Sized, alone, improved, cuttingOf};
+ghost use Rattle.leaf_fill.specs.Division.{Sized, alone, improved, cuttingOf};
 use super::Cutting;
 use item_list::Step;
 

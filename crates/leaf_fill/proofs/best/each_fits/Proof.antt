@@ -9,10 +9,10 @@ use Rattle.fields.specs.Lists.{all}
 use Rattle.format.specs.Items.{Item}
 use Rattle.item_list.specs.Steps.{itemsOf}
 use Rattle.item_list.proofs.Walks.{Walked, More, rest-all, rest-end, rest-broken, rest-item}
-use Rattle.leaf_split.specs.Division.{alone}
-use Rattle.leaf_split.proofs.Running.{each-end, each-over, each-more}
-use Rattle.leaf_split.proofs.best.each_fits.Statement.{statement}
-use Rattle.leaf_split.proofs.best.each_fits.Tie as tie
+use Rattle.leaf_fill.specs.Division.{alone}
+use Rattle.leaf_fill.proofs.Running.{each-end, each-over, each-more}
+use Rattle.leaf_fill.proofs.best.each_fits.Statement.{statement}
+use Rattle.leaf_fill.proofs.best.each_fits.Tie as tie
 
 abbrev Inv-loop : tie.InvT-loop
 Inv-loop s nodesize count at₀ at = Walked s at (λ (items : List Item). all (alone nodesize) (itemsOf s) ≡ all (alone nodesize) items)

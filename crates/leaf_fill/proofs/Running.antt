@@ -16,9 +16,9 @@ use Rattle.item_list.specs.Steps.{itemAt, itemsOf}
 use Rattle.item_list.proofs.Steps.{WholeAt, data-long, and-false}
 use Rattle.item_list.proofs.Walks.{More}
 use Rattle.item_list.proofs.Spaces.{space-append, space-cons}
-use Rattle.leaf_split.specs.declared.Cutting.{Cutting}
-use Rattle.leaf_split.specs.declared.Cutting.the-variants.{Before, Nowhere}
-use Rattle.leaf_split.specs.Division.{Sized, alone, cuttingOf, closest, improved}
+use Rattle.leaf_fill.specs.declared.Cutting.{Cutting}
+use Rattle.leaf_fill.specs.declared.Cutting.the-variants.{Before, Nowhere}
+use Rattle.leaf_fill.specs.Division.{Sized, alone, cuttingOf, closest, improved}
 
 -- the space of the item at a position
 pub space-at : (s : List ℕ) (at next : ℕ) → WholeAt s at next → itemSpace (itemAt s at) ≡ next - at + 4

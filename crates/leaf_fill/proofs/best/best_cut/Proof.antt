@@ -8,9 +8,9 @@ use denote.Ref.{now}
 use Rattle.format.specs.Items.{Item}
 use Rattle.item_list.specs.Steps.{itemsOf}
 use Rattle.item_list.proofs.Walks.{Walked, More, rest-all, rest-end, rest-broken, rest-item}
-use Rattle.leaf_split.proofs.Running.{Passed, passed-none, passed-all, passed-next, passed-few, passed-bound, space-here}
-use Rattle.leaf_split.proofs.best.best_cut.Statement.{statement}
-use Rattle.leaf_split.proofs.best.best_cut.Tie as tie
+use Rattle.leaf_fill.proofs.Running.{Passed, passed-none, passed-all, passed-next, passed-few, passed-bound, space-here}
+use Rattle.leaf_fill.proofs.best.best_cut.Statement.{statement}
+use Rattle.leaf_fill.proofs.best.best_cut.Tie as tie
 
 abbrev Inv-loop : tie.InvT-loop
 Inv-loop s nodesize count at₀ i₀ left₀ right₀ best₀ at i left right best = Walked s at (λ (rest : List Item). Passed nodesize (itemsOf s) i left right best rest)

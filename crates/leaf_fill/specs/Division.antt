@@ -9,8 +9,8 @@ use lib.ListN.{length}
 use Rattle.format.specs.Items.{Item}
 use Rattle.format.specs.Sheets.{itemSpace, spaceOf, gapOf}
 use Rattle.item_list.specs.Steps.{Listed, itemsOf}
-use Rattle.leaf_split.specs.declared.Cutting.{Cutting}
-use Rattle.leaf_split.specs.declared.Cutting.the-variants.{Before, Nowhere}
+use Rattle.leaf_fill.specs.declared.Cutting.{Cutting}
+use Rattle.leaf_fill.specs.declared.Cutting.the-variants.{Before, Nowhere}
 
 -- what the pass of questions 1 and 2 has shown of an item list with so many items
 pub record Sized (s : List ℕ) (count : ℕ) : Type 0 where

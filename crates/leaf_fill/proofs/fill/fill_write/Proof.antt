@@ -8,9 +8,9 @@ use denote.Ref.{now}
 use Rattle.format.specs.Items.{Item}
 use Rattle.item_list.specs.Steps.{itemsOf}
 use Rattle.item_list.proofs.Walks.{Walked, More, rest-all, rest-end, rest-broken, rest-item}
-use Rattle.leaf_split.proofs.Filling.{Writing, writing-none, writing-all, writing-stays, writing-starts, place-left}
-use Rattle.leaf_split.proofs.fill.fill_write.Statement.{statement}
-use Rattle.leaf_split.proofs.fill.fill_write.Tie as tie
+use Rattle.leaf_fill.proofs.Filling.{Writing, writing-none, writing-all, writing-stays, writing-starts, place-left}
+use Rattle.leaf_fill.proofs.fill.fill_write.Statement.{statement}
+use Rattle.leaf_fill.proofs.fill.fill_write.Tie as tie
 
 abbrev Inv-loop : tie.InvT-loop
 Inv-loop s nodesize count cuts₀ at₀ used₀ leaves₀ i₀ cuts at used leaves i = Walked s at (λ (rest : List Item). Writing nodesize (itemsOf s) cuts₀ cuts at used leaves i rest)

@@ -8,9 +8,9 @@ use denote.Ref.{now}
 use Rattle.format.specs.Items.{Item}
 use Rattle.item_list.specs.Steps.{itemsOf}
 use Rattle.item_list.proofs.Walks.{Walked, More, rest-all, rest-end, rest-broken, rest-item}
-use Rattle.leaf_split.proofs.Filling.{Counting, counting-none, counting-all, counting-stays, counting-starts}
-use Rattle.leaf_split.proofs.number.fill_count.Statement.{statement}
-use Rattle.leaf_split.proofs.number.fill_count.Tie as tie
+use Rattle.leaf_fill.proofs.Filling.{Counting, counting-none, counting-all, counting-stays, counting-starts}
+use Rattle.leaf_fill.proofs.number.fill_count.Statement.{statement}
+use Rattle.leaf_fill.proofs.number.fill_count.Tie as tie
 
 abbrev Inv-loop : tie.InvT-loop
 Inv-loop s nodesize count at₀ used₀ leaves₀ at used leaves = Walked s at (λ (rest : List Item). Counting nodesize (itemsOf s) at used leaves rest)

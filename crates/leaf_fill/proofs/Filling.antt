@@ -13,7 +13,7 @@ use Rattle.fields.proofs.Parts.{stores-one, written-next}
 use Rattle.format.specs.Items.{Item}
 use Rattle.format.specs.Sheets.{filled}
 use Rattle.item_list.proofs.Walks.{More}
-use Rattle.leaf_split.proofs.Running.{space-at}
+use Rattle.leaf_fill.proofs.Running.{space-at}
 
 -- ---- the definition by steps
 
