@@ -1,9 +1,9 @@
 use denote.Ref.{now}
-use Rattle.item_list.proofs.Writes.{item-writes}
+use Rattle.item_write.proofs.Writes.{item-writes}
 use native.Mathlib.Omega.{arith}
 use borrow.Author.Needs.{needs}
-use Rattle.item_list.proofs.writing.write_item.Statement.{statement}
-use Rattle.item_list.proofs.writing.write_item.Tie as tie
+use Rattle.item_write.proofs.splicing.write_item.Statement.{statement}
+use Rattle.item_write.proofs.splicing.write_item.Tie as tie
 
 returns : tie.Need-returns
 returns c =

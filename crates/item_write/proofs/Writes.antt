@@ -20,8 +20,8 @@ use Rattle.format.specs.declared.Edited.the-variants.{Written, Refused}
 use Rattle.format.specs.Questions.{Answer, refused, accepted, ask, bind, held, lent, editedOf, Answered}
 use Rattle.format.specs.Items.{Item, keyBytes, itemBytes, sheetBytes, dataFits, sheetHolds, heldSheet}
 use Rattle.format.proofs.Items.{sane, sane-out, length-keyBytes, length-itemBytes}
-use Rattle.item_list.specs.Writes.{headBytes, roomFor, heldBytes}
+use Rattle.item_write.specs.Writes.{headBytes, roomFor, heldBytes}
 use Rattle.item_list.proofs.Steps.{and-false}
 
 -- ---- an item's head
 

@@ -1,9 +1,9 @@
 use mathlib.Core.Path.{refl}
 use denote.Ref.{now}
-use Rattle.item_list.proofs.Writes.{head-writes}
+use Rattle.item_write.proofs.Writes.{head-writes}
 use borrow.Author.Needs.{needs}
-use Rattle.item_list.proofs.writing.append_head.Statement.{statement}
-use Rattle.item_list.proofs.writing.append_head.Tie as tie
+use Rattle.item_write.proofs.splicing.append_head.Statement.{statement}
+use Rattle.item_write.proofs.splicing.append_head.Tie as tie
 
 returns : tie.Need-returns
 returns c =

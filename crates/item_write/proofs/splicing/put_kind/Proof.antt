@@ -5,8 +5,8 @@ use denote.Ref.{now}
 use Rattle.fields.specs.Parts.{written}
 use Rattle.format.proofs.Items.{beBytes-one}
 use borrow.Author.Needs.{needs}
-use Rattle.item_list.proofs.writing.put_kind.Statement.{statement}
-use Rattle.item_list.proofs.writing.put_kind.Tie as tie
+use Rattle.item_write.proofs.splicing.put_kind.Statement.{statement}
+use Rattle.item_write.proofs.splicing.put_kind.Tie as tie
 
 returns : tie.Need-returns
 returns c =

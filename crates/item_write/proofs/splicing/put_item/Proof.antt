@@ -2,10 +2,10 @@ use mathlib.Core.Path.{sym, _∙_}
 use native.Mathlib.Omega.{arith}
 use lib.ListN.{length}
 use denote.Ref.{now}
-use Rattle.item_list.proofs.Writes.{room-out, item-held, item-refused}
+use Rattle.item_write.proofs.Writes.{room-out, item-held, item-refused}
 use borrow.Author.Needs.{needs}
-use Rattle.item_list.proofs.writing.put_item.Statement.{statement}
-use Rattle.item_list.proofs.writing.put_item.Tie as tie
+use Rattle.item_write.proofs.splicing.put_item.Statement.{statement}
+use Rattle.item_write.proofs.splicing.put_item.Tie as tie
 
 write-item-requires : tie.Need-write-item-requires
 write-item-requires c κs =

@@ -1,7 +1,7 @@
-use Rattle.item_list.proofs.Writes.{room-short, room-long, room-left}
+use Rattle.item_write.proofs.Writes.{room-short, room-long, room-left}
 use mathlib.Core.Path.{sym}
-use Rattle.item_list.proofs.writing.room_for.Statement.{statement}
-use Rattle.item_list.proofs.writing.room_for.Tie as tie
+use Rattle.item_write.proofs.splicing.room_for.Statement.{statement}
+use Rattle.item_write.proofs.splicing.room_for.Tie as tie
 
 returns : tie.Need-returns
 returns c = sym (room-short _ _ _ (c .if1 .taken))

@@ -2,10 +2,10 @@ use mathlib.Core.Path.{sym, _∙_}
 use native.Mathlib.Omega.{arith}
 use lib.ListN.{length}
 use denote.Ref.{now}
-use Rattle.item_list.proofs.Writes.{room-out, rest-held, rest-refused, rest-writes}
+use Rattle.item_write.proofs.Writes.{room-out, rest-held, rest-refused, rest-writes}
 use borrow.Author.Needs.{needs}
-use Rattle.item_list.proofs.writing.remove_item.Statement.{statement}
-use Rattle.item_list.proofs.writing.remove_item.Tie as tie
+use Rattle.item_write.proofs.splicing.remove_item.Statement.{statement}
+use Rattle.item_write.proofs.splicing.remove_item.Tie as tie
 
 append-requires : tie.Need-append-requires
 append-requires c κs =

@@ -8,7 +8,7 @@ ghost use Rattle.fields.specs.Numbers.{beBytes};
 ghost use Rattle.fields.specs.Parts.{part, written, spliced};
 ghost use Rattle.format.specs.Questions.{Answered};
 ghost use Rattle.format.specs.Items.{itemBytes};
-ghost use Rattle.item_list.specs.Writes.{headBytes, roomFor, heldBytes};
+ghost use Rattle.item_write.specs.Writes.{headBytes, roomFor, heldBytes};
 use format::Edited;
 use format::Key;
 
