@@ -1,11 +1,15 @@
 // Plans of the calls on bodies, and the one writer of them.
+mod adds;
 mod bytes;
 mod drops;
 mod plan;
 mod totals;
 mod write;
 
+pub use adds::plan_add_inline;
+pub use adds::plan_add_keyed;
 pub use drops::plan_drop_inline;
+pub use plan::refuse;
 pub use plan::Outcome;
 pub use plan::Plan;
 pub use totals::plan_lower_total;
