@@ -1,7 +1,7 @@
 // Plans that add references. The total and the count are compared before they are summed, so that no sum wraps.
+use crate::plan::Plan;
 use crate::plan::edit;
 use crate::plan::refuse;
-use crate::plan::Plan;
 use inline_refs::Scan;
 use inline_refs::Seen;
 use inline_refs::Site;
@@ -94,7 +94,14 @@ pub fn plan_add_inline(
                         return refuse(12);
                     }
                     let new = crate::bytes::bytes_of(wanted, weight + amount);
-                    edit(at, next, new, crate::bytes::size_of(wanted), total + more, 0)
+                    edit(
+                        at,
+                        next,
+                        new,
+                        crate::bytes::size_of(wanted),
+                        total + more,
+                        0,
+                    )
                 }
             }
         }
@@ -112,13 +119,7 @@ fn may_key(wanted: Wanted, kin: bool) -> bool
 }
 
 // The same where the total stays.
-pub fn plan_add_keyed(
-    item_type: u8,
-    body: &[u8],
-    wanted: Wanted,
-    place: u64,
-    amount: u32,
-) -> Plan
+pub fn plan_add_keyed(item_type: u8, body: &[u8], wanted: Wanted, place: u64, amount: u32) -> Plan
     ensures { λ r. ⌜ Planned r (now (body .entry)) (addKeyed «item_type» (now (body .entry)) wanted place amount) ⌝ }
 {
     match inline_refs::scan_body(item_type, body, wanted, place) {
