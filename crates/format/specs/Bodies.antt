@@ -25,7 +25,7 @@ use Rattle.format.specs.References.{counted, Ref, ref, Body, bodyWith, t
 unfoldable pub bodyFits : List ℕ → Bool
 bodyFits body = leb (length body) 65535
 
--- question 21 of a body call
+-- question 21 of a call that makes a body
 unfoldable pub heldBody : ℕ → Answer (List ℕ) → Answer (List ℕ)
 heldBody room answer = held (λ body. leb (length body) room && bodyFits body) answer
 
@@ -258,6 +258,10 @@ treeBlockBody generation block =
 
 unfoldable pub treeBlockKey : ℕ → ℕ → Key
 treeBlockKey bytenr level = record { objectid = bytenr; kind = 169; offset = level }
+
+-- the key of SharedAdd's item, and its data
+unfoldable pub sharedAddKey : ℕ → SharedRef → Key
+sharedAddKey bytenr s = record { objectid = bytenr; kind = s .kind; offset = s .parent }
 
 unfoldable pub sharedAddItem : ℕ → ℕ → Answer (List ℕ)
 sharedAddItem kind count = ask (sharedKind kind) 3 (accepted (cond (eqb kind 184) (leBytes 4 count) []))

@@ -7,7 +7,7 @@ use Rattle.format.specs.declared.Change.{Change}
 use Rattle.format.specs.declared.Change.the-variants.{AddBlock, AddData, AddShared, DropBlock, DropData, DropShared}
 use Rattle.format.specs.Questions.{Answer, refused, absent, remove, accepted}
 use Rattle.format.specs.Items.{Item, readSheet}
-use Rattle.format.specs.Names.{Name, sameName, balanced}
+use Rattle.format.specs.Names.{Name, sameName, count, balanced}
 use Rattle.format.specs.Ledger.{nameOf, posted}
 
 -- ---- a list of postings, each on the sheet that the last accepted one made, with whatever nodesize and lent room
@@ -65,7 +65,7 @@ enter (AddData extent name amount) t = gave t amount
 enter (AddShared extent name amount) t = gave t amount
 enter (DropBlock extent name) t = took t 1
 enter (DropData extent name) t = took t 1
-enter (DropShared extent name) t = took t (t .opening + t .given - t .taken)
+enter (DropShared extent name) t = took t (t .opening + t .given - t .taken)  -- never below 0: demand 3
 
 -- "A refused one moves nothing. Accepted, under the change's name"
 abbrev pub tally : Name → Tally → List Seen → Tally
@@ -77,16 +77,6 @@ history n opening list = tally n (record { opening = opening; given = 0; taken =
 
 -- ---- what demand 3 speaks of
 
--- an accepted change named the extent
-abbrev pub touched : ℕ → List Seen → Bool
-touched extent [] = false
-touched extent (s ∷ more) = (s .accepted && eqb (nameOf (s .change) .extent) extent) || touched extent more
-
--- the items of one extent, in order
-abbrev pub itemsOf : ℕ → List Item → List Item
-itemsOf extent [] = []
-itemsOf extent (i ∷ items) = cond (eqb (i .key .objectid) extent) (i ∷ itemsOf extent items) (itemsOf extent items)
-
 -- the items of a sheet, none where it is refused
 unfoldable pub itemsIn : Answer (List Item) → List Item
 itemsIn (refused number) = []
@@ -96,6 +86,20 @@ itemsIn (accepted items) = items
 
 abbrev pub sheetItems : List ℕ → List Item
 sheetItems sheet = itemsIn (readSheet sheet)
+
+-- the history of a name over a list of postings from an opening sheet
+abbrev pub historyOf : Name → List ℕ → List Posting → Tally
+historyOf n sheet postings = history n (count n (sheetItems sheet)) (seen sheet postings)
+
+-- an accepted change named the extent
+abbrev pub touched : ℕ → List Seen → Bool
+touched extent [] = false
+touched extent (s ∷ more) = (s .accepted && eqb (nameOf (s .change) .extent) extent) || touched extent more
+
+-- the items of one extent, in order
+abbrev pub itemsOf : ℕ → List Item → List Item
+itemsOf extent [] = []
+itemsOf extent (i ∷ items) = cond (eqb (i .key .objectid) extent) (i ∷ itemsOf extent items) (itemsOf extent items)
 
 -- a sheet that passes questions 1, 2 and 4
 abbrev pub passes : Answer (List Item) → Bool

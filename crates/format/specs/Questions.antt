@@ -96,6 +96,13 @@ codeOf absent = 100
 codeOf remove = 101
 codeOf (accepted result) = 0
 
+-- "Absent and remove have result length 0", and so has a refusal
+unfoldable pub lengthOf : Answer (List ℕ) → ℕ
+lengthOf (refused number) = 0
+lengthOf absent = 0
+lengthOf remove = 0
+lengthOf (accepted result) = length result
+
 unfoldable pub editedOf : Answer (List ℕ) → Edited
 editedOf (refused number) = Refused number
 editedOf absent = Absent

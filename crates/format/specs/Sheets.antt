@@ -111,7 +111,7 @@ splitToFit nodesize sheet =
     (ask (leavesHold 0 (cuts nodesize items) (length items)) 20
     (accepted (cuts nodesize items)))))
 
--- question 21 of a splitting call: the lent slice has a place for each cut
+-- question 21 of a splitting call and of inline_refs: the lent slice has a place for each number
 unfoldable pub heldCuts : ℕ → Answer (List ℕ) → Answer (List ℕ)
 heldCuts room answer = held (λ numbers. leb (length numbers) room) answer
 

@@ -11,7 +11,7 @@ use Rattle.format.specs.declared.Change.{Change}
 use Rattle.format.specs.Questions.{Answer, refused, accepted}
 use Rattle.format.specs.Names.{Name, count}
 use Rattle.format.specs.Ledger.{nameOf}
-use Rattle.format.specs.History.{Posting, answerTo, run, seen, history, touched, itemsOf, sheetItems, balancedSheet}
+use Rattle.format.specs.History.{Posting, answerTo, run, seen, historyOf, touched, itemsOf, sheetItems, balancedSheet}
 
 -- ---- what the types of the numbers give
 
@@ -34,8 +34,8 @@ pub data Decided (answer : Answer (List ℕ)) : Type 0 where
 pub record Demand3 (sheet : List ℕ) (postings : List Posting) : Type 0 where
   -- every name counts its opening plus given minus taken, without a floor: as an equation of sums
   pub counts : (n : Name)
-      → count n (sheetItems (run sheet postings)) + history n (count n (sheetItems sheet)) (seen sheet postings) .taken
-      ≡ count n (sheetItems sheet) + history n (count n (sheetItems sheet)) (seen sheet postings) .given
+      → count n (sheetItems (run sheet postings)) + historyOf n sheet postings .taken
+      ≡ count n (sheetItems sheet) + historyOf n sheet postings .given
   -- the sheet is still balanced
   pub balance : T (balancedSheet (run sheet postings))
   -- an extent that no accepted change named has the items that it opened with, in the same order
