@@ -2,7 +2,7 @@
 ghost use mathlib.Core.Path.{_≡_};
 ghost use lib.ListN.{length};
 ghost use Rattle.format.specs.Items.{keyOf, heldSheet};
-ghost use Rattle.format.specs.Sheets.{insert, insertUnbounded, delete, fit, fits as fitsWith, item, itemStart};
+ghost use Rattle.format.specs.Sheets.{insert, insertUnbounded, delete, fit, fits as fitsWith, split, splitToFit, heldCuts, item, itemStart};
 ghost use Rattle.extent_refs.specs.Exports.{Coded, CodedBool, CodedPart};
 use super::codes;
 use format::Key;
@@ -84,6 +84,27 @@ pub extern "C" fn leaf_edit_fits(nodesize: u32, sheet: &[u8], data: &[u8], fits:
 {
     let answer = leaf_edit::fits(nodesize, sheet, data);
     codes::put_judged(answer, fits)
+}
+
+#[no_mangle]
+pub extern "C" fn leaf_edit_split(sheet: &[u8], cuts: &mut [u16], count: &mut u64) -> u32
+    ensures { λ r. ⌜ Coded (heldCuts (length (now (cuts .entry))) (split (now (sheet .entry)))) r (now (count .exit)) (now (cuts .entry)) (now (cuts .exit)) ⌝ }
+{
+    let answer = leaf_split::split(sheet, cuts);
+    codes::put_edited(answer, count)
+}
+
+#[no_mangle]
+pub extern "C" fn leaf_edit_split_to_fit(
+    nodesize: u32,
+    sheet: &[u8],
+    cuts: &mut [u16],
+    count: &mut u64,
+) -> u32
+    ensures { λ r. ⌜ Coded (heldCuts (length (now (cuts .entry))) (splitToFit nodesize (now (sheet .entry)))) r (now (count .exit)) (now (cuts .entry)) (now (cuts .exit)) ⌝ }
+{
+    let answer = leaf_split::split_to_fit(nodesize, sheet, cuts);
+    codes::put_edited(answer, count)
 }
 
 // In Rattle `leaf_edit::item` returns the part itself.

@@ -1,26 +1,23 @@
 -- Where an item that was sought stands: the list taken apart at it, and its place in the bytes. Assumes nothing.
 use mathlib.Core.Path.{_≡_, refl, sym, ap, _∙_, subst}
 use mathlib.Core.Logic.{_⊎_, inl, inr}
-use mathlib.Core.Bool.{Bool, true, false, not, _&&_, cond}
+use mathlib.Core.Bool.{Bool, true, false, not, cond}
 use mathlib.Core.Option.{Option, none, some, Option·map}
 use mathlib.Core.List.{List, [], _∷_, _++_}
-use Prim.Native.Nat.{ℕ, zero, suc, _+_, _-_, _≤_, _<_}
+use Prim.Native.Nat.{ℕ, zero, suc, _+_, _-_, _≤_}
 use native.Mathlib.Omega.{arith}
 use lib.Dec.{T, eqb}
-use lib.ListN.{length, take, drop, getElem?, length-append}
-use lib.Seq.{take-at}
+use lib.ListN.{length, take, getElem?, length-append}
 use mir.Facts.{yes-and, and-yes}
 use borrow.Author.Tests.{eqb-true, eqb-false}
 use Rattle.fields.specs.Lists.{all, Cut, later, cut}
-use Rattle.fields.proofs.Lists.{T-eq, all-map, some-inj, no-some}
+use Rattle.fields.proofs.Lists.{T-eq, all-map}
 use Rattle.format.specs.declared.Key.{Key}
 use Rattle.format.specs.Items.{Item, sameKey, keyBelow, above, rising, itemBytes, itemsBytes, sheetBytes}
 use Rattle.format.specs.Sheets.{hasKey, putBefore}
 use Rattle.format.proofs.Items.{length-itemBytes, length-sheetBytes, itemsBytes-append}
 use Rattle.format.proofs.Keys.{beyond, below-trans, below-irrefl, below-or, below-not-same, above-not-same, rising-after}
-use Rattle.item_list.specs.declared.Place.{Place}
 use Rattle.item_list.specs.declared.Place.the-variants.{At, Missing}
-use Rattle.item_list.specs.declared.Sought.{Sought}
 use Rattle.item_list.specs.declared.Sought.the-variants.{Present, Absent}
 use Rattle.item_list.specs.Seeks.{sizeOf, placeIn, numbered, seekIn}
 

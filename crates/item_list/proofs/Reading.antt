@@ -5,7 +5,7 @@ use mathlib.Core.List.{List, [], _∷_}
 use Prim.Native.Nat.{ℕ, zero, suc, _+_, _-_, _≤_, _<_}
 use native.Mathlib.Numerals.{add-one}
 use native.Mathlib.Omega.{arith}
-use lib.Dec.{T, leb, eqb}
+use lib.Dec.{T, eqb}
 use lib.ListN.{length, drop, getD}
 use borrow.Author.Tests.{le-leb, lt-leb, eq-eqb, ne-eqb}
 use Rattle.fields.specs.Lists.{all}
@@ -14,7 +14,6 @@ use Rattle.format.specs.declared.Key.{Key}
 use Rattle.format.specs.Questions.{Answer, refused, absent, remove, accepted, ask, bind}
 use Rattle.format.specs.Items.{Item, keyBelow, above, rising, readItems, readSheet, sheetBytes}
 use Rattle.format.proofs.Items.{ReadsSheet, sheet, broken, unsorted, readSheet-decides, sane, sheet-sane, sheetBytes-read}
-use Rattle.item_list.specs.declared.Step.{Step}
 use Rattle.item_list.specs.declared.Step.the-variants.{Whole, Broken, End}
 use Rattle.item_list.specs.declared.Checked.{Checked}
 use Rattle.item_list.specs.declared.Checked.the-variants.{Count, Refused}

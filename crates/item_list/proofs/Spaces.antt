@@ -1,12 +1,12 @@
 -- The space of items in a leaf, from the length of their bytes. Assumes nothing.
-use mathlib.Core.Path.{_≡_, refl, sym, _∙_}
+use mathlib.Core.Path.{_≡_, refl, _∙_}
 use mathlib.Core.List.{List, [], _∷_, _++_}
 use Prim.Native.Nat.{ℕ, _+_, _*_}
 use native.Mathlib.Omega.{arith}
 use lib.ListN.{length}
 use Rattle.fields.specs.Lists.{sum}
 use Rattle.fields.proofs.Lists.{sum-append}
-use Rattle.format.specs.Items.{Item, itemsBytes, sheetBytes}
+use Rattle.format.specs.Items.{Item, sheetBytes}
 use Rattle.format.specs.Sheets.{itemSpace, spaceOf}
 use Rattle.format.proofs.Items.{length-itemsBytes, length-sheetBytes}
 use Rattle.item_list.specs.Steps.{itemsOf}

@@ -4,17 +4,16 @@ use mathlib.Core.Bool.{Bool, true, false, _&&_, _||_, cond}
 use mathlib.Core.List.{List, [], _∷_}
 use Prim.Native.Nat.{ℕ, zero, suc, _+_, _-_, _≤_, _<_}
 use native.Mathlib.Omega.{arith}
-use lib.Dec.{T, leb, ltb, eqb}
+use lib.Dec.{T, leb, ltb}
 use lib.ListN.{length, take, drop, getD, length-drop, drop-of-length-le}
 use lib.Seq.{drop-drop, getD-drop, length-take-le}
 use borrow.Author.Tests.{le-leb, lt-leb, le-ltb, eq-eqb, ne-eqb, leb-true, leb-false}
 use Rattle.fields.specs.Numbers.{be}
 use Rattle.fields.specs.Parts.{part}
-use Rattle.format.specs.Questions.{Answer, refused, accepted, ask, bind}
+use Rattle.format.specs.Questions.{refused, accepted, ask, bind}
 use Rattle.format.specs.declared.Key.{Key}
-use Rattle.format.specs.Items.{Item, keyOf, keyBelow, itemLength, wholeItem, firstItem, readItems}
+use Rattle.format.specs.Items.{keyOf, keyBelow, itemLength, wholeItem, firstItem, readItems}
 use Rattle.format.proofs.Items.{readItems-nil, readItems-full, readItems-more, wholeItem-out}
-use Rattle.item_list.specs.declared.Step.{Step}
 use Rattle.item_list.specs.declared.Step.the-variants.{Whole, Broken, End}
 use Rattle.item_list.specs.Steps.{itemAt, nextAt, stepAt}
 

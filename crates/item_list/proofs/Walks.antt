@@ -1,23 +1,19 @@
 -- Walking over the items of an item list: what is left from a position on, and what a step says of it. Assumes nothing.
-use mathlib.Core.Path.{_≡_, refl, sym, ap, _∙_, subst}
-use mathlib.Core.Bool.{Bool, true, false, cond}
+use mathlib.Core.Path.{_≡_, sym, ap, _∙_}
+use mathlib.Core.Bool.{Bool, true, false}
 use mathlib.Core.List.{List, [], _∷_}
-use Prim.Native.Nat.{ℕ, zero, suc, _+_, _-_, _≤_, _<_}
-use native.Mathlib.Omega.{arith}
+use Prim.Native.Nat.{ℕ, zero, suc, _+_, _-_}
 use lib.Dec.{eqb}
-use lib.ListN.{length, drop}
+use lib.ListN.{drop}
 use borrow.Author.Tests.{eq-eqb, ne-eqb}
 use Rattle.format.specs.declared.Key.{Key}
-use Rattle.format.specs.Questions.{Answer, refused, accepted, bind}
+use Rattle.format.specs.Questions.{accepted}
 use Rattle.format.specs.Items.{Item, keyBelow, readItems}
 use Rattle.format.specs.Apply.{isRecord, recordOf}
 use Rattle.format.proofs.Answers.{refused-not, accepted-inj, bind-ok}
 use Rattle.format.proofs.Items.{sheet-out}
-use Rattle.item_list.specs.declared.Step.{Step}
 use Rattle.item_list.specs.declared.Step.the-variants.{Whole, Broken, End}
-use Rattle.item_list.specs.declared.Place.{Place}
 use Rattle.item_list.specs.declared.Place.the-variants.{At, Missing}
-use Rattle.item_list.specs.declared.Sought.{Sought}
 use Rattle.item_list.specs.declared.Sought.the-variants.{Present, Absent}
 use Rattle.item_list.specs.Steps.{itemAt, stepAt, itemsOf, Listed}
 use Rattle.item_list.specs.Seeks.{sizeOf, placeIn, seekIn}

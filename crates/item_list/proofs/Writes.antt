@@ -1,7 +1,7 @@
 -- Pieces written one after the other are the splice, and question 21 of the bytes is that of the items. Assumes nothing.
-use mathlib.Core.Path.{_≡_, refl, sym, ap, _∙_, subst}
+use mathlib.Core.Path.{_≡_, refl, sym, ap, _∙_}
 use mathlib.Core.Bool.{Bool, true, false, _&&_}
-use mathlib.Core.List.{List, [], _∷_, _++_, append-assoc, append-nil}
+use mathlib.Core.List.{List, [], _++_, append-assoc, append-nil}
 use Prim.Native.Nat.{ℕ, _+_, _-_, _≤_, _<_}
 use native.Mathlib.Omega.{arith}
 use lib.Dec.{T, leb, le→leb}
@@ -9,7 +9,7 @@ use lib.ListN.{length, take, drop, length-append, length-drop}
 use lib.Seq.{length-take-le}
 use borrow.Author.Tests.{le-leb, lt-leb, leb-true}
 use Rattle.fields.specs.Lists.{all}
-use Rattle.fields.specs.Numbers.{beBytes, areBytes}
+use Rattle.fields.specs.Numbers.{beBytes}
 use Rattle.fields.specs.Parts.{part, written, spliced}
 use Rattle.fields.proofs.Lists.{T-eq, all-map}
 use Rattle.fields.proofs.Numbers.{length-beBytes}
@@ -19,7 +19,7 @@ use Rattle.format.specs.declared.Edited.{Edited}
 use Rattle.format.specs.declared.Edited.the-variants.{Written, Refused}
 use Rattle.format.specs.Questions.{Answer, refused, accepted, ask, bind, held, lent, editedOf, Answered}
 use Rattle.format.specs.Items.{Item, keyBytes, itemBytes, sheetBytes, dataFits, sheetHolds, heldSheet}
-use Rattle.format.proofs.Items.{Sane, sane, sane-out, length-keyBytes, length-itemBytes}
+use Rattle.format.proofs.Items.{sane, sane-out, length-keyBytes, length-itemBytes}
 use Rattle.item_list.specs.Writes.{headBytes, roomFor, heldBytes}
 use Rattle.item_list.proofs.Steps.{and-false}
 

@@ -1,9 +1,9 @@
 -- An item taken out of an item list, from the answers of the pass and of the search. Assumes nothing.
-use mathlib.Core.Path.{_≡_, refl, sym, ap, ap₂, _∙_, subst}
-use mathlib.Core.Bool.{Bool, true, false, not, cond}
+use mathlib.Core.Path.{_≡_, refl, sym, ap, _∙_, subst}
+use mathlib.Core.Bool.{Bool, true, not}
 use mathlib.Core.Option.{Option, none, some, Option·map}
-use mathlib.Core.List.{List, [], _∷_, _++_}
-use Prim.Native.Nat.{ℕ, _+_, _-_, _≤_}
+use mathlib.Core.List.{List, [], _∷_}
+use Prim.Native.Nat.{ℕ, _-_, _≤_}
 use native.Mathlib.Omega.{arith}
 use lib.Dec.{T}
 use lib.ListN.{length, length-append}
@@ -15,13 +15,12 @@ use Rattle.format.specs.declared.Key.{Key}
 use Rattle.format.specs.Questions.{Answer, refused, accepted, ask, bind, needed}
 use Rattle.format.specs.Items.{Item, readSheet, sheetBytes, onSheet, dataFits, without}
 use Rattle.format.specs.Sheets.{hasKey, deleted, delete}
-use Rattle.format.proofs.Items.{sane}
 use Rattle.format.proofs.Splices.{sheet-remove}
 use Rattle.item_list.specs.declared.Sought.the-variants.{Present, Absent}
 use Rattle.item_list.specs.Steps.{itemsOf}
 use Rattle.item_list.specs.Seeks.{seekIn}
 use Rattle.item_list.proofs.Reading.{Counted}
-use Rattle.item_list.proofs.Places.{Sits, sits, Gap, gap, Inside, inside}
+use Rattle.item_list.proofs.Places.{Sits, sits, gap, Inside, inside}
 use Rattle.item_list.proofs.Writes.{sane-fit}
 
 cut-nowhere : {A : Type 0} (p : A → Bool) (l : List A) → T (all (λ x. not (p x)) l) → cut p l ≡ none

@@ -1,14 +1,14 @@
 -- An item put into an item list, from the answers of the pass and of the search. Assumes nothing.
 use mathlib.Core.Path.{_≡_, refl, sym, ap, _∙_, subst}
 use mathlib.Core.Bool.{Bool, true, false, not, _&&_, cond}
-use mathlib.Core.List.{List, [], _∷_, _++_}
+use mathlib.Core.List.{List, _∷_, _++_}
 use Prim.Native.Nat.{ℕ, _+_, _-_, _*_, _≤_, _<_}
 use native.Mathlib.Omega.{arith}
 use lib.Dec.{T, leb, T-not, not-T}
 use lib.ListN.{length, length-append}
 use mir.Facts.{and-yes}
 use borrow.Author.Tests.{le-leb, lt-leb}
-use Rattle.fields.specs.Lists.{all, cut}
+use Rattle.fields.specs.Lists.{all}
 use Rattle.fields.specs.Numbers.{areBytes}
 use Rattle.fields.specs.Parts.{spliced}
 use Rattle.fields.proofs.Lists.{all-mid, all-put, Found, cut-some}
@@ -16,10 +16,9 @@ use Rattle.fields.proofs.Parts.{length-spliced}
 use Rattle.format.specs.declared.Key.{Key}
 use Rattle.format.specs.Questions.{Answer, refused, absent, remove, accepted, ask, bind}
 use Rattle.format.specs.Items.{Item, readSheet, itemBytes, sheetBytes, onSheet, nodesizeFits, dataFits}
-use Rattle.format.specs.Sheets.{hasKey, putBefore, inserted, insert, insertUnbounded, spaceOf}
+use Rattle.format.specs.Sheets.{hasKey, inserted, insert, spaceOf}
 use Rattle.format.proofs.Answers.{ask-yes, ask-no}
 use Rattle.format.proofs.Items.{ReadsSheet, sheet, broken, unsorted, readSheet-decides, length-itemBytes}
-use Rattle.format.proofs.Keys.{beyond}
 use Rattle.format.proofs.Splices.{sheet-put}
 use Rattle.item_list.specs.declared.Checked.the-variants.{Count}
 use Rattle.item_list.specs.declared.Sought.{Sought}
@@ -30,7 +29,6 @@ use Rattle.item_list.proofs.Reading.{Counted, counted}
 use Rattle.item_list.proofs.Places.{Sits, sits, Gap, gap, inside-gap}
 use Rattle.item_list.proofs.Writes.{sane-fit}
 use Rattle.item_list.proofs.Spaces.{space-is}
-use Rattle.leaf_edit.specs.declared.Slot.{Slot}
 use Rattle.leaf_edit.specs.declared.Slot.the-variants.{Free, Refused}
 use Rattle.leaf_edit.specs.Slots.{slotAt, slotOf}
 

@@ -1,8 +1,8 @@
 -- An item by its number, from the answers of the pass and of the search. Assumes nothing.
-use mathlib.Core.Path.{_≡_, refl, sym, ap, _∙_}
+use mathlib.Core.Path.{_≡_, sym, ap, _∙_}
 use mathlib.Core.Bool.{true}
 use mathlib.Core.Option.{Option, none, some}
-use mathlib.Core.List.{List, _∷_, _++_}
+use mathlib.Core.List.{List}
 use Prim.Native.Nat.{ℕ, _+_, _-_, _≤_}
 use native.Mathlib.Omega.{arith}
 use native.Mathlib.Nat.{zero-add}
@@ -10,7 +10,7 @@ use lib.ListN.{length, take, getElem?}
 use Rattle.fields.specs.Lists.{sum}
 use Rattle.fields.specs.Parts.{part}
 use Rattle.format.specs.Questions.{Answer, refused, accepted, ask, bind, needed}
-use Rattle.format.specs.Items.{Item, readSheet, sheetBytes, onSheet}
+use Rattle.format.specs.Items.{Item, readSheet, onSheet}
 use Rattle.format.specs.Sheets.{item, itemStart}
 use Rattle.format.proofs.Items.{length-itemsBytes, length-sheetBytes}
 use Rattle.format.proofs.Splices.{sheet-data}

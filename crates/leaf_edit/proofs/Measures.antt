@@ -1,16 +1,15 @@
 -- fit and fits, from the answer of the pass. Assumes nothing.
-use mathlib.Core.Path.{_≡_, refl, sym, ap, _∙_}
-use mathlib.Core.Bool.{Bool, true, false, _&&_}
+use mathlib.Core.Path.{_≡_}
+use mathlib.Core.Bool.{true, false, _&&_}
 use mathlib.Core.List.{List}
 use Prim.Native.Nat.{ℕ, _+_, _*_}
 use native.Mathlib.Omega.{arith}
 use lib.Dec.{leb}
 use lib.ListN.{length}
 use Rattle.format.specs.declared.Judged.the-variants.{Says, Refused}
-use Rattle.format.specs.Questions.{Answer, refused, accepted, ask, bind, judgedOf}
-use Rattle.format.specs.Items.{Item, readSheet, onSheet, nodesizeFits, dataFits}
-use Rattle.format.specs.Sheets.{spaceOf, fit, fits}
-use Rattle.item_list.specs.Steps.{itemsOf}
+use Rattle.format.specs.Questions.{refused, ask, bind, judgedOf}
+use Rattle.format.specs.Items.{readSheet, onSheet, nodesizeFits, dataFits}
+use Rattle.format.specs.Sheets.{fit, fits}
 use Rattle.item_list.proofs.Reading.{Counted}
 use Rattle.item_list.proofs.Spaces.{space-sheet}
 

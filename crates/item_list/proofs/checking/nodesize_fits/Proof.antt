@@ -1,4 +1,3 @@
-use borrow.Author.Needs.{needs}
 use borrow.Author.Tests.{le-leb, lt-leb}
 use Rattle.format.specs.Items.{nodesizeFits}
 use Rattle.item_list.proofs.checking.nodesize_fits.Statement.{statement}

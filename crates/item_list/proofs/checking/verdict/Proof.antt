@@ -1,4 +1,3 @@
-use borrow.Author.Needs.{needs}
 use Rattle.item_list.specs.Steps.{verdictOf}
 use Rattle.item_list.proofs.checking.verdict.Statement.{statement}
 use Rattle.item_list.proofs.checking.verdict.Tie as tie

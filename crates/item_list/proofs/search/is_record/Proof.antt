@@ -1,4 +1,3 @@
-use borrow.Author.Needs.{needs}
 use Rattle.item_list.proofs.Walks.{record-168, record-169, record-other}
 use Rattle.item_list.proofs.search.is_record.Statement.{statement}
 use Rattle.item_list.proofs.search.is_record.Tie as tie

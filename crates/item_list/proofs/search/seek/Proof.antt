@@ -1,11 +1,12 @@
 use borrow.Author.Needs.{needs}
-use mathlib.Core.Path.{_≡_, refl, sym, _∙_}
+use mathlib.Core.Path.{_≡_, refl, sym, ap, _∙_}
 use mathlib.Core.Bool.{Bool}
-use mathlib.Core.List.{List, []}
-use Prim.Native.Nat.{ℕ, _-_, _<_}
+use mathlib.Core.List.{List}
+use Prim.Native.Nat.{_-_}
 use native.Mathlib.Omega.{arith}
 use lib.ListN.{length}
 use denote.Ref.{now}
+use Rattle.format.specs.declared.Key.{Key}
 use Rattle.format.specs.Items.{Item, keyBelow}
 use Rattle.item_list.specs.Steps.{itemAt, itemsOf}
 use Rattle.item_list.specs.Seeks.{seekIn}
@@ -51,7 +52,8 @@ loop-less c = let w = more (c .before .before .before) .whole in omega arith
 
 -- what was said of the key at the position and of the key that is sought
 lower : (c : tie.After-below Inv-loop μ-loop) (b : Bool) → c .below .result ≡ b → keyBelow (itemAt (now (c .before .before .before .before .before .before .before .before .args .s)) (c .before .before .before .before .before .before .loop .at) .key) (c .before .before .before .before .before .before .before .before .args .key) ≡ b
-lower c b e = let k = c .before .key-at .ensures in let h = c .below .ensures in cc
+lower c b e =
+    ap (λ (k : Key). keyBelow k (c .before .before .before .before .before .before .before .before .args .key)) (sym (c .before .key-at .ensures)) ∙ sym (c .below .ensures) ∙ e
 
 loop-again : tie.Need-loop-again Inv-loop μ-loop
 loop-again c =
@@ -59,7 +61,8 @@ loop-again c =
     record { items = m .others; rest = m .rest; so = c .before .before .before .before .before .before .before .loop .inv .so ∙ seek-later _ _ _ _ m _ (lower (c .before) _ (c .if1 .taken)) }
 
 higher : (c : tie.After-below2 Inv-loop μ-loop) (b : Bool) → c .below2 .result ≡ b → keyBelow (c .before .before .before .before .before .before .before .before .before .before .args .key) (itemAt (now (c .before .before .before .before .before .before .before .before .before .before .args .s)) (c .before .before .before .before .before .before .before .before .loop .at) .key) ≡ b
-higher c b e = let k = c .before .before .before .key-at .ensures in let h = c .below2 .ensures in cc
+higher c b e =
+    ap (λ (k : Key). keyBelow (c .before .before .before .before .before .before .before .before .before .before .args .key) k) (sym (c .before .before .before .key-at .ensures)) ∙ sym (c .below2 .ensures) ∙ e
 
 returns-3 : tie.Need-returns-3 Inv-loop μ-loop
 returns-3 c = sym (c .before .before .before .before .before .before .before .before .before .loop .inv .so ∙ seek-past _ _ _ _ (more (c .before .before .before .before .before)) _ (lower (c .before .before .before) _ (c .before .before .if1 .left)) (higher (c .before) _ (c .if2 .taken)))

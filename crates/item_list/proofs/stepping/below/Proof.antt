@@ -1,4 +1,3 @@
-use borrow.Author.Needs.{needs}
 use Rattle.item_list.proofs.Steps.{below-objectid, below-kind, below-offset}
 use Rattle.item_list.proofs.stepping.below.Statement.{statement}
 use Rattle.item_list.proofs.stepping.below.Tie as tie

@@ -1,9 +1,8 @@
-use mathlib.Core.Path.{sym, ap, _∙_}
+use mathlib.Core.Path.{sym, ap, _∙_, _≡_}
 use Prim.Native.Nat.{ℕ, _+_}
 use native.Mathlib.Omega.{arith}
 use denote.Ref.{now}
 use lib.ListN.{drop}
-use mathlib.Core.Path.{_≡_}
 use Rattle.format.specs.Items.{itemLength}
 use Rattle.item_list.specs.declared.Step.the-variants.{Whole}
 use Rattle.item_list.proofs.Steps.{length-at, step-end, broken-short, broken-low, broken-high, broken-long, step-item}

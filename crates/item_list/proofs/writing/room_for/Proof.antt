@@ -1,4 +1,3 @@
-use borrow.Author.Needs.{needs}
 use Rattle.item_list.proofs.Writes.{room-short, room-long, room-left}
 use mathlib.Core.Path.{sym}
 use Rattle.item_list.proofs.writing.room_for.Statement.{statement}

@@ -1,12 +1,9 @@
-use mathlib.Core.Path.{_≡_, sym, _∙_}
-use mathlib.Core.List.{List}
-use Prim.Native.Nat.{ℕ}
+use mathlib.Core.Path.{sym, _∙_}
 use native.Mathlib.Omega.{arith}
 use lib.ListN.{length}
 use denote.Ref.{now}
 use Rattle.fields.proofs.Numbers.{areBytes-in}
 use Rattle.format.specs.Sheets.{delete}
-use Rattle.item_list.specs.Steps.{itemsOf}
 use Rattle.item_list.proofs.Reading.{Counted, counted, listed, sheet-refused}
 use Rattle.item_list.proofs.Writes.{answered-no, answered-by}
 use Rattle.leaf_edit.proofs.Deletions.{delete-refused, delete-absent, Deletion, deletion}

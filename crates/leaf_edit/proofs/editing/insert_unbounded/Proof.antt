@@ -1,9 +1,8 @@
-use mathlib.Core.Path.{_≡_, sym, _∙_}
-use Prim.Native.Nat.{ℕ, _≤_}
+use mathlib.Core.Path.{sym, _∙_, subst}
+use Prim.Native.Nat.{_≤_}
 use native.Mathlib.Omega.{arith}
 use lib.Dec.{leb, T}
 use lib.ListN.{length}
-use mathlib.Core.Path.{subst}
 use denote.Ref.{now}
 use borrow.Author.Tests.{leb-true}
 use Rattle.fields.proofs.Numbers.{areBytes-in}

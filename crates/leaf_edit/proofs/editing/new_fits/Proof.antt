@@ -1,5 +1,4 @@
-use mathlib.Core.Path.{sym, ap, _∙_}
-use mathlib.Core.Bool.{Bool, _&&_}
+use mathlib.Core.Path.{sym, _∙_}
 use borrow.Author.Needs.{needs}
 use Rattle.leaf_edit.proofs.editing.new_fits.Statement.{statement}
 use Rattle.leaf_edit.proofs.editing.new_fits.Tie as tie
