@@ -1,0 +1,6 @@
+pub mod Writes
+pub mod Outcomes
+pub mod Heads
+pub mod Sites
+pub mod Takes
+pub mod Gives
