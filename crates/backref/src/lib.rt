@@ -1,7 +1,10 @@
 // The calls on bodies: each plans its edit and writes it.
+mod asks;
 mod calls;
 mod plans;
 
+pub use asks::flags;
+pub use asks::holds_inline_data_ref;
 pub use calls::add_inline_data_ref;
 pub use calls::add_inline_keyed;
 pub use calls::add_inline_shared;
