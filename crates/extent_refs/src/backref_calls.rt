@@ -1,13 +1,21 @@
 // Bodies: the calls of `backref.rs`.
 ghost use mathlib.Core.Path.{_≡_};
 ghost use lib.ListN.{length};
-ghost use Rattle.format.specs.Bodies.{heldBody, addInlineKeyed, dropInlineDataRef, lowerTotal, reduceTotal, raiseTotal, addInlineDataRef, addInlineTreeRef, addInlineShared, dropInlineTreeRef, withFlags};
-ghost use Rattle.extent_refs.specs.Exports.{Coded};
+ghost use Rattle.format.specs.Bodies.{heldBody, flags, addInlineKeyed, dropInlineDataRef, lowerTotal, reduceTotal, raiseTotal, holdsInlineDataRef, addInlineDataRef, addInlineTreeRef, addInlineShared, dropInlineTreeRef, withFlags};
+ghost use Rattle.extent_refs.specs.Exports.{Coded, CodedBool, CodedNumber};
 use super::codes;
 use format::BlockRef;
 use format::DataRef;
 use format::Keyed;
 use format::SharedRef;
+
+#[no_mangle]
+pub extern "C" fn backref_flags(body: &[u8], value: &mut u64) -> u32
+    ensures { λ r. ⌜ CodedNumber (flags (now (body .entry))) r (now (value .exit)) ⌝ }
+{
+    let answer = backref::flags(body);
+    codes::put_told(answer, value)
+}
 
 #[no_mangle]
 pub extern "C" fn backref_add_inline_keyed_block(
@@ -121,6 +129,29 @@ pub extern "C" fn backref_raise_total(
 {
     let answer = backref::raise_total(body, total_count, out);
     codes::put_edited(answer, len)
+}
+
+#[no_mangle]
+pub extern "C" fn backref_holds_inline_data_ref(
+    item_type: u8,
+    body: &[u8],
+    tree: u64,
+    objectid: u64,
+    offset: u64,
+    holds: &mut u64,
+) -> u32
+    ensures { λ r. ⌜ CodedBool (holdsInlineDataRef «item_type» (now (body .entry)) (record { tree = tree; objectid = objectid; offset = offset })) r (now (holds .exit)) ⌝ }
+{
+    let answer = backref::holds_inline_data_ref(
+        item_type,
+        body,
+        DataRef {
+            tree,
+            objectid,
+            offset,
+        },
+    );
+    codes::put_judged(answer, holds)
 }
 
 #[no_mangle]
