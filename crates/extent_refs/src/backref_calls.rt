@@ -1,0 +1,238 @@
+// Bodies: the calls of `backref.rs`.
+ghost use mathlib.Core.Path.{_≡_};
+ghost use lib.ListN.{length};
+ghost use Rattle.format.specs.Bodies.{heldBody, flags, addInlineKeyed, dropInlineDataRef, lowerTotal, reduceTotal, raiseTotal, holdsInlineDataRef, addInlineDataRef, addInlineTreeRef, addInlineShared, dropInlineTreeRef, withFlags};
+ghost use Rattle.extent_refs.specs.Exports.{Coded, CodedBool, CodedNumber};
+use super::codes;
+use format::BlockRef;
+use format::DataRef;
+use format::Keyed;
+use format::SharedRef;
+
+#[no_mangle]
+pub extern "C" fn backref_flags(body: &[u8], value: &mut u64) -> u32
+    ensures { λ r. ⌜ CodedNumber (flags (now (body .entry))) r (now (value .exit)) ⌝ }
+{
+    let answer = backref::flags(body);
+    codes::put_told(answer, value)
+}
+
+#[no_mangle]
+pub extern "C" fn backref_add_inline_keyed_block(
+    item_type: u8,
+    body: &[u8],
+    tree: u64,
+    count: u32,
+    out: &mut [u8],
+    len: &mut u64,
+) -> u32
+    ensures { λ r. ⌜ Coded (heldBody (length (now (out .entry))) (addInlineKeyed «item_type» (now (body .entry)) (Keyed.Block (record { tree = tree })) count)) r (now (len .exit)) (now (out .entry)) (now (out .exit)) ⌝ }
+{
+    let answer = backref::add_inline_keyed(
+        item_type,
+        body,
+        Keyed::Block(BlockRef { tree }),
+        count,
+        out,
+    );
+    codes::put_edited(answer, len)
+}
+
+#[no_mangle]
+pub extern "C" fn backref_add_inline_keyed_data(
+    item_type: u8,
+    body: &[u8],
+    tree: u64,
+    objectid: u64,
+    offset: u64,
+    count: u32,
+    out: &mut [u8],
+    len: &mut u64,
+) -> u32
+    ensures { λ r. ⌜ Coded (heldBody (length (now (out .entry))) (addInlineKeyed «item_type» (now (body .entry)) (Keyed.Data (record { tree = tree; objectid = objectid; offset = offset })) count)) r (now (len .exit)) (now (out .entry)) (now (out .exit)) ⌝ }
+{
+    let answer = backref::add_inline_keyed(
+        item_type,
+        body,
+        Keyed::Data(DataRef {
+            tree,
+            objectid,
+            offset,
+        }),
+        count,
+        out,
+    );
+    codes::put_edited(answer, len)
+}
+
+#[no_mangle]
+pub extern "C" fn backref_drop_inline_data_ref(
+    item_type: u8,
+    body: &[u8],
+    tree: u64,
+    objectid: u64,
+    offset: u64,
+    out: &mut [u8],
+    len: &mut u64,
+) -> u32
+    ensures { λ r. ⌜ Coded (heldBody (length (now (out .entry))) (dropInlineDataRef «item_type» (now (body .entry)) (record { tree = tree; objectid = objectid; offset = offset }))) r (now (len .exit)) (now (out .entry)) (now (out .exit)) ⌝ }
+{
+    let answer = backref::drop_inline_data_ref(
+        item_type,
+        body,
+        DataRef {
+            tree,
+            objectid,
+            offset,
+        },
+        out,
+    );
+    codes::put_edited(answer, len)
+}
+
+#[no_mangle]
+pub extern "C" fn backref_lower_total(
+    item_type: u8,
+    body: &[u8],
+    out: &mut [u8],
+    len: &mut u64,
+) -> u32
+    ensures { λ r. ⌜ Coded (heldBody (length (now (out .entry))) (lowerTotal (now (body .entry)))) r (now (len .exit)) (now (out .entry)) (now (out .exit)) ⌝ }
+{
+    let answer = backref::lower_total(body, out);
+    codes::put_edited(answer, len)
+}
+
+#[no_mangle]
+pub extern "C" fn backref_reduce_total(
+    item_type: u8,
+    body: &[u8],
+    total_count: u64,
+    out: &mut [u8],
+    len: &mut u64,
+) -> u32
+    ensures { λ r. ⌜ Coded (heldBody (length (now (out .entry))) (reduceTotal (now (body .entry)) «total_count»)) r (now (len .exit)) (now (out .entry)) (now (out .exit)) ⌝ }
+{
+    let answer = backref::reduce_total(body, total_count, out);
+    codes::put_edited(answer, len)
+}
+
+#[no_mangle]
+pub extern "C" fn backref_raise_total(
+    item_type: u8,
+    body: &[u8],
+    total_count: u64,
+    out: &mut [u8],
+    len: &mut u64,
+) -> u32
+    ensures { λ r. ⌜ Coded (heldBody (length (now (out .entry))) (raiseTotal (now (body .entry)) «total_count»)) r (now (len .exit)) (now (out .entry)) (now (out .exit)) ⌝ }
+{
+    let answer = backref::raise_total(body, total_count, out);
+    codes::put_edited(answer, len)
+}
+
+#[no_mangle]
+pub extern "C" fn backref_holds_inline_data_ref(
+    item_type: u8,
+    body: &[u8],
+    tree: u64,
+    objectid: u64,
+    offset: u64,
+    holds: &mut u64,
+) -> u32
+    ensures { λ r. ⌜ CodedBool (holdsInlineDataRef «item_type» (now (body .entry)) (record { tree = tree; objectid = objectid; offset = offset })) r (now (holds .exit)) ⌝ }
+{
+    let answer = backref::holds_inline_data_ref(
+        item_type,
+        body,
+        DataRef {
+            tree,
+            objectid,
+            offset,
+        },
+    );
+    codes::put_judged(answer, holds)
+}
+
+#[no_mangle]
+pub extern "C" fn backref_add_inline_data_ref(
+    item_type: u8,
+    body: &[u8],
+    tree: u64,
+    objectid: u64,
+    offset: u64,
+    out: &mut [u8],
+    len: &mut u64,
+) -> u32
+    ensures { λ r. ⌜ Coded (heldBody (length (now (out .entry))) (addInlineDataRef «item_type» (now (body .entry)) (record { tree = tree; objectid = objectid; offset = offset }))) r (now (len .exit)) (now (out .entry)) (now (out .exit)) ⌝ }
+{
+    let answer = backref::add_inline_data_ref(
+        item_type,
+        body,
+        DataRef {
+            tree,
+            objectid,
+            offset,
+        },
+        out,
+    );
+    codes::put_edited(answer, len)
+}
+
+#[no_mangle]
+pub extern "C" fn backref_add_inline_tree_ref(
+    item_type: u8,
+    body: &[u8],
+    tree: u64,
+    out: &mut [u8],
+    len: &mut u64,
+) -> u32
+    ensures { λ r. ⌜ Coded (heldBody (length (now (out .entry))) (addInlineTreeRef «item_type» (now (body .entry)) (record { tree = tree }))) r (now (len .exit)) (now (out .entry)) (now (out .exit)) ⌝ }
+{
+    let answer = backref::add_inline_tree_ref(item_type, body, tree, out);
+    codes::put_edited(answer, len)
+}
+
+#[no_mangle]
+pub extern "C" fn backref_add_inline_shared(
+    item_type: u8,
+    body: &[u8],
+    kind: u8,
+    parent: u64,
+    count: u32,
+    out: &mut [u8],
+    len: &mut u64,
+) -> u32
+    ensures { λ r. ⌜ Coded (heldBody (length (now (out .entry))) (addInlineShared «item_type» (now (body .entry)) (record { kind = kind; parent = parent }) count)) r (now (len .exit)) (now (out .entry)) (now (out .exit)) ⌝ }
+{
+    let answer = backref::add_inline_shared(
+        item_type,
+        body,
+        SharedRef { kind, parent },
+        count,
+        out,
+    );
+    codes::put_edited(answer, len)
+}
+
+#[no_mangle]
+pub extern "C" fn backref_drop_inline_tree_ref(
+    item_type: u8,
+    body: &[u8],
+    tree: u64,
+    out: &mut [u8],
+    len: &mut u64,
+) -> u32
+    ensures { λ r. ⌜ Coded (heldBody (length (now (out .entry))) (dropInlineTreeRef «item_type» (now (body .entry)) (record { tree = tree }))) r (now (len .exit)) (now (out .entry)) (now (out .exit)) ⌝ }
+{
+    let answer = backref::drop_inline_tree_ref(item_type, body, tree, out);
+    codes::put_edited(answer, len)
+}
+
+#[no_mangle]
+pub extern "C" fn backref_with_flags(body: &[u8], set: u64, out: &mut [u8], len: &mut u64) -> u32
+    ensures { λ r. ⌜ Coded (heldBody (length (now (out .entry))) (withFlags (now (body .entry)) set)) r (now (len .exit)) (now (out .entry)) (now (out .exit)) ⌝ }
+{
+    let answer = backref::with_flags(body, set, out);
+    codes::put_edited(answer, len)
+}
