@@ -19,7 +19,7 @@ use Rattle.inline_refs.specs.declared.step.Step.the-variants.{Ref as Who
 use Rattle.inline_refs.specs.Steps.{rowFrom, stepRow, stepAt, readFrom}
 
 -- by the value of a test, with its equation
-pub by-test : {P : Type 0} (b : Bool) → (b ≡ true → P) → (b ≡ false → P) → P
+pub by-test {ℓ} : {P : Type ℓ} (b : Bool) → (b ≡ true → P) → (b ≡ false → P) → P
 by-test true f g = f refl
 by-test false f g = g refl
 

@@ -1,0 +1,5 @@
+pub mod Writes
+pub mod Outcomes
+pub mod Heads
+pub mod Sites
+pub mod Takes

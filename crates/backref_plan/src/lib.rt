@@ -1,0 +1,16 @@
+// Plans of the calls on bodies, and the one writer of them.
+mod bytes;
+mod drops;
+mod plan;
+mod totals;
+mod write;
+
+pub use drops::plan_drop_inline;
+pub use plan::Outcome;
+pub use plan::Plan;
+pub use totals::plan_lower_total;
+pub use totals::plan_raise_total;
+pub use totals::plan_reduce_total;
+pub use totals::plan_with_flags;
+pub use write::plan_length;
+pub use write::write_plan;
