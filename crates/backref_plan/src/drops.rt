@@ -1,9 +1,9 @@
 // Plans that take references away.
+use crate::plan::Outcome;
+use crate::plan::Plan;
 use crate::plan::edit;
 use crate::plan::refuse;
 use crate::plan::without;
-use crate::plan::Outcome;
-use crate::plan::Plan;
 use format::SharedRef;
 use inline_refs::Found;
 use inline_refs::Scan;

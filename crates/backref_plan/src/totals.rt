@@ -1,8 +1,8 @@
 // Plans that read no references: the item's type plays no part in them.
-use crate::plan::edit;
-use crate::plan::refuse;
 use crate::plan::Outcome;
 use crate::plan::Plan;
+use crate::plan::edit;
+use crate::plan::refuse;
 ghost use mathlib.Core.Path.{_≡_};
 ghost use mathlib.Core.List.{[]};
 ghost use lib.ListN.{length, replicate};
