@@ -3,3 +3,4 @@ pub mod Outcomes
 pub mod Heads
 pub mod Sites
 pub mod Takes
+pub mod Gives

@@ -1,13 +1,17 @@
 // Plans of the calls on bodies, and the one writer of them.
+mod adds;
 mod bytes;
 mod drops;
 mod plan;
 mod totals;
 mod write;
 
+pub use adds::plan_add_inline;
+pub use adds::plan_add_keyed;
 pub use drops::plan_drop_inline;
 pub use plan::Outcome;
 pub use plan::Plan;
+pub use plan::refuse;
 pub use totals::plan_lower_total;
 pub use totals::plan_raise_total;
 pub use totals::plan_reduce_total;

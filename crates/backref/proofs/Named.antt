@@ -1,0 +1,37 @@
+-- The plans by wanted name, as the definitions have them; and a planned call's answer. Assumes nothing.
+use mathlib.Core.Path.{_≡_, refl, sym, subst, _∙_}
+use mathlib.Core.Bool.{true, false}
+use mathlib.Core.List.{List}
+use Prim.Native.Nat.{ℕ}
+use borrow.Author.Tests.{ne-eqb}
+use Rattle.format.specs.declared.Edited.{Edited}
+use Rattle.format.specs.declared.BlockRef.{BlockRef}
+use Rattle.format.specs.declared.DataRef.{DataRef}
+use Rattle.format.specs.declared.SharedRef.{SharedRef}
+use Rattle.format.specs.Questions.{Answer, refused, ask, Answered}
+use Rattle.format.specs.References.{placeOf}
+use Rattle.format.specs.Bodies.{heldBody, sharedKind, dropInlineTreeRef, dropInlineDataRef, addInlineTreeRef, addInlineData, addInlineShared}
+use Rattle.inline_refs.specs.Scans.{kindOf, fieldsOf}
+use Rattle.inline_refs.specs.declared.wanted.Wanted.the-variants.{Block, Data, SharedBlock, SharedData}
+use Rattle.backref_plan.specs.declared.plan.Plan.{Plan}
+use Rattle.backref_plan.specs.declared.plan.Outcome.the-variants.{Refused}
+use Rattle.backref_plan.specs.Plans.{planAnswer, Planned}
+use Rattle.backref_plan.specs.Adds.{ownPlace, spotOf, addInline}
+use Rattle.backref_plan.proofs.Outcomes.{plan-refused, plan-same}
+
+pub answered : {p : Plan} {body : List ℕ} {a : Answer (List ℕ)} (room : ℕ) {r : Edited} {old new : List ℕ} → Planned p body a
+    → Answered (heldBody room (planAnswer p body)) r old new → Answered (heldBody room a) r old new
+answered room {r} {old} {new} h w = subst (λ (x : Answer (List ℕ)). Answered (heldBody room x) r old new) (h .says) w
+
+module _ (type : ℕ) (d : List ℕ) (s : SharedRef) (amount : ℕ) (plan : Plan) where
+  pub shared-block : s .kind ≡ 182 → Planned plan d (addInline type d (SharedBlock (s .parent)) amount false) → Planned plan d (addInlineShared type d s amount)
+  unfolding addInlineShared addInline spotOf ownPlace placeOf kindOf fieldsOf sharedKind ask
+  shared-block e h = plan-same plan d _ _ (rw e refl) h
+
+  pub shared-data : s .kind ≡ 184 → Planned plan d (addInline type d (SharedData (s .parent)) amount false) → Planned plan d (addInlineShared type d s amount)
+  unfolding addInlineShared addInline spotOf ownPlace placeOf kindOf fieldsOf sharedKind ask
+  shared-data e h = plan-same plan d _ _ (rw e refl) h
+
+  pub shared-other : (s .kind ≡ 182 → ⊥) → (s .kind ≡ 184 → ⊥) → plan .outcome ≡ Refused 3 → Planned plan d (addInlineShared type d s amount)
+  unfolding addInlineShared sharedKind ask
+  shared-other h k o = plan-refused plan d _ 3 o (simp (ne-eqb _ _ h, ne-eqb _ _ k))

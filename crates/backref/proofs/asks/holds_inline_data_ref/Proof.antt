@@ -1,0 +1,35 @@
+use mathlib.Core.Path.{sym, _∙_}
+use denote.Ref.{now}
+use Rattle.inline_refs.specs.declared.wanted.Wanted.the-variants.{Data}
+use Rattle.backref_plan.proofs.Sites.{scan-reads}
+use Rattle.backref.proofs.Told.{holds-fault, holds-no, holds-yes}
+use borrow.Author.Needs.{needs}
+use Rattle.backref.proofs.asks.holds_inline_data_ref.Statement.{statement}
+use Rattle.backref.proofs.asks.holds_inline_data_ref.Tie as tie
+
+returns : tie.Need-returns
+returns c =
+    let hit = c .before .before in
+    let seen = hit .before .before in
+    let scan = seen .before .before in
+    let a = scan .before .before .args in
+    let r = scan-reads (a .item-type) (now (a .body)) (Data (a .name)) 0 _ (sym (seen .seen .given .1) ∙ scan .scan-body .ensures) in
+    holds-no (a .item-type) (now (a .body)) (a .name) _ r (sym (c .enum-told2 .given .1) ∙ hit .hit-of .ensures)
+
+returns-2 : tie.Need-returns-2
+returns-2 c =
+    let scan = c .before .before .before in
+    let a = scan .before .before .args in
+    holds-fault (a .item-type) (now (a .body)) (a .name) _ (sym (c .before .number .given .1) ∙ scan .scan-body .ensures)
+
+returns-3 : tie.Need-returns-3
+returns-3 c =
+    let hit = c .before .before in
+    let seen = hit .before .before in
+    let scan = seen .before .before in
+    let a = scan .before .before .args in
+    let r = scan-reads (a .item-type) (now (a .body)) (Data (a .name)) 0 _ (sym (seen .seen .given .1) ∙ scan .scan-body .ensures) in
+    holds-yes (a .item-type) (now (a .body)) (a .name) _ r _ _ _ (sym (c .enum-told .given .1) ∙ hit .hit-of .ensures)
+
+pub holds-inline-data-ref-spec : {M : Type 1} → statement M
+holds-inline-data-ref-spec = tie.close (tie.spec (λ c κs. search needs) (λ c. search needs) (λ c. search needs) (λ c κs. search needs) (λ c. search needs) (λ c. search needs) returns returns-2 returns-3)

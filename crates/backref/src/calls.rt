@@ -1,0 +1,92 @@
+// The calls that write an edited body to a lent output.
+use format::BlockRef;
+use format::DataRef;
+use format::Edited;
+use format::Keyed;
+use format::SharedRef;
+ghost use mathlib.Core.Path.{_≡_};
+ghost use lib.ListN.{length};
+ghost use Rattle.format.specs.Questions.{Answered};
+ghost use Rattle.format.specs.Bodies.{heldBody, raiseTotal, lowerTotal, reduceTotal, withFlags, dropInlineTreeRef, dropInlineDataRef, addInlineTreeRef, addInlineDataRef, addInlineShared, addInlineKeyed};
+
+pub fn raise_total(body: &[u8], amount: u64, out: &mut [u8]) -> Edited
+    ensures { λ r. ⌜ Answered (heldBody (length (now (out .entry))) (raiseTotal (now (body .entry)) amount)) r (now (out .entry)) (now (out .exit)) ⌝ }
+{
+    let plan = backref_plan::plan_raise_total(body, amount);
+    backref_plan::write_plan(body, plan, out)
+}
+
+pub fn lower_total(body: &[u8], out: &mut [u8]) -> Edited
+    ensures { λ r. ⌜ Answered (heldBody (length (now (out .entry))) (lowerTotal (now (body .entry)))) r (now (out .entry)) (now (out .exit)) ⌝ }
+{
+    let plan = backref_plan::plan_lower_total(body);
+    backref_plan::write_plan(body, plan, out)
+}
+
+pub fn reduce_total(body: &[u8], amount: u64, out: &mut [u8]) -> Edited
+    ensures { λ r. ⌜ Answered (heldBody (length (now (out .entry))) (reduceTotal (now (body .entry)) amount)) r (now (out .entry)) (now (out .exit)) ⌝ }
+{
+    let plan = backref_plan::plan_reduce_total(body, amount);
+    backref_plan::write_plan(body, plan, out)
+}
+
+pub fn with_flags(body: &[u8], set: u64, out: &mut [u8]) -> Edited
+    ensures { λ r. ⌜ Answered (heldBody (length (now (out .entry))) (withFlags (now (body .entry)) set)) r (now (out .entry)) (now (out .exit)) ⌝ }
+{
+    let plan = backref_plan::plan_with_flags(body, set);
+    backref_plan::write_plan(body, plan, out)
+}
+
+pub fn drop_inline_tree_ref(item_type: u8, body: &[u8], tree: u64, out: &mut [u8]) -> Edited
+    ensures { λ r. ⌜ Answered (heldBody (length (now (out .entry))) (dropInlineTreeRef «item_type» (now (body .entry)) (record { tree = tree }))) r (now (out .entry)) (now (out .exit)) ⌝ }
+{
+    let plan = crate::plans::plan_drop_tree(item_type, body, BlockRef { tree });
+    backref_plan::write_plan(body, plan, out)
+}
+
+pub fn drop_inline_data_ref(item_type: u8, body: &[u8], name: DataRef, out: &mut [u8]) -> Edited
+    ensures { λ r. ⌜ Answered (heldBody (length (now (out .entry))) (dropInlineDataRef «item_type» (now (body .entry)) name)) r (now (out .entry)) (now (out .exit)) ⌝ }
+{
+    let plan = crate::plans::plan_drop_data(item_type, body, name);
+    backref_plan::write_plan(body, plan, out)
+}
+
+pub fn add_inline_tree_ref(item_type: u8, body: &[u8], tree: u64, out: &mut [u8]) -> Edited
+    ensures { λ r. ⌜ Answered (heldBody (length (now (out .entry))) (addInlineTreeRef «item_type» (now (body .entry)) (record { tree = tree }))) r (now (out .entry)) (now (out .exit)) ⌝ }
+{
+    let plan = crate::plans::plan_add_tree(item_type, body, BlockRef { tree });
+    backref_plan::write_plan(body, plan, out)
+}
+
+pub fn add_inline_data_ref(item_type: u8, body: &[u8], name: DataRef, out: &mut [u8]) -> Edited
+    ensures { λ r. ⌜ Answered (heldBody (length (now (out .entry))) (addInlineDataRef «item_type» (now (body .entry)) name)) r (now (out .entry)) (now (out .exit)) ⌝ }
+{
+    let plan = crate::plans::plan_add_data(item_type, body, name, 1);
+    backref_plan::write_plan(body, plan, out)
+}
+
+pub fn add_inline_shared(
+    item_type: u8,
+    body: &[u8],
+    name: SharedRef,
+    count: u32,
+    out: &mut [u8],
+) -> Edited
+    ensures { λ r. ⌜ Answered (heldBody (length (now (out .entry))) (addInlineShared «item_type» (now (body .entry)) name count)) r (now (out .entry)) (now (out .exit)) ⌝ }
+{
+    let plan = crate::plans::plan_add_shared(item_type, body, name, count);
+    backref_plan::write_plan(body, plan, out)
+}
+
+pub fn add_inline_keyed(
+    item_type: u8,
+    body: &[u8],
+    keyed: Keyed,
+    count: u32,
+    out: &mut [u8],
+) -> Edited
+    ensures { λ r. ⌜ Answered (heldBody (length (now (out .entry))) (addInlineKeyed «item_type» (now (body .entry)) keyed count)) r (now (out .entry)) (now (out .exit)) ⌝ }
+{
+    let plan = crate::plans::plan_add_keyed_name(item_type, body, keyed, count);
+    backref_plan::write_plan(body, plan, out)
+}

@@ -1,0 +1,23 @@
+// The calls on bodies: each plans its edit and writes it.
+mod asks;
+mod calls;
+mod plans;
+
+pub use asks::flags;
+pub use asks::holds_inline_data_ref;
+pub use calls::add_inline_data_ref;
+pub use calls::add_inline_keyed;
+pub use calls::add_inline_shared;
+pub use calls::add_inline_tree_ref;
+pub use calls::drop_inline_data_ref;
+pub use calls::drop_inline_tree_ref;
+pub use calls::lower_total;
+pub use calls::raise_total;
+pub use calls::reduce_total;
+pub use calls::with_flags;
+pub use plans::plan_add_data;
+pub use plans::plan_add_keyed_name;
+pub use plans::plan_add_shared;
+pub use plans::plan_add_tree;
+pub use plans::plan_drop_data;
+pub use plans::plan_drop_tree;

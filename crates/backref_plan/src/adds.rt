@@ -1,0 +1,150 @@
+// Plans that add references. The total and the count are compared before they are summed, so that no sum wraps.
+use crate::plan::Plan;
+use crate::plan::edit;
+use crate::plan::refuse;
+use inline_refs::Scan;
+use inline_refs::Seen;
+use inline_refs::Site;
+use inline_refs::Wanted;
+ghost use mathlib.Core.Path.{_≡_};
+ghost use mathlib.Core.Bool.{_||_, not};
+ghost use lib.Dec.{eqb};
+ghost use Rattle.format.specs.References.{counted};
+ghost use Rattle.inline_refs.specs.Scans.{kindOf, fieldsOf};
+ghost use Rattle.backref_plan.specs.Plans.{Planned};
+ghost use Rattle.backref_plan.specs.Adds.{ownPlace, siteOf, addInline, addKeyed};
+
+// Whether references of the wanted kind have a count.
+fn counts(wanted: Wanted) -> bool
+    ensures { λ r. ⌜ r ≡ counted (kindOf wanted) ⌝ }
+{
+    match wanted {
+        Wanted::Block(_) => false,
+        Wanted::Data(_) => true,
+        Wanted::SharedBlock(_) => false,
+        Wanted::SharedData(_) => true,
+    }
+}
+
+// Question 10: amount 1 where the kind has no count.
+fn may_add(wanted: Wanted, amount: u32) -> bool
+    ensures { λ r. ⌜ r ≡ counted (kindOf wanted) || eqb amount 1 ⌝ }
+{
+    if counts(wanted) {
+        return true;
+    }
+    amount == 1
+}
+
+// What the wanted reference is ordered by.
+fn own_place(wanted: Wanted) -> u64
+    ensures { λ r. ⌜ r ≡ ownPlace wanted ⌝ }
+{
+    match wanted {
+        Wanted::Block(name) => name.tree,
+        Wanted::Data(name) => extent_write::data_ref_hash(name.tree, name.objectid, name.offset),
+        Wanted::SharedBlock(parent) => parent,
+        Wanted::SharedData(parent) => parent,
+    }
+}
+
+fn site_of(seen: Seen, end: usize, by_scan: bool) -> Site
+    ensures { λ r. ⌜ r ≡ siteOf «by_scan» end seen ⌝ }
+{
+    if by_scan {
+        return inline_refs::site_by_scan(seen, end);
+    }
+    inline_refs::site_anywhere(seen, end)
+}
+
+// The amount is added at one name, and to the total.
+pub fn plan_add_inline(
+    item_type: u8,
+    body: &[u8],
+    wanted: Wanted,
+    amount: u32,
+    by_scan: bool,
+) -> Plan
+    ensures { λ r. ⌜ Planned r (now (body .entry)) (addInline «item_type» (now (body .entry)) wanted amount «by_scan») ⌝ }
+{
+    match inline_refs::scan_body(item_type, body, wanted, own_place(wanted)) {
+        Scan::Fault(number) => refuse(number),
+        Scan::Read(seen) => {
+            let total = fields::get_u64_le(body, 0);
+            let more = amount as u64;
+            match site_of(seen, body.len(), by_scan) {
+                Site::Gap(at) => {
+                    if !may_add(wanted, amount) {
+                        return refuse(10);
+                    }
+                    if 18446744073709551615 - more < total {
+                        return refuse(12);
+                    }
+                    let new = crate::bytes::bytes_of(wanted, amount);
+                    edit(at, at, new, crate::bytes::size_of(wanted), total + more, 0)
+                }
+                Site::Standing { at, next, weight } => {
+                    if !counts(wanted) {
+                        return refuse(9);
+                    }
+                    if 4294967295 - amount < weight {
+                        return refuse(11);
+                    }
+                    if 18446744073709551615 - more < total {
+                        return refuse(12);
+                    }
+                    let new = crate::bytes::bytes_of(wanted, weight + amount);
+                    edit(
+                        at,
+                        next,
+                        new,
+                        crate::bytes::size_of(wanted),
+                        total + more,
+                        0,
+                    )
+                }
+            }
+        }
+    }
+}
+
+// Question 10 of a keyed reference: no other one of its kind stands, if the kind has a count.
+fn may_key(wanted: Wanted, kin: bool) -> bool
+    ensures { λ r. ⌜ r ≡ not (counted (kindOf wanted)) || not kin ⌝ }
+{
+    if counts(wanted) {
+        return !kin;
+    }
+    true
+}
+
+// The same where the total stays.
+pub fn plan_add_keyed(item_type: u8, body: &[u8], wanted: Wanted, place: u64, amount: u32) -> Plan
+    ensures { λ r. ⌜ Planned r (now (body .entry)) (addKeyed «item_type» (now (body .entry)) wanted place amount) ⌝ }
+{
+    match inline_refs::scan_body(item_type, body, wanted, place) {
+        Scan::Fault(number) => refuse(number),
+        Scan::Read(seen) => {
+            let total = fields::get_u64_le(body, 0);
+            match inline_refs::site_anywhere(seen, body.len()) {
+                Site::Gap(at) => {
+                    if !may_key(wanted, inline_refs::any_kin(seen)) {
+                        return refuse(10);
+                    }
+                    let new = crate::bytes::bytes_of(wanted, amount);
+                    edit(at, at, new, crate::bytes::size_of(wanted), total, 0)
+                }
+                Site::Standing { at, next, weight } => {
+                    if !counts(wanted) {
+                        return refuse(9);
+                    }
+                    if 4294967295 - amount < weight {
+                        return refuse(11);
+                    }
+                    let new = crate::bytes::bytes_of(wanted, weight + amount);
+                    edit(at, next, new, crate::bytes::size_of(wanted), total, 0)
+                }
+            }
+        }
+    }
+}
