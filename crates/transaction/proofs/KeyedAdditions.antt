@@ -30,7 +30,7 @@ use Rattle.backref_plan.specs.Plans.{planAnswer, Planned}
 use Rattle.record_edit.specs.Records.{dataOf, heldEdit}
 use Rattle.transaction.specs.declared.Spot.the-variants.{Refused}
 use Rattle.transaction.specs.Spots.{spotOf, withBody}
-use Rattle.transaction.specs.Keyed.{unread, keyedPlan, larger}
+use Rattle.transaction.specs.Keyed.{unread, keyedPlan, larger, limitFor}
 use Rattle.transaction.proofs.Spots.{Standing, spot-refused, stands-answer}
 use Rattle.transaction.proofs.Records.{put-answered}
 
@@ -43,6 +43,14 @@ larger-second a b h = rw (lt-ltb a b h)
 pub larger-first : (a b : ℕ) → b ≤ a → a ≡ larger a b
 unfolding larger
 larger-first a b h = rw (le-ltb a b h)
+
+pub limit-grown : (nodesize size limit r : ℕ) (grown : Bool) → grown ≡ true → limit ≡ inlineLimit nodesize → r ≡ larger size limit → r ≡ limitFor nodesize size grown
+unfolding limitFor
+limit-grown nodesize size limit r grown e l h = rw e (h ∙ ap (larger size) l)
+
+pub limit-always : (nodesize size limit : ℕ) (grown : Bool) → grown ≡ false → limit ≡ inlineLimit nodesize → limit ≡ limitFor nodesize size grown
+unfolding limitFor
+limit-always nodesize size limit grown e l = rw e l
 
 -- "only if the body grew" is one limit
 pub either : (n a b : ℕ) → (leb n a || leb n b) ≡ leb n (larger a b)
@@ -135,18 +143,18 @@ module _ (nodesize : ℕ) {s : List ℕ} {extent number start end n : ℕ} (st :
       ∙ ap accepted (sym (st .same)))
       (st .bytes-are) (st .count) (st .fit) w
 
-  pub keyed-add-answered : (key : Key) (limit own : ℕ) (plan : Plan) (r : Edited) (old new : List ℕ)
+  pub keyed-add-answered : (key : Key) (limit : ℕ) (plan : Plan) (r : Edited) (old new : List ℕ)
       → unread keyed count asItem ≡ false
       → key ≡ itemAt s start .key
-      → own ≡ inlineLimit nodesize
-      → limit ≡ larger (end - (start + 21)) own
+      → limit ≡ limitFor nodesize (end - (start + 21)) true
       → Planned plan (dataOf s start end) (keyedPlan (record { key = key; bytes = dataOf s start end }) keyed count asItem)
       → Answered (bind (planAnswer plan (dataOf s start end)) (heldEdit room n limit (withBody s start end))) r old new
       → Answered (heldSheet room (applyKeyedAddTo nodesize s extent keyed count asItem)) r old new
-  keyed-add-answered key limit own plan r old new e key-is own-is limit-is p w =
+  unfolding limitFor
+  keyed-add-answered key limit plan r old new e key-is limit-is p w =
       let same : record { key = key; bytes = dataOf s start end } ≡ hit = (λ j. record { key = key-is j; bytes = dataOf s start end }) ∙ sym (st .hit-is) in
       let long : length (hit .bytes) ≡ end - (start + 21) = let a = st .starts in let b = st .ends in omega arith in
-      let limits : limit ≡ larger (length (hit .bytes)) (inlineLimit nodesize) = limit-is ∙ (λ j. larger (sym long j) (own-is j)) in
+      let limits : limit ≡ larger (length (hit .bytes)) (inlineLimit nodesize) = limit-is ∙ ap (λ (n : ℕ). larger n (inlineLimit nodesize)) (sym long) in
       put-answered st room limit plan (keyedBody hit keyed count asItem) test _ r old new
       (λ d f. either (length d) (length (hit .bytes)) (inlineLimit nodesize) ∙ ap (leb (length d)) (sym limits)) keyed-is
       (p .says ∙ ap (λ (i : Item). keyedPlan i keyed count asItem) same ∙ body-read hit keyed count asItem e) w

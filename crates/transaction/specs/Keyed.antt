@@ -8,6 +8,7 @@ use Rattle.format.specs.declared.Keyed.the-variants.{Block, Data}
 use Rattle.format.specs.Questions.{Answer}
 use Rattle.format.specs.Bodies.{raiseTotal, addInlineTreeRef, addInlineData}
 use Rattle.format.specs.Items.{Item}
+use Rattle.format.specs.Apply.{inlineLimit}
 
 -- "its Data case inline with amount 0 leaves the body unread"
 unfoldable pub unread : Keyed → ℕ → Bool → Bool
@@ -23,3 +24,8 @@ keyedPlan i (Data d) count false = addInlineData (i .key .kind) (i .bytes) d cou
 
 unfoldable pub larger : ℕ → ℕ → ℕ
 larger a b = cond (ltb a b) b a
+
+-- what question 17 asks of a body that had so many bytes: "only if the body grew", or always
+unfoldable pub limitFor : ℕ → ℕ → Bool → ℕ
+limitFor nodesize size true = larger size (inlineLimit nodesize)
+limitFor nodesize size false = inlineLimit nodesize

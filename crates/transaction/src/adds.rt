@@ -14,7 +14,7 @@ ghost use Rattle.format.specs.Bodies.{sharedKind};
 ghost use Rattle.format.specs.Items.{nodesizeFits, heldSheet};
 ghost use Rattle.format.specs.Apply.{inlineLimit, sharedBody, applyKeyedAddTo, applySharedAddTo};
 ghost use Rattle.backref_plan.specs.Plans.{Planned};
-ghost use Rattle.transaction.specs.Keyed.{unread, keyedPlan, larger};
+ghost use Rattle.transaction.specs.Keyed.{unread, keyedPlan, larger, limitFor};
 
 // "(nodesize - 101) / 16, rounded down, minus 25"
 pub fn inline_limit(nodesize: u32) -> usize
@@ -24,6 +24,26 @@ pub fn inline_limit(nodesize: u32) -> usize
         return 0;
     }
     ((nodesize - 101) / 16 - 25) as usize
+}
+
+fn larger_of(a: usize, b: usize) -> usize
+    ensures { λ r. ⌜ r ≡ larger a b ⌝ }
+{
+    if a < b {
+        return b;
+    }
+    a
+}
+
+// What question 17 asks of a body that had `size` bytes. Asked only if it grew, the body may stay as long as it was.
+fn limit_for(nodesize: u32, size: usize, grown_only: bool) -> usize
+    ensures { λ r. ⌜ r ≡ limitFor nodesize size «grown_only» ⌝ }
+{
+    let limit = inline_limit(nodesize);
+    if grown_only {
+        return larger_of(size, limit);
+    }
+    limit
 }
 
 // Question 3 of a shared kind.
@@ -78,7 +98,7 @@ pub fn apply_shared_add(
         } => {
             let key = item_list::key_at(sheet, start);
             let plan = plan_shared(key, &sheet[start + 21..end], name, count, as_item);
-            let limit = inline_limit(nodesize);
+            let limit = limit_for(nodesize, end - (start + 21), false);
             return stand::put_back(sheet, start, end, plan, limit, items, out);
         }
     }
@@ -110,15 +130,6 @@ fn plan_keyed(key: Key, body: &[u8], keyed: Keyed, count: u32, as_item: bool) ->
     }
 }
 
-fn larger_of(a: usize, b: usize) -> usize
-    ensures { λ r. ⌜ r ≡ larger a b ⌝ }
-{
-    if a < b {
-        return b;
-    }
-    a
-}
-
 // A reference that names a tree added to an extent's record. The inline limit is asked only if the body grew.
 pub fn apply_keyed_add(
     nodesize: u32,
@@ -145,7 +156,7 @@ pub fn apply_keyed_add(
             }
             let key = item_list::key_at(sheet, start);
             let plan = plan_keyed(key, &sheet[start + 21..end], keyed, count, as_item);
-            let limit = larger_of(end - (start + 21), inline_limit(nodesize));
+            let limit = limit_for(nodesize, end - (start + 21), true);
             return stand::put_back(sheet, start, end, plan, limit, items, out);
         }
     }

@@ -51,25 +51,25 @@ part-plan-keyed-start c = let d = found (c .before .before .before) in let p = d
 part-plan-keyed-end : tie.Need-part-plan-keyed-end
 part-plan-keyed-end c = let d = found (c .before .before .before) in let p = d .ordered in let q = d .within in omega arith
 
-add-larger-of : tie.Need-add-larger-of
-add-larger-of c = let d = found (c .before .before .before .before .before) in let p = d .ordered in let q = d .within in omega arith
+add-limit-for : tie.Need-add-limit-for
+add-limit-for c = let d = found (c .before .before .before .before .before) in let p = d .ordered in let q = d .within in omega arith
 
-sub-larger-of : tie.Need-sub-larger-of
-sub-larger-of c = let d = found (c .before .before .before .before .before) in let p = d .ordered in omega arith
+sub-limit-for : tie.Need-sub-limit-for
+sub-limit-for c = let d = found (c .before .before .before .before .before) in let p = d .ordered in omega arith
 
 put-back-requires : tie.Need-put-back-requires
 put-back-requires c κs =
-    let d = found (c .before .before .before .before .before .before .before .before) in
-    (c .before .before .before .plan-keyed .ensures .inside, (d .ordered, d .within, d .small))
+    let d = found (c .before .before .before .before .before .before .before) in
+    (c .before .before .plan-keyed .ensures .inside, (d .ordered, d .within, d .small))
 
 returns-3 : tie.Need-returns-3
 returns-3 c =
-    let a = c .before .before .before .before .before .before .before .before .before .before .before .before .before .before .before .before .before .before .args in
-    keyed-add-answered (a .nodesize) (found (c .before .before .before .before .before .before .before .before .before .before .before)) (length (now (a .out))) (a .keyed) (a .count) (a .as-item) _ _ _ _ _ (now (a .out)) _
-    (sym (c .before .before .before .before .before .before .before .before .before .before .is-unread .ensures) ∙ c .before .before .before .before .before .before .before .before .before .if1 .left) (c .before .before .before .before .before .before .before .before .key-at .ensures) (c .before .before .before .before .before .inline-limit .ensures) (c .before .before .before .before .larger-of .ensures)
-    (c .before .before .before .before .before .before .plan-keyed .ensures) (c .before .before .put-back .ensures)
+    let a = c .before .before .before .before .before .before .before .before .before .before .before .before .before .before .before .before .before .args in
+    keyed-add-answered (a .nodesize) (found (c .before .before .before .before .before .before .before .before .before .before)) (length (now (a .out))) (a .keyed) (a .count) (a .as-item) _ _ _ _ (now (a .out)) _
+    (sym (c .before .before .before .before .before .before .before .before .before .is-unread .ensures) ∙ c .before .before .before .before .before .before .before .before .if1 .left) (c .before .before .before .before .before .before .before .key-at .ensures) (c .before .before .before .before .limit-for .ensures)
+    (c .before .before .before .before .before .plan-keyed .ensures) (c .before .before .put-back .ensures)
 
 pub apply-keyed-add-spec : {M : Type 1} → statement M
 apply-keyed-add-spec =
     tie.close
-    (tie.spec (λ c κs. search needs) (λ c κs. search needs) (λ c. search needs) returns (λ c. search needs) (λ c κs. search needs) remove-item-requires (λ c. search needs) returns-2 key-at-requires add-plan-keyed sub-plan-keyed part-plan-keyed-start part-plan-keyed-end (λ c κs. search needs) add-larger-of sub-larger-of (λ c κs. search needs) (λ c κs. search needs) put-back-requires (λ c. search needs) returns-3)
+    (tie.spec (λ c κs. search needs) (λ c κs. search needs) (λ c. search needs) returns (λ c. search needs) (λ c κs. search needs) remove-item-requires (λ c. search needs) returns-2 key-at-requires add-plan-keyed sub-plan-keyed part-plan-keyed-start part-plan-keyed-end (λ c κs. search needs) add-limit-for sub-limit-for (λ c κs. search needs) put-back-requires (λ c. search needs) returns-3)
