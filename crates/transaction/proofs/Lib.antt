@@ -1,0 +1,5 @@
+pub mod Spots
+pub mod Records
+pub mod Additions
+pub mod KeyedAdditions
+pub mod Takings
