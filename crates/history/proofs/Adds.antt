@@ -33,14 +33,14 @@ use Rattle.history.proofs.Facts.{named-entries, not-empty}
 use Rattle.history.proofs.Steps.{tidy, NameOk, Step, Here, on-record, on-body, ordered-at, long-at, inline-step, nowhere}
 
 -- what an accepted addition says, and the body that it makes
-record Added (b : Body) (r : Ref) (spot : Spot) (body : List ℕ) : Type 0 where
-  nine : T (counted (r .kind) || isGap spot)
-  ten : T (counted (r .kind) || eqb (r .weight) 1)
-  eleven : standingWeight spot + r .weight < 4294967296
-  twelve : b .total + r .weight < 18446744073709551616
-  made : bodyBytes (bodyWith b (b .total + r .weight) (addedAt r spot)) ≡ body
+pub record Added (b : Body) (r : Ref) (spot : Spot) (body : List ℕ) : Type 0 where
+  pub nine : T (counted (r .kind) || isGap spot)
+  pub ten : T (counted (r .kind) || eqb (r .weight) 1)
+  pub eleven : standingWeight spot + r .weight < 4294967296
+  pub twelve : b .total + r .weight < 18446744073709551616
+  pub made : bodyBytes (bodyWith b (b .total + r .weight) (addedAt r spot)) ≡ body
 
-added-out : (b : Body) (r : Ref) (spot : Spot) (body : List ℕ) → addAt b r spot ≡ accepted body → Added b r spot body
+pub added-out : (b : Body) (r : Ref) (spot : Spot) (body : List ℕ) → addAt b r spot ≡ accepted body → Added b r spot body
 unfolding addAt raisedBy
 added-out b r spot body e =
     let h₉ = ask-ok (counted (r .kind) || isGap spot) 9 _ e in

@@ -110,21 +110,21 @@ module _ (m : Name) (naming : Naming (m .kind)) (items : List Item) (c : Cut Ite
 
 -- ---- the first of a list, past what does not count
 
-abbrev first : {A : Type 0} → (A → Bool) → List A → Option A
+abbrev pub first : {A : Type 0} → (A → Bool) → List A → Option A
 first p [] = none
 first p (x ∷ l) = cond (p x) (some x) (first p l)
 
-first-at : {A : Type 0} (p : A → Bool) (a : List A) (x : A) (z : List A) → T (all (λ y. not (p y)) a) → T (p x)
+pub first-at : {A : Type 0} (p : A → Bool) (a : List A) (x : A) (z : List A) → T (all (λ y. not (p y)) a) → T (p x)
     → first p (a ++ x ∷ z) ≡ some x
 first-at p [] x z t h = cond-yes (p x) (some x) (first p z) h
 first-at p (y ∷ a) x z t h =
     let k = and-yes (not (p y)) _ t in
     cond-no (p y) (some y) (first p (a ++ x ∷ z)) (k .0) ∙ first-at p a x z (k .1) h
 
-first-found : {A : Type 0} (p : A → Bool) (l : List A) (c : Cut A) → Found p l c → first p l ≡ some (c .hit)
+pub first-found : {A : Type 0} (p : A → Bool) (l : List A) (c : Cut A) → Found p l c → first p l ≡ some (c .hit)
 first-found p l c f = ap (first p) (f .same) ∙ first-at p (c .front) (c .hit) (c .back) (f .miss) (f .hit)
 
-first-skip : {A : Type 0} (p : A → Bool) (a o z : List A) → T (all (λ x. not (p x)) o)
+pub first-skip : {A : Type 0} (p : A → Bool) (a o z : List A) → T (all (λ x. not (p x)) o)
     → first p (a ++ (o ++ z)) ≡ first p (a ++ z)
 first-skip p [] [] z t = refl
 first-skip p [] (x ∷ o) z t =
@@ -133,7 +133,7 @@ first-skip p [] (x ∷ o) z t =
 first-skip p (y ∷ a) o z t = ap (cond (p y) (some y)) (first-skip p a o z t)
 
 -- an item with a record's key is a record of that extent
-key-record : (x : ℕ) (r i : Item) → T (recordOf x r) → T (hasKey (r .key) i) → T (recordOf x i)
+pub key-record : (x : ℕ) (r i : Item) → T (recordOf x r) → T (hasKey (r .key) i) → T (recordOf x i)
 unfolding isRecord
 key-record x r i t h =
     subst (λ (k : Key). T ((eqb (k .kind) 168 || eqb (k .kind) 169) && eqb (k .objectid) x))

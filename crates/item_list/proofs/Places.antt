@@ -15,11 +15,12 @@ use Rattle.fields.proofs.Lists.{T-eq, all-map}
 use Rattle.format.specs.declared.Key.{Key}
 use Rattle.format.specs.Items.{Item, sameKey, keyBelow, above, rising, itemBytes, itemsBytes, sheetBytes}
 use Rattle.format.specs.Sheets.{hasKey, putBefore}
+use Rattle.format.specs.Apply.{recordOf}
 use Rattle.format.proofs.Items.{length-itemBytes, length-sheetBytes, itemsBytes-append}
 use Rattle.format.proofs.Keys.{beyond, below-trans, below-irrefl, below-or, below-not-same, above-not-same, rising-after}
 use Rattle.item_list.specs.declared.Place.the-variants.{At, Missing}
 use Rattle.item_list.specs.declared.Sought.the-variants.{Present, Absent}
-use Rattle.item_list.specs.Seeks.{sizeOf, placeIn, numbered, seekIn}
+use Rattle.item_list.specs.Seeks.{sizeOf, placeIn, numbered, recorded, seekIn}
 
 -- an item of a list whose first stands at `at`: where it starts and ends
 pub record Stands (at : ℕ) (front : List Item) (hit : Item) (start end : ℕ) : Type 0 where
@@ -81,6 +82,14 @@ missing p n at (i ∷ items) e = go (p i) refl e (missing p (n + 1) (at + sizeOf
         → (placeIn (λ m. p) (n + 1) (at + sizeOf i) items ≡ Missing → cut p items ≡ none) → cut p (i ∷ items) ≡ none
     go true h f ih = let z : _≡_ {A = ℕ} 0 1 = cc in absurd (omega arith)
     go false h f ih = rw (h, ih f)
+
+-- of an extent's record
+pub record-found : (extent : ℕ) (items : List Item) (number start end : ℕ) → placeIn (recorded extent) 0 1 items ≡ At number start end
+    → Placed (recordOf extent) items 0 1 number start end
+record-found extent items number start end e = placed (recordOf extent) 0 1 items number start end e
+
+pub record-missing : (extent : ℕ) (items : List Item) → placeIn (recorded extent) 0 1 items ≡ Missing → cut (recordOf extent) items ≡ none
+record-missing extent items e = missing (recordOf extent) 0 1 items e
 
 -- ---- the item of a number
 

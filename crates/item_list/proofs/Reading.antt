@@ -5,14 +5,14 @@ use mathlib.Core.List.{List, [], _∷_}
 use Prim.Native.Nat.{ℕ, zero, suc, _+_, _-_, _≤_, _<_}
 use native.Mathlib.Numerals.{add-one}
 use native.Mathlib.Omega.{arith}
-use lib.Dec.{T, eqb}
+use lib.Dec.{T, leb, eqb}
 use lib.ListN.{length, drop, getD}
 use borrow.Author.Tests.{le-leb, lt-leb, eq-eqb, ne-eqb}
 use Rattle.fields.specs.Lists.{all}
 use Rattle.fields.specs.Numbers.{areBytes}
 use Rattle.format.specs.declared.Key.{Key}
 use Rattle.format.specs.Questions.{Answer, refused, absent, remove, accepted, ask, bind}
-use Rattle.format.specs.Items.{Item, keyBelow, above, rising, readItems, readSheet, sheetBytes}
+use Rattle.format.specs.Items.{Item, keyBelow, above, rising, readItems, readSheet, sheetBytes, nodesizeFits}
 use Rattle.format.proofs.Items.{ReadsSheet, sheet, broken, unsorted, readSheet-decides, sane, sheet-sane, sheetBytes-read}
 use Rattle.item_list.specs.declared.Step.the-variants.{Whole, Broken, End}
 use Rattle.item_list.specs.declared.Checked.{Checked}
@@ -172,3 +172,13 @@ counted s n t e =
 
 pub listed : (s : List ℕ) (n : ℕ) → checkedOf (readSheet s) ≡ Count n → Listed s
 listed s n e = record { reads = checked-count (readSheet s) n e .0 }
+
+-- ---- question 3 of a nodesize, as code tests it
+
+pub node-low : (n : ℕ) → n < 501 → false ≡ nodesizeFits n
+unfolding nodesizeFits
+node-low n h = rw (lt-leb 501 n h)
+
+pub node-high : (n : ℕ) → 501 ≤ n → leb n 65536 ≡ nodesizeFits n
+unfolding nodesizeFits
+node-high n h = rw (le-leb 501 n h)

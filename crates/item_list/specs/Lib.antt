@@ -1,3 +1,2 @@
 pub mod Steps
 pub mod Seeks
-pub mod Writes

@@ -1,9 +1,8 @@
 // The reader of an item list (document 01's sheet): one step over items at a position, one pass for questions 1 and 2, and the
-// searches by key, by number and for an extent's record; and the writer of an edit, which is one splice of the bytes.
+// searches by key, by number and for an extent's record.
 mod checking;
 mod search;
 mod stepping;
-mod writing;
 
 pub use checking::check;
 pub use checking::nodesize_fits;
@@ -12,11 +11,6 @@ pub use search::record_at;
 pub use search::seek;
 pub use stepping::key_at;
 pub use stepping::step_at;
-pub use writing::append;
-pub use writing::append_head;
-pub use writing::put_item;
-pub use writing::remove_item;
-pub use writing::room_for;
 
 // What stands at a position.
 pub enum Step {

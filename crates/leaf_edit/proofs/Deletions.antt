@@ -21,7 +21,7 @@ use Rattle.item_list.specs.Steps.{itemsOf}
 use Rattle.item_list.specs.Seeks.{seekIn}
 use Rattle.item_list.proofs.Reading.{Counted}
 use Rattle.item_list.proofs.Places.{Sits, sits, gap, Inside, inside}
-use Rattle.item_list.proofs.Writes.{sane-fit}
+use Rattle.item_write.proofs.Writes.{sane-fit}
 
 cut-nowhere : {A : Type 0} (p : A → Bool) (l : List A) → T (all (λ x. not (p x)) l) → cut p l ≡ none
 cut-nowhere p [] t = refl

@@ -25,7 +25,7 @@ pub fn delete(sheet: &[u8], key: Key, out: &mut [u8]) -> Edited
             let Sought::Present { start, end } = sought else {
                 return Edited::Refused(5);
             };
-            return item_list::remove_item(sheet, start, end, count - 1, out);
+            return item_write::remove_item(sheet, start, end, count - 1, out);
         }
     }
 }
@@ -68,7 +68,7 @@ pub fn insert_unbounded(sheet: &[u8], key: Key, body: &[u8], out: &mut [u8]) -> 
     match slot {
         Slot::Refused(number) => return Edited::Refused(number),
         Slot::Free { at, count } => {
-            return item_list::put_item(sheet, at, at, count + 1, key, body, out);
+            return item_write::put_item(sheet, at, at, count + 1, key, body, out);
         }
     }
 }
@@ -85,7 +85,7 @@ pub fn insert(nodesize: u32, sheet: &[u8], key: Key, body: &[u8], out: &mut [u8]
             if (nodesize as usize) < space {
                 return Edited::Refused(18);
             }
-            return item_list::put_item(sheet, at, at, count + 1, key, body, out);
+            return item_write::put_item(sheet, at, at, count + 1, key, body, out);
         }
     }
 }

@@ -17,8 +17,8 @@ use Rattle.format.specs.Sheets.{itemSpace, cutFits, gapOf, closer, bestCut, fil
 use Rattle.item_list.specs.Steps.{itemsOf}
 use Rattle.item_list.proofs.Reading.{Counted}
 use Rattle.item_list.proofs.Spaces.{space-sheet}
-use Rattle.leaf_split.specs.declared.Cutting.the-variants.{Before, Nowhere}
-use Rattle.leaf_split.specs.Division.{Sized, alone, cuttingOf}
+use Rattle.leaf_fill.specs.declared.Cutting.the-variants.{Before, Nowhere}
+use Rattle.leaf_fill.specs.Division.{Sized, alone, cuttingOf}
 
 -- ---- from the pass to the cut
 

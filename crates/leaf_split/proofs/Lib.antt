@@ -1,4 +1,2 @@
 pub mod Answers
-pub mod Running
-pub mod Filling
 pub mod Leaves

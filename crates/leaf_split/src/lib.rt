@@ -1,16 +1,7 @@
 // The calls of `leaf_edit.rs` that divide an item list (document 01's sheet) into leaves. A lent 16-bit slice gets the number of
 // the item at which each later leaf starts.
-mod best;
-mod fill;
 mod halves;
-mod number;
 mod whole;
 
 pub use halves::split;
 pub use whole::split_to_fit;
-
-// The best two-way cut so far: the number of the item that it stands before, and its gap.
-pub enum Cutting {
-    Before { at: usize, gap: usize },
-    Nowhere,
-}

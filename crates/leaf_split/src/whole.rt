@@ -4,20 +4,17 @@ ghost use lib.ListN.{length};
 ghost use Rattle.format.specs.Questions.{Answered, accepted};
 ghost use Rattle.format.specs.Sheets.{cuts, splitToFit, heldCuts};
 ghost use Rattle.item_list.specs.Steps.{itemsOf};
-ghost use Rattle.leaf_split.specs.Division.{Sized};
-use super::Cutting;
-use super::best;
-use super::fill;
-use super::number;
+ghost use Rattle.leaf_fill.specs.Division.{Sized};
 use format::Edited;
 use item_list::Checked;
+use leaf_fill::Cutting;
 
 // Two items or more, each of which fits a leaf.
 fn divide(sheet: &[u8], nodesize: usize, count: usize, lent: &mut [u16]) -> Edited
     requires { ⌜ Sized (now sheet) count × (nodesize ≤ 65536) ⌝ }
     ensures { λ r. ⌜ Answered (heldCuts (length (now (lent .entry))) (accepted (cuts nodesize (itemsOf (now (sheet .entry)))))) r (now (lent .entry)) (now (lent .exit)) ⌝ }
 {
-    let cutting = best::best_cut(sheet, nodesize, count);
+    let cutting = leaf_fill::best_cut(sheet, nodesize, count);
     match cutting {
         Cutting::Before { at, gap: _ } => {
             if lent.len() < 1 {
@@ -27,11 +24,11 @@ fn divide(sheet: &[u8], nodesize: usize, count: usize, lent: &mut [u16]) -> Edit
             return Edited::Written(1);
         }
         Cutting::Nowhere => {
-            let leaves = number::fill_count(sheet, nodesize, count);
+            let leaves = leaf_fill::fill_count(sheet, nodesize, count);
             if lent.len() < leaves {
                 return Edited::Refused(21);
             }
-            fill::fill_write(sheet, nodesize, count, lent);
+            leaf_fill::fill_write(sheet, nodesize, count, lent);
             return Edited::Written(leaves);
         }
     }
@@ -47,7 +44,7 @@ pub fn split_to_fit(nodesize: u32, sheet: &[u8], cuts: &mut [u16]) -> Edited
         Checked::Count(count) => {
             if item_list::nodesize_fits(nodesize) {
                 let size = nodesize as usize;
-                if best::each_fits(sheet, size, count) {
+                if leaf_fill::each_fits(sheet, size, count) {
                     if count < 2 {
                         return Edited::Refused(19);
                     }

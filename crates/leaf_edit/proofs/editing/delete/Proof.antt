@@ -5,7 +5,7 @@ use denote.Ref.{now}
 use Rattle.fields.proofs.Numbers.{areBytes-in}
 use Rattle.format.specs.Sheets.{delete}
 use Rattle.item_list.proofs.Reading.{Counted, counted, listed, sheet-refused}
-use Rattle.item_list.proofs.Writes.{answered-no, answered-by}
+use Rattle.item_write.proofs.Writes.{answered-no, answered-by}
 use Rattle.leaf_edit.proofs.Deletions.{delete-refused, delete-absent, Deletion, deletion}
 use borrow.Author.Needs.{needs}
 use Rattle.leaf_edit.proofs.editing.delete.Statement.{statement}

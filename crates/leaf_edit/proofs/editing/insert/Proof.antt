@@ -8,7 +8,7 @@ use denote.Ref.{now}
 use Rattle.fields.proofs.Numbers.{areBytes-in}
 use Rattle.format.specs.Items.{Item, readSheet, nodesizeFits, dataFits}
 use Rattle.format.specs.Sheets.{insert}
-use Rattle.item_list.proofs.Writes.{answered-no, answered-by}
+use Rattle.item_write.proofs.Writes.{answered-no, answered-by}
 use Rattle.leaf_edit.specs.Slots.{slotOf}
 use Rattle.leaf_edit.proofs.Insertions.{Insertable, slot-free, insert-refused, insert-large, insert-done, fits-new}
 use borrow.Author.Needs.{needs}

@@ -8,7 +8,7 @@ use borrow.Author.Tests.{leb-true}
 use Rattle.fields.proofs.Numbers.{areBytes-in}
 use Rattle.format.specs.Items.{Item, dataFits}
 use Rattle.format.specs.Sheets.{insertUnbounded}
-use Rattle.item_list.proofs.Writes.{answered-no, answered-by}
+use Rattle.item_write.proofs.Writes.{answered-no, answered-by}
 use Rattle.leaf_edit.proofs.Insertions.{slot-refused, Insertable, slot-free}
 use borrow.Author.Needs.{needs}
 use Rattle.leaf_edit.proofs.editing.insert_unbounded.Statement.{statement}

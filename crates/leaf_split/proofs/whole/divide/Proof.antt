@@ -7,8 +7,8 @@ use denote.Ref.{now}
 use Rattle.format.specs.Questions.{accepted}
 use Rattle.format.specs.Sheets.{bestCut, filled, cuts}
 use Rattle.item_list.specs.Steps.{itemsOf}
-use Rattle.leaf_split.specs.declared.Cutting.the-variants.{Before}
-use Rattle.leaf_split.specs.Division.{cuttingOf}
+use Rattle.leaf_fill.specs.declared.Cutting.the-variants.{Before}
+use Rattle.leaf_fill.specs.Division.{cuttingOf}
 use Rattle.leaf_split.proofs.Answers.{cuts-short, cuts-written, one-written}
 use Rattle.leaf_split.proofs.Leaves.{cuts-one, cuts-filled, cut-before}
 use borrow.Author.Needs.{needs}

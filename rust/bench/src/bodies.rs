@@ -1,0 +1,151 @@
+//! Hash, allocation bodies, and the calls on bodies.
+use crate::measure::Bench;
+use extent_refs::lent;
+use original::backref::{self, Keyed};
+use original::extent_write::{self, TreeBlockAllocation};
+use original::transaction::door;
+use std::hint::black_box;
+
+/// Data references of inodes 257 on, in the order that a record has them.
+fn data_body(count: u64) -> Vec<u8> {
+    let first = door::data_extent_body(7, 5, 257, 0);
+    (1..count).fold(first, |body, n| {
+        backref::add_inline_data_ref(168, &body, 5, 257 + n, 0).expect("one more")
+    })
+}
+
+/// Shared data references of parents 4,096 on.
+fn shared_body(count: u64) -> Vec<u8> {
+    let first = door::data_extent_body(7, 5, 257, 0);
+    (1..count).fold(first, |body, n| {
+        backref::add_inline_shared(168, &body, 184, 4096 * n, 2).expect("one more")
+    })
+}
+
+/// Block references of trees 5 on.
+fn block_body(count: u64) -> Vec<u8> {
+    let first =
+        TreeBlockAllocation { bytenr: 0, level: 0, generation: 7, owner: 5 }.body().to_vec();
+    (1..count)
+        .fold(first, |body, n| backref::add_inline_tree_ref(169, &body, 5 + n).expect("one more"))
+}
+
+pub fn rows(b: &mut Bench) {
+    b.row(
+        "extent_write_data_ref_hash",
+        "",
+        || extent_write::data_ref_hash(black_box(5), 257, 0),
+        &mut |_, _| lent::extent_write_data_ref_hash(black_box(5), 257, 0),
+    );
+    b.row(
+        "extent_write_data_extent_body",
+        "",
+        || door::data_extent_body(black_box(7), 5, 257, 0),
+        &mut |out, len| {
+            lent::extent_write_data_extent_body(black_box(7), 5, 257, 0, out, len).into()
+        },
+    );
+    b.row(
+        "backref_keyed_data_ref_body",
+        "",
+        || backref::keyed_data_ref_body(black_box(5), 257, 0, 3),
+        &mut |out, len| lent::backref_keyed_data_ref_body(black_box(5), 257, 0, 3, out, len).into(),
+    );
+    let item = backref::keyed_data_ref_body(5, 257, 0, 3);
+    b.row(
+        "backref_drop_keyed_data_ref",
+        "",
+        || backref::drop_keyed_data_ref(&item, 5, 257, 0),
+        &mut |out, len| lent::backref_drop_keyed_data_ref(&item, 5, 257, 0, out, len).into(),
+    );
+    for count in [1, 6, 60, 1_000] {
+        with_references(b, count);
+    }
+}
+
+/// The last reference is the one looked for, so that every call reads the whole body.
+fn with_references(b: &mut Bench, count: u64) {
+    let size = &format!("{count} reference{}", if count == 1 { "" } else { "s" })[..];
+    let (data, shared, block) = (data_body(count), shared_body(count), block_body(count));
+    let refs = backref::inline_refs(168, &data).expect("readable");
+    let last = refs.last().expect("one");
+    let inode = u64::from_le_bytes(last.payload[8..16].try_into().expect("8 bytes"));
+    let mut positions = vec![0; 8192];
+
+    b.row("backref_flags", size, || backref::flags(black_box(&data)), &mut |_, value| {
+        lent::backref_flags(black_box(&data), value).into()
+    });
+    b.row("backref_inline_refs", size, || backref::inline_refs(168, &data), &mut |_, count| {
+        lent::backref_inline_refs(168, &data, &mut positions, count).into()
+    });
+    b.row("backref_raise_total", size, || backref::raise_total(168, &data, 3), &mut |out, len| {
+        lent::backref_raise_total(168, &data, 3, out, len).into()
+    });
+    b.row("backref_with_flags", size, || backref::with_flags(&data, 256), &mut |out, len| {
+        lent::backref_with_flags(&data, 256, out, len).into()
+    });
+    b.row(
+        "backref_holds_inline_data_ref",
+        size,
+        || backref::holds_inline_data_ref(168, &data, 5, inode, 0),
+        &mut |_, holds| lent::backref_holds_inline_data_ref(168, &data, 5, inode, 0, holds).into(),
+    );
+    b.row(
+        "backref_add_inline_data_ref",
+        size,
+        || backref::add_inline_data_ref(168, &data, 5, inode, 0),
+        &mut |out, len| lent::backref_add_inline_data_ref(168, &data, 5, inode, 0, out, len).into(),
+    );
+    let keyed = Keyed::Data { tree: 5, objectid: inode, offset: 0 };
+    b.row(
+        "backref_add_inline_keyed_data",
+        size,
+        || backref::add_inline_keyed(168, &data, keyed, 3),
+        &mut |out, len| {
+            lent::backref_add_inline_keyed_data(168, &data, 5, inode, 0, 3, out, len).into()
+        },
+    );
+    let two = backref::raise_total(168, &data, 1).expect("a total");
+    b.row(
+        "backref_drop_inline_data_ref",
+        size,
+        || backref::drop_inline_data_ref(168, &two, 5, inode, 0),
+        &mut |out, len| lent::backref_drop_inline_data_ref(168, &two, 5, inode, 0, out, len).into(),
+    );
+    b.row(
+        "backref_add_inline_shared",
+        size,
+        || backref::add_inline_shared(168, &shared, 184, 4096, 1),
+        &mut |out, len| {
+            lent::backref_add_inline_shared(168, &shared, 184, 4096, 1, out, len).into()
+        },
+    );
+    b.row(
+        "backref_take_inline_shared",
+        size,
+        || backref::take_inline_shared(168, &shared, 184, 4096),
+        &mut |out, len| {
+            lent::backref_take_inline_shared(168, &shared, 184, 4096, out, len, &mut 0).into()
+        },
+    );
+    b.row(
+        "backref_add_inline_tree_ref",
+        size,
+        || backref::add_inline_tree_ref(169, &block, 3),
+        &mut |out, len| lent::backref_add_inline_tree_ref(169, &block, 3, out, len).into(),
+    );
+    let two = backref::raise_total(169, &block, 1).expect("a total");
+    b.row(
+        "backref_drop_inline_tree_ref",
+        size,
+        || backref::drop_inline_tree_ref(169, &two, 5),
+        &mut |out, len| lent::backref_drop_inline_tree_ref(169, &two, 5, out, len).into(),
+    );
+    let offsets = vec![0; 1];
+    b.row(
+        "transaction_held_only_by",
+        size,
+        || door::held_only_by(&data, 5, 257, &offsets),
+        &mut |_, holds| lent::transaction_held_only_by(&data, 5, 257, &offsets, holds).into(),
+    );
+}

@@ -1,0 +1,141 @@
+//! The calls on item lists. The original's list is made beforehand and the archive reads its
+//! sheet in every call; where the original takes its list by value, its copy is measured too.
+use crate::measure::Bench;
+use extent_refs::lent;
+use original::backref::Keyed;
+use original::chunk::DiskKey;
+use original::extent_write::TreeBlockAllocation;
+use original::leaf_edit::{self, OwnedItem};
+use original::transaction::door;
+
+/// Records of data extents, with a tree block's record last.
+fn list(count: u64) -> Vec<OwnedItem> {
+    let record = |n: u64| OwnedItem {
+        key: DiskKey { objectid: 4096 * (n + 1), key_type: 168, offset: 4096 },
+        data: door::data_extent_body(7, 5, 257 + n, 0),
+    };
+    let mut items: Vec<OwnedItem> = (0..count - 1).map(record).collect();
+    let block = TreeBlockAllocation { bytenr: 4096 * count, level: 0, generation: 7, owner: 5 };
+    let mut body = block.body().to_vec();
+    // A total of 1 for its one reference, so that the list is balanced.
+    body[0] = 1;
+    items.push(OwnedItem { key: DiskKey { offset: 0, ..block.key() }, data: body });
+    items
+}
+
+fn sheet(items: &[OwnedItem]) -> Vec<u8> {
+    let mut sheet = vec![1];
+    for item in items {
+        sheet.extend((17 + item.data.len() as u32).to_be_bytes());
+        sheet.extend(item.key.objectid.to_be_bytes());
+        sheet.push(item.key.key_type);
+        sheet.extend(item.key.offset.to_be_bytes());
+        sheet.extend(&item.data);
+    }
+    sheet
+}
+
+pub fn rows(b: &mut Bench) {
+    for count in [2, 40, 160, 800, 3_000] {
+        with_items(b, count);
+    }
+}
+
+fn with_items(b: &mut Bench, count: u64) {
+    let size = &format!("{count} items")[..];
+    let items = list(count);
+    let sheet = sheet(&items);
+    let last = 4096 * count;
+    let middle = 4096 * (1 + count / 2).min(count - 1).max(1);
+    let new = DiskKey { objectid: middle + 1, key_type: 168, offset: 4096 };
+    let data = door::data_extent_body(7, 5, 257, 0);
+    let item = OwnedItem { key: new, data: data.clone() };
+    let node = 65_536;
+    let mut cuts = vec![0; 4096];
+
+    if leaf_edit::insert(node, &items, item.clone()).is_ok() {
+        b.row(
+            "leaf_edit_insert",
+            size,
+            || leaf_edit::insert(node, &items, item.clone()),
+            &mut |out, len| {
+                lent::leaf_edit_insert(node, &sheet, new.objectid, 168, 4096, &data, out, len)
+                    .into()
+            },
+        );
+    }
+    b.row(
+        "leaf_edit_insert_unbounded",
+        size,
+        || leaf_edit::insert_unbounded(&items, item.clone()),
+        &mut |out, len| {
+            lent::leaf_edit_insert_unbounded(&sheet, new.objectid, 168, 4096, &data, out, len)
+                .into()
+        },
+    );
+    let key = items[0].key;
+    b.row("leaf_edit_delete", size, || leaf_edit::delete(&items, &key), &mut |out, len| {
+        lent::leaf_edit_delete(&sheet, key.objectid, key.key_type, key.offset, out, len).into()
+    });
+    b.row("leaf_edit_fit", size, || leaf_edit::fit(node, &items), &mut |_, fits| {
+        lent::leaf_edit_fit(node, &sheet, fits).into()
+    });
+    b.row("leaf_edit_split", size, || leaf_edit::split(&items), &mut |_, count| {
+        lent::leaf_edit_split(&sheet, &mut cuts, count).into()
+    });
+    // The original tries every cut by measuring both halves: the square of the items.
+    if count <= 800 {
+        b.row(
+            "leaf_edit_split_to_fit",
+            size,
+            || leaf_edit::split_to_fit(4096, &items),
+            &mut |_, count| lent::leaf_edit_split_to_fit(4096, &sheet, &mut cuts, count).into(),
+        );
+    }
+    b.row(
+        "transaction_record_of",
+        size,
+        || door::record_of(&items, last).map(|i| i.data.len()),
+        &mut |_, number| lent::transaction_record_of(&sheet, last, number).into(),
+    );
+    let block = Keyed::Block { tree: 7 };
+    b.row(
+        "transaction_apply_keyed_add_block",
+        size,
+        || door::apply_keyed_add(16_384, items.clone(), last, block, 1, false),
+        &mut |out, len| {
+            lent::transaction_apply_keyed_add_block(16_384, &sheet, last, 7, 1, false, out, len)
+                .into()
+        },
+    );
+    let name = Keyed::Data { tree: 6, objectid: 257, offset: 0 };
+    b.row(
+        "transaction_apply_keyed_add_data",
+        size,
+        || door::apply_keyed_add(16_384, items.clone(), middle, name, 1, false),
+        &mut |out, len| {
+            lent::transaction_apply_keyed_add_data(
+                16_384, &sheet, middle, 6, 257, 0, 1, false, out, len,
+            )
+            .into()
+        },
+    );
+    b.row(
+        "transaction_apply_shared_add",
+        size,
+        || door::apply_shared_add(16_384, items.clone(), middle, 184, 8192, 2, false),
+        &mut |out, len| {
+            lent::transaction_apply_shared_add(
+                16_384, &sheet, middle, 184, 8192, 2, false, out, len,
+            )
+            .into()
+        },
+    );
+    // The books have no counterpart in the original: beside it stands its call for the same edit.
+    b.row(
+        "ledger_post",
+        &format!("{size}, give data"),
+        || door::apply_keyed_add(16_384, items.clone(), middle, name, 1, false),
+        &mut |out, len| lent::ledger_post(16_384, &sheet, 2, middle, 6, 257, 0, 1, out, len).into(),
+    );
+}

@@ -1,0 +1,317 @@
+//! Real leaves: each is read into items, every record's references are held to dump-tree's text,
+//! and every extent whose own items balance is posted to. The last line is 'N passed, M failed'.
+//!
+//! The leaves are in ../shared/leaves beside the repository, or where EXTENT_REFS_LEAVES says.
+use differential::archive::{self, Archive};
+use differential::generate::{ample, lent};
+use model::asked::le64;
+use model::body::{Body, BLOCK, DATA, OWNER, SHARED_BLOCK, SHARED_DATA};
+use model::calls::{outcome, Arg, Outcome};
+use model::hash::data_ref_hash;
+use model::ledger::{balanced, count};
+use model::sheet::{bytes, read, Item};
+use std::path::{Path, PathBuf};
+use std::process::ExitCode;
+
+fn main() -> ExitCode {
+    let folder = std::env::var("EXTENT_REFS_LEAVES").map(PathBuf::from).unwrap_or_else(|_| {
+        PathBuf::from(env!("CARGO_MANIFEST_DIR")).join("../../../shared/leaves")
+    });
+    let Ok(entries) = std::fs::read_dir(&folder) else {
+        println!("the leaves' folder is missing (EXTENT_REFS_LEAVES): skipped");
+        println!("0 passed, 0 failed");
+        return ExitCode::SUCCESS;
+    };
+    let mut paths: Vec<PathBuf> = entries.filter_map(|e| Some(e.ok()?.path())).collect();
+    paths.retain(|p| p.extension().is_some_and(|e| e == "leaf"));
+    paths.sort();
+    let mut run = Run::default();
+    for path in &paths {
+        if let Err(fault) = run.leaf(path) {
+            let name = path.file_name().unwrap_or_default().to_string_lossy().into_owned();
+            run.faults.push(format!("{name}: {fault}"));
+        }
+    }
+    for fault in run.faults.iter().take(10) {
+        println!("FAIL {fault}");
+    }
+    println!(
+        "{} leaves: {} records with {} inline references and {} reference items as dump-tree lists them",
+        paths.len(), run.records, run.inline, run.own
+    );
+    println!(
+        "{} leaves balance alone; {} extents balance by themselves, {} do not or have no record; {} postings, {} accepted",
+        run.leaves_balanced, run.extents, run.unbalanced, run.posted, run.accepted
+    );
+    match run.archived {
+        0 => println!("no call of these is in the archive yet"),
+        n => println!("{n} calls put to the archive too"),
+    }
+    let passed = paths.len() - run.faults.len().min(paths.len());
+    println!("{passed} passed, {} failed", run.faults.len());
+    if run.faults.is_empty() {
+        ExitCode::SUCCESS
+    } else {
+        ExitCode::FAILURE
+    }
+}
+
+#[derive(Default)]
+struct Run {
+    archive: Archive,
+    faults: Vec<String>,
+    records: usize,
+    inline: usize,
+    own: usize,
+    leaves_balanced: usize,
+    extents: usize,
+    unbalanced: usize,
+    posted: usize,
+    accepted: usize,
+    archived: usize,
+}
+
+type Fault<T> = Result<T, String>;
+
+impl Run {
+    fn leaf(&mut self, path: &Path) -> Fault<()> {
+        let image = std::fs::read(path).map_err(|e| e.to_string())?;
+        let text =
+            std::fs::read_to_string(path.with_extension("txt")).map_err(|e| e.to_string())?;
+        let items = model::leaf::items(&image)?;
+        read(&bytes(&items)).map_err(|stop| format!("the sheet is refused: {stop:?}"))?;
+        self.texts(&items, &text)?;
+        self.leaves_balanced += usize::from(balanced(&items));
+        let mut extents: Vec<u64> = items.iter().map(|i| i.key.0).collect();
+        extents.dedup();
+        for extent in extents {
+            let own: Vec<Item> = items.iter().filter(|i| i.key.0 == extent).cloned().collect();
+            self.extent(extent, &own, image.len() as u64)?;
+        }
+        Ok(())
+    }
+
+    /// Every item's key, size and references, beside the text.
+    fn texts(&mut self, items: &[Item], text: &str) -> Fault<()> {
+        let parts: Vec<&str> = text.split("\titem ").skip(1).collect();
+        if parts.len() != items.len() {
+            return Err(format!("{} items, and {} in the text", items.len(), parts.len()));
+        }
+        for (number, (item, part)) in items.iter().zip(parts).enumerate() {
+            let printed = self.printed(item).map_err(|f| format!("item {number}: {f}"))?;
+            let mut told = part.lines().skip(1).map(str::trim).filter(|l| {
+                !l.starts_with("block group")
+                    && !l.starts_with("tree block")
+                    && !l.starts_with("total bytes")
+                    && !l.starts_with("bytes used")
+                    && !l.contains("uuid")
+                    && !l.is_empty()
+            });
+            let (objectid, kind, offset) = item.key;
+            let head = format!("{number} key ({objectid} {} {offset})", kind_name(kind));
+            let size = format!("itemsize {}", item.data.len());
+            let first = part.lines().next().unwrap_or("");
+            if !first.starts_with(&head) || !first.ends_with(&size) {
+                return Err(format!("item {number} is {head} {size}, and in the text {first}"));
+            }
+            for line in printed {
+                let there = told.next().map(numbered);
+                if there.as_deref() != Some(&line) {
+                    return Err(format!("item {number} gives {line}, and the text {there:?}"));
+                }
+            }
+            if let Some(more) = told.next() {
+                return Err(format!("item {number}: the text has also {more}"));
+            }
+        }
+        Ok(())
+    }
+
+    /// The lines that dump-tree prints for an item's references.
+    fn printed(&mut self, item: &Item) -> Fault<Vec<String>> {
+        let data = &item.data;
+        match item.key.1 {
+            168 | 169 => {
+                let args = [
+                    Arg::Number(item.key.1.into()),
+                    Arg::Bytes(data.clone()),
+                    Arg::Cuts(vec![]),
+                    Arg::Lent(0),
+                ];
+                self.ask("backref_inline_refs", &args)?;
+                let body = Body::read(item.key.1, data).map_err(|s| format!("{s:?}"))?;
+                self.records += 1;
+                self.inline += body.references.len();
+                let flags = match body.flags() {
+                    1 => "DATA",
+                    2 => "TREE_BLOCK",
+                    258 => "TREE_BLOCK|FULL_BACKREF",
+                    other => return Err(format!("flags {other}")),
+                };
+                let head = format!("refs {} gen {} flags {flags}", body.total, body.generation());
+                let lines = body.references.iter().map(|r| {
+                    let f = &r.fields;
+                    let place = if r.kind == DATA { data_ref_hash(f[0], f[1], f[2]) } else { f[0] };
+                    let count = r.count.unwrap_or(0);
+                    let words = match r.kind {
+                        OWNER => format!("textent owner root {}", f[0]),
+                        BLOCK => format!("tree block backref root {}", f[0]),
+                        DATA => format!(
+                            "extent data backref root {} objectid {} offset {} count {count}",
+                            f[0], f[1], f[2]
+                        ),
+                        SHARED_BLOCK => format!("shared block backref parent {}", f[0]),
+                        _ => format!("shared data backref parent {} count {count}", f[0]),
+                    };
+                    format!("({} 0x{place:x}) {words}", r.kind)
+                });
+                Ok(std::iter::once(head).chain(lines).collect())
+            }
+            DATA => {
+                self.own += 1;
+                let f = |i: usize| le64(&data[8 * i..]);
+                let count = model::asked::le32(&data[24..]);
+                Ok(vec![format!(
+                    "extent data backref root {} objectid {} offset {} count {count}",
+                    f(0),
+                    f(1),
+                    f(2)
+                )])
+            }
+            SHARED_DATA => {
+                self.own += 1;
+                Ok(vec![format!("shared data backref count {}", model::asked::le32(data))])
+            }
+            _ => Ok(vec![]),
+        }
+    }
+
+    /// Every reference of the extent dropped and added again, and new ones added.
+    fn extent(&mut self, extent: u64, own: &[Item], nodesize: u64) -> Fault<()> {
+        if !own.iter().any(|i| [168, 169].contains(&i.key.1)) || !balanced(own) {
+            self.unbalanced += 1;
+            // What does not balance is refused, whatever is posted.
+            let said = self.post(nodesize, own, extent, [4, 5, 0, 0])?;
+            let refused = if balanced(own) { 5 } else { 4 };
+            return if said.code == refused { Ok(()) } else { Err(format!("code {}", said.code)) };
+        }
+        self.extents += 1;
+        let Some(record) = own.iter().find(|i| [168, 169].contains(&i.key.1)) else {
+            return Ok(());
+        };
+        let body = Body::read(record.key.1, &record.data).map_err(|s| format!("{s:?}"))?;
+        let mut names: Vec<[u64; 4]> =
+            vec![[4, 999, 0, 0], [5, 999, 1, 2], [6, 182, 999, 0], [6, 184, 999, 0]];
+        for r in &body.references {
+            names.extend(named(r.kind, &r.fields));
+        }
+        for item in own {
+            let f: Vec<u64> = match item.key.1 {
+                DATA => (0..3).map(|i| le64(&item.data[8 * i..])).collect(),
+                _ => vec![item.key.2],
+            };
+            names.extend(named(item.key.1, &f));
+        }
+        for [change, a, b, c] in names {
+            let dropped = self.post(nodesize, own, extent, [change, a, b, c])?;
+            let from = if dropped.code == 0 { items_of(&dropped)? } else { own.to_vec() };
+            let added = self.post(nodesize, &from, extent, [change - 3, a, b, c])?;
+            for said in [&dropped, &added] {
+                if said.code == 0 && !balanced(&items_of(said)?) {
+                    return Err(format!("change {change} of {extent} unbalances"));
+                }
+            }
+            // Drop, then add: the whole of a block, one count of a data reference.
+            if dropped.code == 0 && added.code == 0 && change != 6 {
+                let name = differential::generate::name_of(change, a, b, c);
+                let (before, after) =
+                    (count(own, extent, &name), count(&items_of(&added)?, extent, &name));
+                if before != after {
+                    return Err(format!("{name:?} counts {after} and not {before}"));
+                }
+            }
+        }
+        Ok(())
+    }
+
+    fn post(
+        &mut self,
+        nodesize: u64,
+        items: &[Item],
+        extent: u64,
+        [change, a, b, c]: [u64; 4],
+    ) -> Fault<Outcome> {
+        self.posted += 1;
+        let mut args = vec![Arg::Number(nodesize), Arg::Bytes(bytes(items))];
+        args.extend([change, extent, a, b, c, 1].map(Arg::Number));
+        args.extend([Arg::Out(vec![]), Arg::Lent(0)]);
+        let said = self.ask("ledger_post", &args)?;
+        self.accepted += usize::from(said.code == 0);
+        Ok(said)
+    }
+
+    /// The model's answer; the archive's is the same where it has the call.
+    fn ask(&mut self, call: &str, args: &[Arg]) -> Fault<Outcome> {
+        let args = lent(args, ample(args));
+        let said = outcome(call, &args);
+        if archive::has(call) {
+            self.archived += 1;
+            let given = self.archive.run(call, &args, true)?;
+            if given != said {
+                return Err(format!("{call} gives {} and the model {}", given.code, said.code));
+            }
+        }
+        Ok(said)
+    }
+}
+
+fn items_of(said: &Outcome) -> Fault<Vec<Item>> {
+    let sheet = differential::verdict::written("ledger_post", said).bytes;
+    read(&sheet).map_err(|stop| format!("a posting gives a sheet that is refused: {stop:?}"))
+}
+
+/// The drop of a name.
+fn named(kind: u8, f: &[u64]) -> Option<[u64; 4]> {
+    match kind {
+        BLOCK => Some([4, f[0], 0, 0]),
+        DATA => Some([5, f[0], f[1], f[2]]),
+        SHARED_BLOCK | SHARED_DATA => Some([6, kind.into(), f[0], 0]),
+        _ => None,
+    }
+}
+
+fn kind_name(kind: u8) -> &'static str {
+    match kind {
+        168 => "EXTENT_ITEM",
+        169 => "METADATA_ITEM",
+        BLOCK => "TREE_BLOCK_REF",
+        DATA => "EXTENT_DATA_REF",
+        SHARED_BLOCK => "SHARED_BLOCK_REF",
+        SHARED_DATA => "SHARED_DATA_REF",
+        192 => "BLOCK_GROUP_ITEM",
+        _ => "UNKNOWN",
+    }
+}
+
+/// A line of the text with the trees' names as numbers.
+fn numbered(line: &str) -> String {
+    const TREES: [(&str, u64); 10] = [
+        ("ROOT_TREE", 1),
+        ("EXTENT_TREE", 2),
+        ("CHUNK_TREE", 3),
+        ("DEV_TREE", 4),
+        ("FS_TREE", 5),
+        ("CSUM_TREE", 7),
+        ("QUOTA_TREE", 8),
+        ("UUID_TREE", 9),
+        ("FREE_SPACE_TREE", 10),
+        ("DATA_RELOC_TREE", 9u64.wrapping_neg()),
+    ];
+    let words = line.split(' ').map(|word| {
+        TREES
+            .iter()
+            .find(|(name, _)| *name == word)
+            .map_or(word.to_string(), |(_, n)| n.to_string())
+    });
+    words.collect::<Vec<_>>().join(" ")
+}

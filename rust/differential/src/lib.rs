@@ -1,0 +1,28 @@
+//! Compares the archive, the original and the model, call by call.
+//!
+//! `generate` makes the inputs, `archive` runs the linked call on guarded memory, `verdict`
+//! says what the original answers, `recorded` replays its answers where it is not here, and
+//! `compare` holds them together. A new call needs a line in `model::calls` (its parameters and
+//! its answer) and one in `original`; the inputs follow from the names of its parameters.
+pub mod archive;
+pub mod compare;
+pub mod generate;
+#[cfg(original_here)]
+mod original;
+pub mod random;
+pub mod recorded;
+pub mod show;
+pub mod verdict;
+
+mod bodies;
+mod collide;
+mod differences;
+mod guarded;
+mod ledger_history;
+mod questions;
+mod sheets;
+mod swap;
+
+pub use differences::differences;
+pub use ledger_history::histories;
+pub use swap::swapped;

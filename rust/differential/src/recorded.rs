@@ -1,0 +1,139 @@
+//! The original's answers, recorded: for runs where its folder is not here.
+//!
+//! One line per call: its name, a digest of the inputs (so that a changed generator is noticed
+//! and not mistaken for a changed answer), and one word per case: `n` not asked, `r` refused,
+//! `a` absent, `m` remove, `p` panicked, else eight digits of a digest of the result.
+use crate::archive::{self, Archive};
+use crate::generate::{ample, calls, lent, random};
+use crate::random::Random;
+use crate::verdict::{inside, of_original, written, Verdict, ORIGINAL_HERE};
+use model::calls::{outcome, Arg, Outcome, Written};
+use std::path::PathBuf;
+
+const SEED: u64 = 7;
+const CASES: usize = 500;
+
+pub fn path() -> PathBuf {
+    PathBuf::from(env!("CARGO_MANIFEST_DIR")).join("recorded/answers.txt")
+}
+
+fn digest(start: u64, bytes: impl IntoIterator<Item = u8>) -> u64 {
+    bytes.into_iter().fold(start ^ 0xcbf2_9ce4_8422_2325, |n, b| {
+        (n ^ u64::from(b)).wrapping_mul(0x0000_0100_0000_01b3)
+    })
+}
+
+fn of_args(start: u64, args: &[Arg]) -> u64 {
+    args.iter().fold(start, |n, arg| match arg {
+        Arg::Number(v) | Arg::Lent(v) => digest(n, v.to_le_bytes()),
+        Arg::Bytes(b) | Arg::Out(b) => digest(n ^ b.len() as u64, b.iter().copied()),
+        Arg::Words(w) => digest(n ^ w.len() as u64, w.iter().flat_map(|v| v.to_le_bytes())),
+        Arg::Cuts(c) => digest(n ^ c.len() as u64, c.iter().flat_map(|v| v.to_le_bytes())),
+    })
+}
+
+fn of_result(w: &Written) -> String {
+    let all = w.bytes.iter().copied();
+    let all = all.chain(w.cuts.iter().flat_map(|v| v.to_le_bytes()));
+    let all = all.chain(w.numbers.iter().flat_map(|v| v.to_le_bytes()));
+    format!("{:08x}", digest(0, all) as u32)
+}
+
+/// The word of an outcome, to hold beside a recorded one.
+fn word_of(call: &str, outcome: &Outcome) -> String {
+    match outcome.code {
+        _ if call == "extent_write_data_ref_hash" => of_result(&written(call, outcome)),
+        0 => of_result(&written(call, outcome)),
+        100 => "a".into(),
+        101 => "m".into(),
+        _ => "r".into(),
+    }
+}
+
+fn cases(call: &'static str) -> (u64, Vec<Vec<Arg>>) {
+    let mut r = Random::named(call, SEED);
+    let mut all = 0;
+    let mut list = Vec::new();
+    while list.len() < CASES {
+        let args = random(call, &mut r);
+        all = of_args(all, &args);
+        let args = lent(&args, ample(&args));
+        list.push(args);
+    }
+    (all, list)
+}
+
+fn line(call: &'static str) -> String {
+    let (all, list) = cases(call);
+    let words: Vec<String> = list
+        .iter()
+        .map(|args| match inside(call, outcome(call, args).code) {
+            false => "n".into(),
+            true => match of_original(call, args) {
+                Verdict::Accepted(w) => of_result(&w),
+                Verdict::Absent => "a".into(),
+                Verdict::Remove => "m".into(),
+                Verdict::Refused => "r".into(),
+                Verdict::Panicked => "p".into(),
+                Verdict::NotAsked => "n".into(),
+            },
+        })
+        .collect();
+    format!("{call} {all:016x} {}", words.join(" "))
+}
+
+/// The whole list, as the original here answers.
+pub fn made() -> String {
+    assert!(ORIGINAL_HERE, "the original's folder is missing");
+    calls().map(|call| line(call) + "\n").collect()
+}
+
+/// Holds model and archive to the recorded list; lines that begin with `ok` or `FAIL`.
+pub fn replay() -> Vec<String> {
+    let Ok(text) = std::fs::read_to_string(path()) else {
+        return vec!["FAIL recorded: the list is missing, make it with --record".into()];
+    };
+    if ORIGINAL_HERE {
+        return vec![match made() == text {
+            true => "ok   recorded: the list is current".into(),
+            false => "FAIL recorded: the list is not current, make it with --record".into(),
+        }];
+    }
+    let archive = Archive::default();
+    let mut lines = Vec::new();
+    for call in calls() {
+        let Some(line) = text.lines().find(|l| l.split(' ').next() == Some(call)) else {
+            lines.push(format!("FAIL {call} recorded: no line for it, make it with --record"));
+            continue;
+        };
+        let words: Vec<&str> = line.split(' ').collect();
+        let (all, list) = cases(call);
+        if words[1] != format!("{all:016x}") {
+            lines.push(format!(
+                "FAIL {call} recorded: the inputs are others, make it with --record"
+            ));
+            continue;
+        }
+        let mut held = |what: &str, answer: &dyn Fn(&[Arg]) -> Option<Outcome>| {
+            let mut different = 0;
+            let mut same = 0;
+            for (args, word) in list.iter().zip(&words[2..]) {
+                match (*word, answer(args)) {
+                    ("n", _) => {}
+                    ("p", Some(said)) if [11, 12].contains(&said.code) => same += 1,
+                    (word, Some(said)) if word_of(call, &said) == word => same += 1,
+                    _ => different += 1,
+                }
+            }
+            let mark = if different == 0 { "ok  " } else { "FAIL" };
+            lines.push(format!(
+                "{mark} {call} recorded/{what}: {same} the same, {different} differ"
+            ));
+        };
+        held("model", &|args| Some(outcome(call, args)));
+        if archive::has(call) {
+            held("archive", &|args| archive.run(call, args, true).ok());
+        }
+    }
+    lines
+}

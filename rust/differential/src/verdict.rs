@@ -1,0 +1,98 @@
+//! What the original answers, in words that the codes can be held to.
+use model::calls::{Arg, Outcome, Written};
+
+#[derive(Debug, Clone, PartialEq, Eq)]
+pub enum Verdict {
+    Accepted(Written),
+    Absent,
+    Remove,
+    Refused,
+    /// It panicked: an overflow.
+    Panicked,
+    /// It was not asked: the case lies outside the compared domain.
+    NotAsked,
+}
+
+/// Refusals that the original does not know, by document 01's list.
+const OUTSIDE: [u64; 5] = [1, 2, 3, 4, 21];
+
+/// Calls whose overflow is a panic in the original and 11 or 12 here.
+const OVERFLOWING: [&str; 4] = [
+    "backref_add_inline_keyed_data",
+    "backref_add_inline_shared",
+    "transaction_apply_shared_add",
+    "ledger_post",
+];
+
+/// How a verdict and a code stand to each other.
+#[derive(Debug, Clone, Copy, PartialEq, Eq)]
+pub enum Agreement {
+    Same,
+    /// Outside the compared domain.
+    Outside,
+    /// The original panics on a sum that is refused here.
+    Overflow,
+    Different,
+}
+
+/// What an accepted outcome wrote.
+pub fn written(call: &str, outcome: &Outcome) -> Written {
+    if call == "extent_write_data_ref_hash" {
+        return Written { numbers: vec![outcome.code], ..Written::default() };
+    }
+    let mut w = Written::default();
+    for arg in &outcome.args {
+        if let Arg::Lent(number) = arg {
+            w.numbers.push(*number);
+        }
+    }
+    let length = w.numbers.first().copied().unwrap_or(0) as usize;
+    for arg in &outcome.args {
+        match arg {
+            Arg::Out(out) => w.bytes = out.get(..length).unwrap_or(out).to_vec(),
+            Arg::Cuts(out) => w.cuts = out.get(..length).unwrap_or(out).to_vec(),
+            _ => {}
+        }
+    }
+    w
+}
+
+/// Whether the original is to be asked at all, by the model's code.
+pub fn inside(call: &str, code: u64) -> bool {
+    call == "extent_write_data_ref_hash" || !OUTSIDE.contains(&code)
+}
+
+pub fn agreement(call: &str, verdict: &Verdict, outcome: &Outcome) -> Agreement {
+    let same = match (verdict, outcome.code) {
+        (Verdict::NotAsked, _) => return Agreement::Outside,
+        (Verdict::Panicked, 11 | 12) if OVERFLOWING.contains(&call) => return Agreement::Overflow,
+        (Verdict::Accepted(w), _) if call == "extent_write_data_ref_hash" => {
+            *w == written(call, outcome)
+        }
+        (Verdict::Accepted(w), 0) => *w == written(call, outcome),
+        (Verdict::Absent, code) => code == 100,
+        (Verdict::Remove, code) => code == 101,
+        (Verdict::Refused, code) => (5..=20).contains(&code),
+        _ => false,
+    };
+    if same {
+        Agreement::Same
+    } else {
+        Agreement::Different
+    }
+}
+
+/// The original's verdict; only where its folder was there when this was built.
+#[cfg(original_here)]
+pub fn of_original(call: &str, args: &[Arg]) -> Verdict {
+    let asked = std::panic::AssertUnwindSafe(|| crate::original::verdict(call, args));
+    std::panic::catch_unwind(asked).unwrap_or(Verdict::Panicked)
+}
+
+#[cfg(not(original_here))]
+pub fn of_original(_: &str, _: &[Arg]) -> Verdict {
+    Verdict::NotAsked
+}
+
+/// Whether the original can be asked.
+pub const ORIGINAL_HERE: bool = cfg!(original_here);

@@ -1,0 +1,76 @@
+//! Document 01's marked cases, and its lister example, on the model.
+use crate::asked::Stop::{Refused, Remove};
+use crate::body::*;
+use crate::sheet::{bytes, insert, split_to_fit, Item};
+use crate::{apply, hash, lister};
+
+fn e() -> Vec<u8> {
+    data_extent_body(7, 5, 257, 0)
+}
+
+fn with(length: usize, flags: u8, total: u8) -> Vec<u8> {
+    let mut body = vec![0; length];
+    body[16] = flags;
+    body[0] = total;
+    body
+}
+
+#[test]
+fn marked() {
+    // a
+    assert_eq!(inline_refs(168, &[0; 23]), Err(Refused(6)));
+    assert_eq!(inline_refs(168, &[0; 24]), Ok(vec![]));
+    // b
+    assert_eq!(inline_refs(168, &with(41, 2, 0)), Err(Refused(6)));
+    assert_eq!(inline_refs(168, &with(42, 2, 0)), Ok(vec![]));
+    // c
+    assert_eq!(raise_total(&with(30, 2, 1), 1), Ok(with(30, 2, 2)));
+    // d, e
+    assert_eq!(e().len(), 53);
+    let two = add_inline_data_ref(168, &e(), [5, 257, 0]).unwrap();
+    assert_eq!((two.len(), two[0], two[49]), (53, 2, 2));
+    assert_eq!(drop_inline_data_ref(168, &two, [5, 257, 0]), Ok(e()));
+    assert_eq!(drop_inline_data_ref(168, &e(), [5, 257, 0]), Err(Refused(13)));
+    // f
+    let skinny = tree_block_body(7, 5);
+    assert_eq!(add_inline_tree_ref(169, &skinny, 5), Err(Refused(9)));
+    let before = add_inline_tree_ref(169, &skinny, 7).unwrap();
+    assert_eq!((before[25], before[34]), (7, 5));
+    let after = add_inline_tree_ref(169, &skinny, 3).unwrap();
+    assert_eq!((after[25], after[34]), (5, 3));
+    // g
+    let zero = add_inline_shared(168, &e(), 184, 9, 0).unwrap();
+    assert_eq!((zero.len(), zero[0]), (66, 1));
+    // h
+    let limits = [4096, 16384, 501, 500].map(apply::max_inline_extent_item);
+    assert_eq!(limits, [Ok(224), Ok(992), Ok(0), Err(Refused(3))]);
+    // i
+    let keyed = |count| drop_keyed_data_ref(&keyed_data_ref_body([1, 2, 3], count), [1, 2, 3]);
+    assert_eq!((keyed(0), keyed(1)), (Err(Refused(16)), Err(Remove)));
+    // j
+    let list =
+        |n: u64| bytes(&(0..n).map(|i| Item::new(i, 1, 0, vec![0; 175])).collect::<Vec<_>>());
+    let cuts = [3, 4, 5].map(|n| split_to_fit(501, &list(n)).unwrap());
+    assert_eq!(cuts, [vec![1], vec![2], vec![2, 4]]);
+    // k
+    let alone = |length| insert(501, &[1], Item::new(0, 0, 0, vec![0; length]));
+    assert!(alone(375).is_ok());
+    assert_eq!(alone(376), Err(Refused(18)));
+}
+
+#[test]
+fn listed() {
+    let listed = lister::listed(&[vec![168], e()].concat());
+    assert_eq!(listed, "24 1 1 1\n178 5 257 0 1\n");
+    assert_eq!(lister::listed(&[]), "refused 6\n");
+    assert_eq!(lister::listed(&[168; 65_537]), "refused 3\n");
+}
+
+/// RFC 3720, B.4.
+#[test]
+fn vectors() {
+    assert_eq!(hash::checksum(&[0; 32]), 0x8a91_36aa);
+    assert_eq!(hash::checksum(&[255; 32]), 0x62a8_ab43);
+    assert_eq!(hash::checksum(&(0..32).collect::<Vec<u8>>()), 0x46dd_794e);
+    assert_eq!(hash::checksum(&(0..32).rev().collect::<Vec<u8>>()), 0x113f_db5c);
+}

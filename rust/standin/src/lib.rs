@@ -1,0 +1,86 @@
+//! A stand-in for the archive, made of the model, that can be told to go wrong: to see that the
+//! differential run links, and that it notices each fault. It is no part of the product.
+//! The variable STANDIN_FAULT names the fault.
+#![allow(clippy::missing_safety_doc, clippy::too_many_arguments)]
+use model::calls::{outcome, Arg, Outcome};
+use std::slice::{from_raw_parts, from_raw_parts_mut};
+use std::sync::OnceLock;
+
+include!(concat!(env!("OUT_DIR"), "/exports.rs"));
+
+fn fault() -> &'static str {
+    static FAULT: OnceLock<String> = OnceLock::new();
+    FAULT.get_or_init(|| std::env::var("STANDIN_FAULT").unwrap_or_default())
+}
+
+/// The model's outcome, or one that is wrong in the way asked for.
+fn faulty(call: &str, args: &[Arg]) -> Outcome {
+    let mut said = outcome(call, args);
+    let length = said.args.iter().find_map(|a| if let Arg::Lent(n) = a { Some(*n) } else { None });
+    let length = length.unwrap_or(0) as usize;
+    match fault() {
+        "refuses" if said.code == 0 => said = Outcome { code: 5, args: said.args },
+        "absent" if said.code == 0 => return blank(args, 100),
+        "other number" if said.code == 12 => said.code = 11,
+        "no room" if said.code == 0 && length > 0 => return blank(args, 21),
+        "hands back" if said.code == 0 => {
+            let given =
+                args.iter()
+                    .find_map(|a| if let Arg::Bytes(b) = a { Some(b.clone()) } else { None });
+            for arg in &mut said.args {
+                if let (Arg::Out(out), Some(given)) = (arg, &given) {
+                    let n = out.len().min(given.len());
+                    out[..n].copy_from_slice(&given[..n]);
+                }
+            }
+        }
+        "keeps the length" if said.code > 0 && said.code < 100 => said.args = args.to_vec(),
+        "writes when refused" if said.code > 0 && said.code < 100 => {
+            for arg in &mut said.args {
+                if let Arg::Out(out) = arg {
+                    out.iter_mut().take(1).for_each(|b| *b = !*b);
+                }
+            }
+        }
+        "past the result" if said.code == 0 => {
+            for arg in &mut said.args {
+                match arg {
+                    Arg::Out(out) => out.iter_mut().skip(length).take(1).for_each(|b| *b = !*b),
+                    Arg::Cuts(out) => out.iter_mut().skip(length).take(1).for_each(|b| *b = !*b),
+                    _ => {}
+                }
+            }
+        }
+        "later cuts" => {
+            for arg in &mut said.args {
+                if let Arg::Cuts(out) = arg {
+                    out.iter_mut().take(length).skip(1).for_each(|cut| *cut += 1);
+                }
+            }
+        }
+        "one more" if said.code == 0 => {
+            for arg in &mut said.args {
+                if let Arg::Lent(n) = arg {
+                    *n += 1;
+                    break;
+                }
+            }
+        }
+        _ => {}
+    }
+    said
+}
+
+fn blank(args: &[Arg], code: u64) -> Outcome {
+    let lent = |arg: &Arg| if let Arg::Lent(_) = arg { Arg::Lent(0) } else { arg.clone() };
+    Outcome { code, args: args.iter().map(lent).collect() }
+}
+
+/// Faults beside the lent output.
+unsafe fn beside(out: *mut u8, length: usize) {
+    match fault() {
+        "byte after" => *out.add(length) = 7,
+        "byte before" => *out.wrapping_sub(1) = 7,
+        _ => {}
+    }
+}
