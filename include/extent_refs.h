@@ -16,28 +16,181 @@
 extern "C" {
 #endif
 
+uint32_t backref_flags(const uint8_t *body, size_t body_len, uint64_t *value);
+
+uint32_t backref_add_inline_keyed_block(
+    uint8_t item_type,
+    const uint8_t *body, size_t body_len,
+    uint64_t tree,
+    uint32_t count,
+    uint8_t *out, size_t out_len,
+    uint64_t *len);
+
+uint32_t backref_add_inline_keyed_data(
+    uint8_t item_type,
+    const uint8_t *body, size_t body_len,
+    uint64_t tree,
+    uint64_t objectid,
+    uint64_t offset,
+    uint32_t count,
+    uint8_t *out, size_t out_len,
+    uint64_t *len);
+
+uint32_t backref_drop_inline_data_ref(
+    uint8_t item_type,
+    const uint8_t *body, size_t body_len,
+    uint64_t tree,
+    uint64_t objectid,
+    uint64_t offset,
+    uint8_t *out, size_t out_len,
+    uint64_t *len);
+
+uint32_t backref_lower_total(
+    uint8_t item_type,
+    const uint8_t *body, size_t body_len,
+    uint8_t *out, size_t out_len,
+    uint64_t *len);
+
+uint32_t backref_reduce_total(
+    uint8_t item_type,
+    const uint8_t *body, size_t body_len,
+    uint64_t total_count,
+    uint8_t *out, size_t out_len,
+    uint64_t *len);
+
+uint32_t backref_raise_total(
+    uint8_t item_type,
+    const uint8_t *body, size_t body_len,
+    uint64_t total_count,
+    uint8_t *out, size_t out_len,
+    uint64_t *len);
+
+uint32_t backref_holds_inline_data_ref(
+    uint8_t item_type,
+    const uint8_t *body, size_t body_len,
+    uint64_t tree,
+    uint64_t objectid,
+    uint64_t offset,
+    uint64_t *holds);
+
+uint32_t backref_add_inline_data_ref(
+    uint8_t item_type,
+    const uint8_t *body, size_t body_len,
+    uint64_t tree,
+    uint64_t objectid,
+    uint64_t offset,
+    uint8_t *out, size_t out_len,
+    uint64_t *len);
+
+uint32_t backref_add_inline_tree_ref(
+    uint8_t item_type,
+    const uint8_t *body, size_t body_len,
+    uint64_t tree,
+    uint8_t *out, size_t out_len,
+    uint64_t *len);
+
+uint32_t backref_add_inline_shared(
+    uint8_t item_type,
+    const uint8_t *body, size_t body_len,
+    uint8_t kind,
+    uint64_t parent,
+    uint32_t count,
+    uint8_t *out, size_t out_len,
+    uint64_t *len);
+
+uint32_t backref_drop_inline_tree_ref(
+    uint8_t item_type,
+    const uint8_t *body, size_t body_len,
+    uint64_t tree,
+    uint8_t *out, size_t out_len,
+    uint64_t *len);
+
+uint32_t backref_with_flags(
+    const uint8_t *body, size_t body_len,
+    uint64_t set,
+    uint8_t *out, size_t out_len,
+    uint64_t *len);
+
+uint64_t extent_write_data_ref_hash(uint64_t tree, uint64_t objectid, uint64_t offset);
+
+uint32_t extent_write_tree_block_key(
+    uint64_t bytenr,
+    uint8_t level,
+    uint64_t *objectid,
+    uint64_t *kind,
+    uint64_t *offset);
+
+uint32_t extent_write_tree_block_body(
+    uint64_t generation,
+    uint64_t owner,
+    uint8_t *out, size_t out_len,
+    uint64_t *len);
+
+uint32_t extent_write_data_extent_body(
+    uint64_t generation,
+    uint64_t root,
+    uint64_t ino,
+    uint64_t offset,
+    uint8_t *out, size_t out_len,
+    uint64_t *len);
+
+uint32_t leaf_edit_insert(
+    uint32_t nodesize,
+    const uint8_t *sheet, size_t sheet_len,
+    uint64_t objectid,
+    uint8_t kind,
+    uint64_t offset,
+    const uint8_t *data, size_t data_len,
+    uint8_t *out, size_t out_len,
+    uint64_t *len);
+
+uint32_t leaf_edit_insert_unbounded(
+    const uint8_t *sheet, size_t sheet_len,
+    uint64_t objectid,
+    uint8_t kind,
+    uint64_t offset,
+    const uint8_t *data, size_t data_len,
+    uint8_t *out, size_t out_len,
+    uint64_t *len);
+
+uint32_t leaf_edit_delete(
+    const uint8_t *sheet, size_t sheet_len,
+    uint64_t objectid,
+    uint8_t kind,
+    uint64_t offset,
+    uint8_t *out, size_t out_len,
+    uint64_t *len);
+
+uint32_t leaf_edit_fit(uint32_t nodesize, const uint8_t *sheet, size_t sheet_len, uint64_t *fits);
+
+uint32_t leaf_edit_fits(
+    uint32_t nodesize,
+    const uint8_t *sheet, size_t sheet_len,
+    const uint8_t *data, size_t data_len,
+    uint64_t *fits);
+
+uint32_t leaf_edit_split(
+    const uint8_t *sheet, size_t sheet_len,
+    uint16_t *cuts, size_t cuts_len,
+    uint64_t *count);
+
+uint32_t leaf_edit_split_to_fit(
+    uint32_t nodesize,
+    const uint8_t *sheet, size_t sheet_len,
+    uint16_t *cuts, size_t cuts_len,
+    uint64_t *count);
+
+uint32_t leaf_edit_item(
+    const uint8_t *sheet, size_t sheet_len,
+    uint64_t number,
+    uint64_t *start,
+    uint64_t *len);
+
 /* Not exported yet:
- *   extent_write_data_ref_hash
- *   extent_write_tree_block_key
- *   extent_write_tree_block_body
- *   extent_write_data_extent_body
- *   backref_flags
  *   backref_inline_refs
  *   backref_take_inline_shared
- *   backref_add_inline_keyed_block
- *   backref_add_inline_keyed_data
- *   backref_drop_inline_data_ref
  *   backref_drop_keyed_data_ref
- *   backref_lower_total
- *   backref_reduce_total
- *   backref_raise_total
- *   backref_holds_inline_data_ref
- *   backref_add_inline_data_ref
- *   backref_add_inline_tree_ref
  *   backref_keyed_data_ref_body
- *   backref_add_inline_shared
- *   backref_drop_inline_tree_ref
- *   backref_with_flags
  *   transaction_held_only_by
  *   transaction_keyed_data_ref_names
  *   transaction_shared_add_item
@@ -49,14 +202,6 @@ extern "C" {
  *   transaction_apply_shared_add
  *   transaction_apply_shared_drop
  *   transaction_drop_kept_tree_ref
- *   leaf_edit_insert
- *   leaf_edit_insert_unbounded
- *   leaf_edit_delete
- *   leaf_edit_fit
- *   leaf_edit_fits
- *   leaf_edit_split
- *   leaf_edit_split_to_fit
- *   leaf_edit_item
  *   ledger_post
  */
 

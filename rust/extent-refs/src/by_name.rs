@@ -16,27 +16,35 @@ pub enum Value<'a> {
 
 /// Every declared call.
 pub const NAMES: &[&str] = &[
-    "extent_write_data_ref_hash",
-    "extent_write_tree_block_key",
-    "extent_write_tree_block_body",
-    "extent_write_data_extent_body",
     "backref_flags",
-    "backref_inline_refs",
-    "backref_take_inline_shared",
     "backref_add_inline_keyed_block",
     "backref_add_inline_keyed_data",
     "backref_drop_inline_data_ref",
-    "backref_drop_keyed_data_ref",
     "backref_lower_total",
     "backref_reduce_total",
     "backref_raise_total",
     "backref_holds_inline_data_ref",
     "backref_add_inline_data_ref",
     "backref_add_inline_tree_ref",
-    "backref_keyed_data_ref_body",
     "backref_add_inline_shared",
     "backref_drop_inline_tree_ref",
     "backref_with_flags",
+    "extent_write_data_ref_hash",
+    "extent_write_tree_block_key",
+    "extent_write_tree_block_body",
+    "extent_write_data_extent_body",
+    "leaf_edit_insert",
+    "leaf_edit_insert_unbounded",
+    "leaf_edit_delete",
+    "leaf_edit_fit",
+    "leaf_edit_fits",
+    "leaf_edit_split",
+    "leaf_edit_split_to_fit",
+    "leaf_edit_item",
+    "backref_inline_refs",
+    "backref_take_inline_shared",
+    "backref_drop_keyed_data_ref",
+    "backref_keyed_data_ref_body",
     "transaction_held_only_by",
     "transaction_keyed_data_ref_names",
     "transaction_shared_add_item",
@@ -48,14 +56,6 @@ pub const NAMES: &[&str] = &[
     "transaction_apply_shared_add",
     "transaction_apply_shared_drop",
     "transaction_drop_kept_tree_ref",
-    "leaf_edit_insert",
-    "leaf_edit_insert_unbounded",
-    "leaf_edit_delete",
-    "leaf_edit_fit",
-    "leaf_edit_fits",
-    "leaf_edit_split",
-    "leaf_edit_split_to_fit",
-    "leaf_edit_item",
     "ledger_post",
 ];
 
@@ -63,26 +63,8 @@ pub const NAMES: &[&str] = &[
 pub fn call(name: &str, args: &mut [Value<'_>]) -> Option<u64> {
     use Value::*;
     Some(match (name, args) {
-        ("extent_write_data_ref_hash", [Number(tree), Number(objectid), Number(offset)]) => {
-            lent::extent_write_data_ref_hash(*tree, *objectid, *offset)
-        }
-        ("extent_write_tree_block_key", [Number(bytenr), Number(level), Lent(objectid), Lent(kind), Lent(offset)]) => {
-            u64::from(lent::extent_write_tree_block_key(*bytenr, *level as u8, objectid, kind, offset))
-        }
-        ("extent_write_tree_block_body", [Number(generation), Number(owner), Out(out), Lent(len)]) => {
-            u64::from(lent::extent_write_tree_block_body(*generation, *owner, out, len))
-        }
-        ("extent_write_data_extent_body", [Number(generation), Number(root), Number(ino), Number(offset), Out(out), Lent(len)]) => {
-            u64::from(lent::extent_write_data_extent_body(*generation, *root, *ino, *offset, out, len))
-        }
         ("backref_flags", [Bytes(body), Lent(value)]) => {
             u64::from(lent::backref_flags(body, value))
-        }
-        ("backref_inline_refs", [Number(item_type), Bytes(body), Cuts(positions), Lent(count)]) => {
-            u64::from(lent::backref_inline_refs(*item_type as u8, body, positions, count))
-        }
-        ("backref_take_inline_shared", [Number(item_type), Bytes(body), Number(kind), Number(parent), Out(out), Lent(len), Lent(count)]) => {
-            u64::from(lent::backref_take_inline_shared(*item_type as u8, body, *kind as u8, *parent, out, len, count))
         }
         ("backref_add_inline_keyed_block", [Number(item_type), Bytes(body), Number(tree), Number(count), Out(out), Lent(len)]) => {
             u64::from(lent::backref_add_inline_keyed_block(*item_type as u8, body, *tree, *count as u32, out, len))
@@ -92,9 +74,6 @@ pub fn call(name: &str, args: &mut [Value<'_>]) -> Option<u64> {
         }
         ("backref_drop_inline_data_ref", [Number(item_type), Bytes(body), Number(tree), Number(objectid), Number(offset), Out(out), Lent(len)]) => {
             u64::from(lent::backref_drop_inline_data_ref(*item_type as u8, body, *tree, *objectid, *offset, out, len))
-        }
-        ("backref_drop_keyed_data_ref", [Bytes(item), Number(tree), Number(objectid), Number(offset), Out(out), Lent(len)]) => {
-            u64::from(lent::backref_drop_keyed_data_ref(item, *tree, *objectid, *offset, out, len))
         }
         ("backref_lower_total", [Number(item_type), Bytes(body), Out(out), Lent(len)]) => {
             u64::from(lent::backref_lower_total(*item_type as u8, body, out, len))
@@ -114,9 +93,6 @@ pub fn call(name: &str, args: &mut [Value<'_>]) -> Option<u64> {
         ("backref_add_inline_tree_ref", [Number(item_type), Bytes(body), Number(tree), Out(out), Lent(len)]) => {
             u64::from(lent::backref_add_inline_tree_ref(*item_type as u8, body, *tree, out, len))
         }
-        ("backref_keyed_data_ref_body", [Number(tree), Number(objectid), Number(offset), Number(count), Out(out), Lent(len)]) => {
-            u64::from(lent::backref_keyed_data_ref_body(*tree, *objectid, *offset, *count as u32, out, len))
-        }
         ("backref_add_inline_shared", [Number(item_type), Bytes(body), Number(kind), Number(parent), Number(count), Out(out), Lent(len)]) => {
             u64::from(lent::backref_add_inline_shared(*item_type as u8, body, *kind as u8, *parent, *count as u32, out, len))
         }
@@ -125,6 +101,54 @@ pub fn call(name: &str, args: &mut [Value<'_>]) -> Option<u64> {
         }
         ("backref_with_flags", [Bytes(body), Number(set), Out(out), Lent(len)]) => {
             u64::from(lent::backref_with_flags(body, *set, out, len))
+        }
+        ("extent_write_data_ref_hash", [Number(tree), Number(objectid), Number(offset)]) => {
+            lent::extent_write_data_ref_hash(*tree, *objectid, *offset)
+        }
+        ("extent_write_tree_block_key", [Number(bytenr), Number(level), Lent(objectid), Lent(kind), Lent(offset)]) => {
+            u64::from(lent::extent_write_tree_block_key(*bytenr, *level as u8, objectid, kind, offset))
+        }
+        ("extent_write_tree_block_body", [Number(generation), Number(owner), Out(out), Lent(len)]) => {
+            u64::from(lent::extent_write_tree_block_body(*generation, *owner, out, len))
+        }
+        ("extent_write_data_extent_body", [Number(generation), Number(root), Number(ino), Number(offset), Out(out), Lent(len)]) => {
+            u64::from(lent::extent_write_data_extent_body(*generation, *root, *ino, *offset, out, len))
+        }
+        ("leaf_edit_insert", [Number(nodesize), Bytes(sheet), Number(objectid), Number(kind), Number(offset), Bytes(data), Out(out), Lent(len)]) => {
+            u64::from(lent::leaf_edit_insert(*nodesize as u32, sheet, *objectid, *kind as u8, *offset, data, out, len))
+        }
+        ("leaf_edit_insert_unbounded", [Bytes(sheet), Number(objectid), Number(kind), Number(offset), Bytes(data), Out(out), Lent(len)]) => {
+            u64::from(lent::leaf_edit_insert_unbounded(sheet, *objectid, *kind as u8, *offset, data, out, len))
+        }
+        ("leaf_edit_delete", [Bytes(sheet), Number(objectid), Number(kind), Number(offset), Out(out), Lent(len)]) => {
+            u64::from(lent::leaf_edit_delete(sheet, *objectid, *kind as u8, *offset, out, len))
+        }
+        ("leaf_edit_fit", [Number(nodesize), Bytes(sheet), Lent(fits)]) => {
+            u64::from(lent::leaf_edit_fit(*nodesize as u32, sheet, fits))
+        }
+        ("leaf_edit_fits", [Number(nodesize), Bytes(sheet), Bytes(data), Lent(fits)]) => {
+            u64::from(lent::leaf_edit_fits(*nodesize as u32, sheet, data, fits))
+        }
+        ("leaf_edit_split", [Bytes(sheet), Cuts(cuts), Lent(count)]) => {
+            u64::from(lent::leaf_edit_split(sheet, cuts, count))
+        }
+        ("leaf_edit_split_to_fit", [Number(nodesize), Bytes(sheet), Cuts(cuts), Lent(count)]) => {
+            u64::from(lent::leaf_edit_split_to_fit(*nodesize as u32, sheet, cuts, count))
+        }
+        ("leaf_edit_item", [Bytes(sheet), Number(number), Lent(start), Lent(len)]) => {
+            u64::from(lent::leaf_edit_item(sheet, *number, start, len))
+        }
+        ("backref_inline_refs", [Number(item_type), Bytes(body), Cuts(positions), Lent(count)]) => {
+            u64::from(lent::backref_inline_refs(*item_type as u8, body, positions, count))
+        }
+        ("backref_take_inline_shared", [Number(item_type), Bytes(body), Number(kind), Number(parent), Out(out), Lent(len), Lent(count)]) => {
+            u64::from(lent::backref_take_inline_shared(*item_type as u8, body, *kind as u8, *parent, out, len, count))
+        }
+        ("backref_drop_keyed_data_ref", [Bytes(item), Number(tree), Number(objectid), Number(offset), Out(out), Lent(len)]) => {
+            u64::from(lent::backref_drop_keyed_data_ref(item, *tree, *objectid, *offset, out, len))
+        }
+        ("backref_keyed_data_ref_body", [Number(tree), Number(objectid), Number(offset), Number(count), Out(out), Lent(len)]) => {
+            u64::from(lent::backref_keyed_data_ref_body(*tree, *objectid, *offset, *count as u32, out, len))
         }
         ("transaction_held_only_by", [Bytes(body), Number(root), Number(ino), Words(offsets), Lent(holds)]) => {
             u64::from(lent::transaction_held_only_by(body, *root, *ino, offsets, holds))
@@ -158,30 +182,6 @@ pub fn call(name: &str, args: &mut [Value<'_>]) -> Option<u64> {
         }
         ("transaction_drop_kept_tree_ref", [Bytes(sheet), Number(bytenr), Number(level), Number(tree), Number(own), Out(out), Lent(len)]) => {
             u64::from(lent::transaction_drop_kept_tree_ref(sheet, *bytenr, *level as u8, *tree, *own != 0, out, len))
-        }
-        ("leaf_edit_insert", [Number(nodesize), Bytes(sheet), Number(objectid), Number(kind), Number(offset), Bytes(data), Out(out), Lent(len)]) => {
-            u64::from(lent::leaf_edit_insert(*nodesize as u32, sheet, *objectid, *kind as u8, *offset, data, out, len))
-        }
-        ("leaf_edit_insert_unbounded", [Bytes(sheet), Number(objectid), Number(kind), Number(offset), Bytes(data), Out(out), Lent(len)]) => {
-            u64::from(lent::leaf_edit_insert_unbounded(sheet, *objectid, *kind as u8, *offset, data, out, len))
-        }
-        ("leaf_edit_delete", [Bytes(sheet), Number(objectid), Number(kind), Number(offset), Out(out), Lent(len)]) => {
-            u64::from(lent::leaf_edit_delete(sheet, *objectid, *kind as u8, *offset, out, len))
-        }
-        ("leaf_edit_fit", [Number(nodesize), Bytes(sheet), Lent(fits)]) => {
-            u64::from(lent::leaf_edit_fit(*nodesize as u32, sheet, fits))
-        }
-        ("leaf_edit_fits", [Number(nodesize), Bytes(sheet), Bytes(data), Lent(fits)]) => {
-            u64::from(lent::leaf_edit_fits(*nodesize as u32, sheet, data, fits))
-        }
-        ("leaf_edit_split", [Bytes(sheet), Cuts(cuts), Lent(count)]) => {
-            u64::from(lent::leaf_edit_split(sheet, cuts, count))
-        }
-        ("leaf_edit_split_to_fit", [Number(nodesize), Bytes(sheet), Cuts(cuts), Lent(count)]) => {
-            u64::from(lent::leaf_edit_split_to_fit(*nodesize as u32, sheet, cuts, count))
-        }
-        ("leaf_edit_item", [Bytes(sheet), Number(number), Lent(start), Lent(len)]) => {
-            u64::from(lent::leaf_edit_item(sheet, *number, start, len))
         }
         ("ledger_post", [Number(nodesize), Bytes(sheet), Number(change), Number(extent), Number(a), Number(b), Number(c), Number(amount), Out(out), Lent(len)]) => {
             u64::from(lent::ledger_post(*nodesize as u32, sheet, *change as u8, *extent, *a, *b, *c, *amount as u32, out, len))

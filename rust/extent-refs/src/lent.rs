@@ -7,96 +7,8 @@
 #![allow(clippy::too_many_arguments)]
 use crate::raw;
 
-pub fn extent_write_data_ref_hash(tree: u64, objectid: u64, offset: u64) -> u64 {
-    unsafe { raw::extent_write_data_ref_hash(tree, objectid, offset) }
-}
-
-pub fn extent_write_tree_block_key(
-    bytenr: u64,
-    level: u8,
-    objectid: &mut u64,
-    kind: &mut u64,
-    offset: &mut u64,
-) -> u32 {
-    unsafe { raw::extent_write_tree_block_key(bytenr, level, objectid, kind, offset) }
-}
-
-pub fn extent_write_tree_block_body(
-    generation: u64,
-    owner: u64,
-    out: &mut [u8],
-    len: &mut u64,
-) -> u32 {
-    unsafe {
-        raw::extent_write_tree_block_body(generation, owner, out.as_mut_ptr(), out.len(), len)
-    }
-}
-
-pub fn extent_write_data_extent_body(
-    generation: u64,
-    root: u64,
-    ino: u64,
-    offset: u64,
-    out: &mut [u8],
-    len: &mut u64,
-) -> u32 {
-    unsafe {
-        raw::extent_write_data_extent_body(
-            generation,
-            root,
-            ino,
-            offset,
-            out.as_mut_ptr(),
-            out.len(),
-            len,
-        )
-    }
-}
-
 pub fn backref_flags(body: &[u8], value: &mut u64) -> u32 {
     unsafe { raw::backref_flags(body.as_ptr(), body.len(), value) }
-}
-
-pub fn backref_inline_refs(
-    item_type: u8,
-    body: &[u8],
-    positions: &mut [u16],
-    count: &mut u64,
-) -> u32 {
-    unsafe {
-        raw::backref_inline_refs(
-            item_type,
-            body.as_ptr(),
-            body.len(),
-            positions.as_mut_ptr(),
-            positions.len(),
-            count,
-        )
-    }
-}
-
-pub fn backref_take_inline_shared(
-    item_type: u8,
-    body: &[u8],
-    kind: u8,
-    parent: u64,
-    out: &mut [u8],
-    len: &mut u64,
-    count: &mut u64,
-) -> u32 {
-    unsafe {
-        raw::backref_take_inline_shared(
-            item_type,
-            body.as_ptr(),
-            body.len(),
-            kind,
-            parent,
-            out.as_mut_ptr(),
-            out.len(),
-            len,
-            count,
-        )
-    }
 }
 
 pub fn backref_add_inline_keyed_block(
@@ -161,28 +73,6 @@ pub fn backref_drop_inline_data_ref(
             item_type,
             body.as_ptr(),
             body.len(),
-            tree,
-            objectid,
-            offset,
-            out.as_mut_ptr(),
-            out.len(),
-            len,
-        )
-    }
-}
-
-pub fn backref_drop_keyed_data_ref(
-    item: &[u8],
-    tree: u64,
-    objectid: u64,
-    offset: u64,
-    out: &mut [u8],
-    len: &mut u64,
-) -> u32 {
-    unsafe {
-        raw::backref_drop_keyed_data_ref(
-            item.as_ptr(),
-            item.len(),
             tree,
             objectid,
             offset,
@@ -311,27 +201,6 @@ pub fn backref_add_inline_tree_ref(
     }
 }
 
-pub fn backref_keyed_data_ref_body(
-    tree: u64,
-    objectid: u64,
-    offset: u64,
-    count: u32,
-    out: &mut [u8],
-    len: &mut u64,
-) -> u32 {
-    unsafe {
-        raw::backref_keyed_data_ref_body(
-            tree,
-            objectid,
-            offset,
-            count,
-            out.as_mut_ptr(),
-            out.len(),
-            len,
-        )
-    }
-}
-
 pub fn backref_add_inline_shared(
     item_type: u8,
     body: &[u8],
@@ -379,6 +248,249 @@ pub fn backref_drop_inline_tree_ref(
 pub fn backref_with_flags(body: &[u8], set: u64, out: &mut [u8], len: &mut u64) -> u32 {
     unsafe {
         raw::backref_with_flags(body.as_ptr(), body.len(), set, out.as_mut_ptr(), out.len(), len)
+    }
+}
+
+pub fn extent_write_data_ref_hash(tree: u64, objectid: u64, offset: u64) -> u64 {
+    unsafe { raw::extent_write_data_ref_hash(tree, objectid, offset) }
+}
+
+pub fn extent_write_tree_block_key(
+    bytenr: u64,
+    level: u8,
+    objectid: &mut u64,
+    kind: &mut u64,
+    offset: &mut u64,
+) -> u32 {
+    unsafe { raw::extent_write_tree_block_key(bytenr, level, objectid, kind, offset) }
+}
+
+pub fn extent_write_tree_block_body(
+    generation: u64,
+    owner: u64,
+    out: &mut [u8],
+    len: &mut u64,
+) -> u32 {
+    unsafe {
+        raw::extent_write_tree_block_body(generation, owner, out.as_mut_ptr(), out.len(), len)
+    }
+}
+
+pub fn extent_write_data_extent_body(
+    generation: u64,
+    root: u64,
+    ino: u64,
+    offset: u64,
+    out: &mut [u8],
+    len: &mut u64,
+) -> u32 {
+    unsafe {
+        raw::extent_write_data_extent_body(
+            generation,
+            root,
+            ino,
+            offset,
+            out.as_mut_ptr(),
+            out.len(),
+            len,
+        )
+    }
+}
+
+pub fn leaf_edit_insert(
+    nodesize: u32,
+    sheet: &[u8],
+    objectid: u64,
+    kind: u8,
+    offset: u64,
+    data: &[u8],
+    out: &mut [u8],
+    len: &mut u64,
+) -> u32 {
+    unsafe {
+        raw::leaf_edit_insert(
+            nodesize,
+            sheet.as_ptr(),
+            sheet.len(),
+            objectid,
+            kind,
+            offset,
+            data.as_ptr(),
+            data.len(),
+            out.as_mut_ptr(),
+            out.len(),
+            len,
+        )
+    }
+}
+
+pub fn leaf_edit_insert_unbounded(
+    sheet: &[u8],
+    objectid: u64,
+    kind: u8,
+    offset: u64,
+    data: &[u8],
+    out: &mut [u8],
+    len: &mut u64,
+) -> u32 {
+    unsafe {
+        raw::leaf_edit_insert_unbounded(
+            sheet.as_ptr(),
+            sheet.len(),
+            objectid,
+            kind,
+            offset,
+            data.as_ptr(),
+            data.len(),
+            out.as_mut_ptr(),
+            out.len(),
+            len,
+        )
+    }
+}
+
+pub fn leaf_edit_delete(
+    sheet: &[u8],
+    objectid: u64,
+    kind: u8,
+    offset: u64,
+    out: &mut [u8],
+    len: &mut u64,
+) -> u32 {
+    unsafe {
+        raw::leaf_edit_delete(
+            sheet.as_ptr(),
+            sheet.len(),
+            objectid,
+            kind,
+            offset,
+            out.as_mut_ptr(),
+            out.len(),
+            len,
+        )
+    }
+}
+
+pub fn leaf_edit_fit(nodesize: u32, sheet: &[u8], fits: &mut u64) -> u32 {
+    unsafe { raw::leaf_edit_fit(nodesize, sheet.as_ptr(), sheet.len(), fits) }
+}
+
+pub fn leaf_edit_fits(nodesize: u32, sheet: &[u8], data: &[u8], fits: &mut u64) -> u32 {
+    unsafe {
+        raw::leaf_edit_fits(nodesize, sheet.as_ptr(), sheet.len(), data.as_ptr(), data.len(), fits)
+    }
+}
+
+pub fn leaf_edit_split(sheet: &[u8], cuts: &mut [u16], count: &mut u64) -> u32 {
+    unsafe {
+        raw::leaf_edit_split(sheet.as_ptr(), sheet.len(), cuts.as_mut_ptr(), cuts.len(), count)
+    }
+}
+
+pub fn leaf_edit_split_to_fit(
+    nodesize: u32,
+    sheet: &[u8],
+    cuts: &mut [u16],
+    count: &mut u64,
+) -> u32 {
+    unsafe {
+        raw::leaf_edit_split_to_fit(
+            nodesize,
+            sheet.as_ptr(),
+            sheet.len(),
+            cuts.as_mut_ptr(),
+            cuts.len(),
+            count,
+        )
+    }
+}
+
+pub fn leaf_edit_item(sheet: &[u8], number: u64, start: &mut u64, len: &mut u64) -> u32 {
+    unsafe { raw::leaf_edit_item(sheet.as_ptr(), sheet.len(), number, start, len) }
+}
+
+pub fn backref_inline_refs(
+    item_type: u8,
+    body: &[u8],
+    positions: &mut [u16],
+    count: &mut u64,
+) -> u32 {
+    unsafe {
+        raw::backref_inline_refs(
+            item_type,
+            body.as_ptr(),
+            body.len(),
+            positions.as_mut_ptr(),
+            positions.len(),
+            count,
+        )
+    }
+}
+
+pub fn backref_take_inline_shared(
+    item_type: u8,
+    body: &[u8],
+    kind: u8,
+    parent: u64,
+    out: &mut [u8],
+    len: &mut u64,
+    count: &mut u64,
+) -> u32 {
+    unsafe {
+        raw::backref_take_inline_shared(
+            item_type,
+            body.as_ptr(),
+            body.len(),
+            kind,
+            parent,
+            out.as_mut_ptr(),
+            out.len(),
+            len,
+            count,
+        )
+    }
+}
+
+pub fn backref_drop_keyed_data_ref(
+    item: &[u8],
+    tree: u64,
+    objectid: u64,
+    offset: u64,
+    out: &mut [u8],
+    len: &mut u64,
+) -> u32 {
+    unsafe {
+        raw::backref_drop_keyed_data_ref(
+            item.as_ptr(),
+            item.len(),
+            tree,
+            objectid,
+            offset,
+            out.as_mut_ptr(),
+            out.len(),
+            len,
+        )
+    }
+}
+
+pub fn backref_keyed_data_ref_body(
+    tree: u64,
+    objectid: u64,
+    offset: u64,
+    count: u32,
+    out: &mut [u8],
+    len: &mut u64,
+) -> u32 {
+    unsafe {
+        raw::backref_keyed_data_ref_body(
+            tree,
+            objectid,
+            offset,
+            count,
+            out.as_mut_ptr(),
+            out.len(),
+            len,
+        )
     }
 }
 
@@ -569,118 +681,6 @@ pub fn transaction_drop_kept_tree_ref(
             len,
         )
     }
-}
-
-pub fn leaf_edit_insert(
-    nodesize: u32,
-    sheet: &[u8],
-    objectid: u64,
-    kind: u8,
-    offset: u64,
-    data: &[u8],
-    out: &mut [u8],
-    len: &mut u64,
-) -> u32 {
-    unsafe {
-        raw::leaf_edit_insert(
-            nodesize,
-            sheet.as_ptr(),
-            sheet.len(),
-            objectid,
-            kind,
-            offset,
-            data.as_ptr(),
-            data.len(),
-            out.as_mut_ptr(),
-            out.len(),
-            len,
-        )
-    }
-}
-
-pub fn leaf_edit_insert_unbounded(
-    sheet: &[u8],
-    objectid: u64,
-    kind: u8,
-    offset: u64,
-    data: &[u8],
-    out: &mut [u8],
-    len: &mut u64,
-) -> u32 {
-    unsafe {
-        raw::leaf_edit_insert_unbounded(
-            sheet.as_ptr(),
-            sheet.len(),
-            objectid,
-            kind,
-            offset,
-            data.as_ptr(),
-            data.len(),
-            out.as_mut_ptr(),
-            out.len(),
-            len,
-        )
-    }
-}
-
-pub fn leaf_edit_delete(
-    sheet: &[u8],
-    objectid: u64,
-    kind: u8,
-    offset: u64,
-    out: &mut [u8],
-    len: &mut u64,
-) -> u32 {
-    unsafe {
-        raw::leaf_edit_delete(
-            sheet.as_ptr(),
-            sheet.len(),
-            objectid,
-            kind,
-            offset,
-            out.as_mut_ptr(),
-            out.len(),
-            len,
-        )
-    }
-}
-
-pub fn leaf_edit_fit(nodesize: u32, sheet: &[u8], fits: &mut u64) -> u32 {
-    unsafe { raw::leaf_edit_fit(nodesize, sheet.as_ptr(), sheet.len(), fits) }
-}
-
-pub fn leaf_edit_fits(nodesize: u32, sheet: &[u8], data: &[u8], fits: &mut u64) -> u32 {
-    unsafe {
-        raw::leaf_edit_fits(nodesize, sheet.as_ptr(), sheet.len(), data.as_ptr(), data.len(), fits)
-    }
-}
-
-pub fn leaf_edit_split(sheet: &[u8], cuts: &mut [u16], count: &mut u64) -> u32 {
-    unsafe {
-        raw::leaf_edit_split(sheet.as_ptr(), sheet.len(), cuts.as_mut_ptr(), cuts.len(), count)
-    }
-}
-
-pub fn leaf_edit_split_to_fit(
-    nodesize: u32,
-    sheet: &[u8],
-    cuts: &mut [u16],
-    count: &mut u64,
-) -> u32 {
-    unsafe {
-        raw::leaf_edit_split_to_fit(
-            nodesize,
-            sheet.as_ptr(),
-            sheet.len(),
-            cuts.as_mut_ptr(),
-            cuts.len(),
-            count,
-        )
-    }
-}
-
-pub fn leaf_edit_item(sheet: &[u8], number: u64, start: &mut u64, len: &mut u64) -> u32 {
-    unsafe { raw::leaf_edit_item(sheet.as_ptr(), sheet.len(), number, start, len) }
 }
 
 pub fn ledger_post(

@@ -2,94 +2,8 @@
 //!
 //! The archive's functions as they are linked. `lent` has the safe form of each.
 
-
-// Declared, but not exported by the source yet. build.rs gives each a stand-in.
-// waits: extent_write_data_ref_hash tree:u64 objectid:u64 offset:u64 -> u64
-// waits: extent_write_tree_block_key bytenr:u64 level:u8 objectid:lent kind:lent offset:lent
-// waits: extent_write_tree_block_body generation:u64 owner:u64 out:out len:lent
-// waits: extent_write_data_extent_body generation:u64 root:u64 ino:u64 offset:u64 out:out len:lent
-// waits: backref_flags body:bytes value:lent
-// waits: backref_inline_refs item_type:u8 body:bytes positions:cuts count:lent
-// waits: backref_take_inline_shared item_type:u8 body:bytes kind:u8 parent:u64 out:out len:lent count:lent
-// waits: backref_add_inline_keyed_block item_type:u8 body:bytes tree:u64 count:u32 out:out len:lent
-// waits: backref_add_inline_keyed_data item_type:u8 body:bytes tree:u64 objectid:u64 offset:u64 count:u32 out:out len:lent
-// waits: backref_drop_inline_data_ref item_type:u8 body:bytes tree:u64 objectid:u64 offset:u64 out:out len:lent
-// waits: backref_drop_keyed_data_ref item:bytes tree:u64 objectid:u64 offset:u64 out:out len:lent
-// waits: backref_lower_total item_type:u8 body:bytes out:out len:lent
-// waits: backref_reduce_total item_type:u8 body:bytes total_count:u64 out:out len:lent
-// waits: backref_raise_total item_type:u8 body:bytes total_count:u64 out:out len:lent
-// waits: backref_holds_inline_data_ref item_type:u8 body:bytes tree:u64 objectid:u64 offset:u64 holds:lent
-// waits: backref_add_inline_data_ref item_type:u8 body:bytes tree:u64 objectid:u64 offset:u64 out:out len:lent
-// waits: backref_add_inline_tree_ref item_type:u8 body:bytes tree:u64 out:out len:lent
-// waits: backref_keyed_data_ref_body tree:u64 objectid:u64 offset:u64 count:u32 out:out len:lent
-// waits: backref_add_inline_shared item_type:u8 body:bytes kind:u8 parent:u64 count:u32 out:out len:lent
-// waits: backref_drop_inline_tree_ref item_type:u8 body:bytes tree:u64 out:out len:lent
-// waits: backref_with_flags body:bytes set:u64 out:out len:lent
-// waits: transaction_held_only_by body:bytes root:u64 ino:u64 offsets:words holds:lent
-// waits: transaction_keyed_data_ref_names item:bytes tree:u64 objectid:u64 offset:u64 names:lent
-// waits: transaction_shared_add_item kind:u8 count:u32 out:out len:lent
-// waits: transaction_shared_add_inline_size kind:u8 size:lent
-// waits: transaction_max_inline_extent_item nodesize:u32 limit:lent
-// waits: transaction_record_of sheet:bytes bytenr:u64 number:lent
-// waits: transaction_apply_keyed_add_block nodesize:u32 sheet:bytes bytenr:u64 tree:u64 count:u32 as_item:bool out:out len:lent
-// waits: transaction_apply_keyed_add_data nodesize:u32 sheet:bytes bytenr:u64 tree:u64 objectid:u64 offset:u64 count:u32 as_item:bool out:out len:lent
-// waits: transaction_apply_shared_add nodesize:u32 sheet:bytes bytenr:u64 kind:u8 parent:u64 count:u32 as_item:bool out:out len:lent
-// waits: transaction_apply_shared_drop sheet:bytes bytenr:u64 kind:u8 parent:u64 count:u32 as_item:bool out:out len:lent
-// waits: transaction_drop_kept_tree_ref sheet:bytes bytenr:u64 level:u8 tree:u64 own:bool out:out len:lent
-// waits: leaf_edit_insert nodesize:u32 sheet:bytes objectid:u64 kind:u8 offset:u64 data:bytes out:out len:lent
-// waits: leaf_edit_insert_unbounded sheet:bytes objectid:u64 kind:u8 offset:u64 data:bytes out:out len:lent
-// waits: leaf_edit_delete sheet:bytes objectid:u64 kind:u8 offset:u64 out:out len:lent
-// waits: leaf_edit_fit nodesize:u32 sheet:bytes fits:lent
-// waits: leaf_edit_fits nodesize:u32 sheet:bytes data:bytes fits:lent
-// waits: leaf_edit_split sheet:bytes cuts:cuts count:lent
-// waits: leaf_edit_split_to_fit nodesize:u32 sheet:bytes cuts:cuts count:lent
-// waits: leaf_edit_item sheet:bytes number:u64 start:lent len:lent
-// waits: ledger_post nodesize:u32 sheet:bytes change:u8 extent:u64 a:u64 b:u64 c:u64 amount:u32 out:out len:lent
 extern "C" {
-    pub fn extent_write_data_ref_hash(tree: u64, objectid: u64, offset: u64) -> u64;
-    pub fn extent_write_tree_block_key(
-        bytenr: u64,
-        level: u8,
-        objectid: *mut u64,
-        kind: *mut u64,
-        offset: *mut u64,
-    ) -> u32;
-    pub fn extent_write_tree_block_body(
-        generation: u64,
-        owner: u64,
-        out: *mut u8,
-        out_len: usize,
-        len: *mut u64,
-    ) -> u32;
-    pub fn extent_write_data_extent_body(
-        generation: u64,
-        root: u64,
-        ino: u64,
-        offset: u64,
-        out: *mut u8,
-        out_len: usize,
-        len: *mut u64,
-    ) -> u32;
     pub fn backref_flags(body: *const u8, body_len: usize, value: *mut u64) -> u32;
-    pub fn backref_inline_refs(
-        item_type: u8,
-        body: *const u8,
-        body_len: usize,
-        positions: *mut u16,
-        positions_len: usize,
-        count: *mut u64,
-    ) -> u32;
-    pub fn backref_take_inline_shared(
-        item_type: u8,
-        body: *const u8,
-        body_len: usize,
-        kind: u8,
-        parent: u64,
-        out: *mut u8,
-        out_len: usize,
-        len: *mut u64,
-        count: *mut u64,
-    ) -> u32;
     pub fn backref_add_inline_keyed_block(
         item_type: u8,
         body: *const u8,
@@ -116,16 +30,6 @@ extern "C" {
         item_type: u8,
         body: *const u8,
         body_len: usize,
-        tree: u64,
-        objectid: u64,
-        offset: u64,
-        out: *mut u8,
-        out_len: usize,
-        len: *mut u64,
-    ) -> u32;
-    pub fn backref_drop_keyed_data_ref(
-        item: *const u8,
-        item_len: usize,
         tree: u64,
         objectid: u64,
         offset: u64,
@@ -188,15 +92,6 @@ extern "C" {
         out_len: usize,
         len: *mut u64,
     ) -> u32;
-    pub fn backref_keyed_data_ref_body(
-        tree: u64,
-        objectid: u64,
-        offset: u64,
-        count: u32,
-        out: *mut u8,
-        out_len: usize,
-        len: *mut u64,
-    ) -> u32;
     pub fn backref_add_inline_shared(
         item_type: u8,
         body: *const u8,
@@ -221,6 +116,154 @@ extern "C" {
         body: *const u8,
         body_len: usize,
         set: u64,
+        out: *mut u8,
+        out_len: usize,
+        len: *mut u64,
+    ) -> u32;
+    pub fn extent_write_data_ref_hash(tree: u64, objectid: u64, offset: u64) -> u64;
+    pub fn extent_write_tree_block_key(
+        bytenr: u64,
+        level: u8,
+        objectid: *mut u64,
+        kind: *mut u64,
+        offset: *mut u64,
+    ) -> u32;
+    pub fn extent_write_tree_block_body(
+        generation: u64,
+        owner: u64,
+        out: *mut u8,
+        out_len: usize,
+        len: *mut u64,
+    ) -> u32;
+    pub fn extent_write_data_extent_body(
+        generation: u64,
+        root: u64,
+        ino: u64,
+        offset: u64,
+        out: *mut u8,
+        out_len: usize,
+        len: *mut u64,
+    ) -> u32;
+    pub fn leaf_edit_insert(
+        nodesize: u32,
+        sheet: *const u8,
+        sheet_len: usize,
+        objectid: u64,
+        kind: u8,
+        offset: u64,
+        data: *const u8,
+        data_len: usize,
+        out: *mut u8,
+        out_len: usize,
+        len: *mut u64,
+    ) -> u32;
+    pub fn leaf_edit_insert_unbounded(
+        sheet: *const u8,
+        sheet_len: usize,
+        objectid: u64,
+        kind: u8,
+        offset: u64,
+        data: *const u8,
+        data_len: usize,
+        out: *mut u8,
+        out_len: usize,
+        len: *mut u64,
+    ) -> u32;
+    pub fn leaf_edit_delete(
+        sheet: *const u8,
+        sheet_len: usize,
+        objectid: u64,
+        kind: u8,
+        offset: u64,
+        out: *mut u8,
+        out_len: usize,
+        len: *mut u64,
+    ) -> u32;
+    pub fn leaf_edit_fit(nodesize: u32, sheet: *const u8, sheet_len: usize, fits: *mut u64) -> u32;
+    pub fn leaf_edit_fits(
+        nodesize: u32,
+        sheet: *const u8,
+        sheet_len: usize,
+        data: *const u8,
+        data_len: usize,
+        fits: *mut u64,
+    ) -> u32;
+    pub fn leaf_edit_split(
+        sheet: *const u8,
+        sheet_len: usize,
+        cuts: *mut u16,
+        cuts_len: usize,
+        count: *mut u64,
+    ) -> u32;
+    pub fn leaf_edit_split_to_fit(
+        nodesize: u32,
+        sheet: *const u8,
+        sheet_len: usize,
+        cuts: *mut u16,
+        cuts_len: usize,
+        count: *mut u64,
+    ) -> u32;
+    pub fn leaf_edit_item(
+        sheet: *const u8,
+        sheet_len: usize,
+        number: u64,
+        start: *mut u64,
+        len: *mut u64,
+    ) -> u32;
+}
+
+// Declared, but not exported by the source yet. build.rs gives each a stand-in.
+// waits: backref_inline_refs item_type:u8 body:bytes positions:cuts count:lent
+// waits: backref_take_inline_shared item_type:u8 body:bytes kind:u8 parent:u64 out:out len:lent count:lent
+// waits: backref_drop_keyed_data_ref item:bytes tree:u64 objectid:u64 offset:u64 out:out len:lent
+// waits: backref_keyed_data_ref_body tree:u64 objectid:u64 offset:u64 count:u32 out:out len:lent
+// waits: transaction_held_only_by body:bytes root:u64 ino:u64 offsets:words holds:lent
+// waits: transaction_keyed_data_ref_names item:bytes tree:u64 objectid:u64 offset:u64 names:lent
+// waits: transaction_shared_add_item kind:u8 count:u32 out:out len:lent
+// waits: transaction_shared_add_inline_size kind:u8 size:lent
+// waits: transaction_max_inline_extent_item nodesize:u32 limit:lent
+// waits: transaction_record_of sheet:bytes bytenr:u64 number:lent
+// waits: transaction_apply_keyed_add_block nodesize:u32 sheet:bytes bytenr:u64 tree:u64 count:u32 as_item:bool out:out len:lent
+// waits: transaction_apply_keyed_add_data nodesize:u32 sheet:bytes bytenr:u64 tree:u64 objectid:u64 offset:u64 count:u32 as_item:bool out:out len:lent
+// waits: transaction_apply_shared_add nodesize:u32 sheet:bytes bytenr:u64 kind:u8 parent:u64 count:u32 as_item:bool out:out len:lent
+// waits: transaction_apply_shared_drop sheet:bytes bytenr:u64 kind:u8 parent:u64 count:u32 as_item:bool out:out len:lent
+// waits: transaction_drop_kept_tree_ref sheet:bytes bytenr:u64 level:u8 tree:u64 own:bool out:out len:lent
+// waits: ledger_post nodesize:u32 sheet:bytes change:u8 extent:u64 a:u64 b:u64 c:u64 amount:u32 out:out len:lent
+extern "C" {
+    pub fn backref_inline_refs(
+        item_type: u8,
+        body: *const u8,
+        body_len: usize,
+        positions: *mut u16,
+        positions_len: usize,
+        count: *mut u64,
+    ) -> u32;
+    pub fn backref_take_inline_shared(
+        item_type: u8,
+        body: *const u8,
+        body_len: usize,
+        kind: u8,
+        parent: u64,
+        out: *mut u8,
+        out_len: usize,
+        len: *mut u64,
+        count: *mut u64,
+    ) -> u32;
+    pub fn backref_drop_keyed_data_ref(
+        item: *const u8,
+        item_len: usize,
+        tree: u64,
+        objectid: u64,
+        offset: u64,
+        out: *mut u8,
+        out_len: usize,
+        len: *mut u64,
+    ) -> u32;
+    pub fn backref_keyed_data_ref_body(
+        tree: u64,
+        objectid: u64,
+        offset: u64,
+        count: u32,
         out: *mut u8,
         out_len: usize,
         len: *mut u64,
@@ -317,72 +360,6 @@ extern "C" {
         own: bool,
         out: *mut u8,
         out_len: usize,
-        len: *mut u64,
-    ) -> u32;
-    pub fn leaf_edit_insert(
-        nodesize: u32,
-        sheet: *const u8,
-        sheet_len: usize,
-        objectid: u64,
-        kind: u8,
-        offset: u64,
-        data: *const u8,
-        data_len: usize,
-        out: *mut u8,
-        out_len: usize,
-        len: *mut u64,
-    ) -> u32;
-    pub fn leaf_edit_insert_unbounded(
-        sheet: *const u8,
-        sheet_len: usize,
-        objectid: u64,
-        kind: u8,
-        offset: u64,
-        data: *const u8,
-        data_len: usize,
-        out: *mut u8,
-        out_len: usize,
-        len: *mut u64,
-    ) -> u32;
-    pub fn leaf_edit_delete(
-        sheet: *const u8,
-        sheet_len: usize,
-        objectid: u64,
-        kind: u8,
-        offset: u64,
-        out: *mut u8,
-        out_len: usize,
-        len: *mut u64,
-    ) -> u32;
-    pub fn leaf_edit_fit(nodesize: u32, sheet: *const u8, sheet_len: usize, fits: *mut u64) -> u32;
-    pub fn leaf_edit_fits(
-        nodesize: u32,
-        sheet: *const u8,
-        sheet_len: usize,
-        data: *const u8,
-        data_len: usize,
-        fits: *mut u64,
-    ) -> u32;
-    pub fn leaf_edit_split(
-        sheet: *const u8,
-        sheet_len: usize,
-        cuts: *mut u16,
-        cuts_len: usize,
-        count: *mut u64,
-    ) -> u32;
-    pub fn leaf_edit_split_to_fit(
-        nodesize: u32,
-        sheet: *const u8,
-        sheet_len: usize,
-        cuts: *mut u16,
-        cuts_len: usize,
-        count: *mut u64,
-    ) -> u32;
-    pub fn leaf_edit_item(
-        sheet: *const u8,
-        sheet_len: usize,
-        number: u64,
-        start: *mut u64,
         len: *mut u64,
     ) -> u32;
     pub fn ledger_post(
