@@ -50,7 +50,7 @@ module _ (from to size total : ℕ) (new body out : List ℕ) (low : 8 ≤ from)
   abbrev parts : List ℕ
   parts = ((leBytes 8 total ++ part 8 (from - 8) body) ++ take size new) ++ drop to body
 
-  parts-edit : written 0 (leBytes 8 total) (spliced from to (take size new) body) ≡ parts
+  pub parts-edit : written 0 (leBytes 8 total) (spliced from to (take size new) body) ≡ parts
   parts-edit =
       let b : List ℕ = part 8 (from - 8) body in
       let e : 8 + (from - 8) ≡ from = omega arith in

@@ -5,3 +5,4 @@ mod changes;
 mod codes;
 mod extent_write_calls;
 mod leaf_edit_calls;
+mod transaction_calls;

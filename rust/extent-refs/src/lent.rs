@@ -409,6 +409,38 @@ pub fn leaf_edit_item(sheet: &[u8], number: u64, start: &mut u64, len: &mut u64)
     unsafe { raw::leaf_edit_item(sheet.as_ptr(), sheet.len(), number, start, len) }
 }
 
+pub fn transaction_record_of(sheet: &[u8], bytenr: u64, number: &mut u64) -> u32 {
+    unsafe { raw::transaction_record_of(sheet.as_ptr(), sheet.len(), bytenr, number) }
+}
+
+pub fn transaction_apply_shared_add(
+    nodesize: u32,
+    sheet: &[u8],
+    bytenr: u64,
+    kind: u8,
+    parent: u64,
+    count: u32,
+    as_item: bool,
+    out: &mut [u8],
+    len: &mut u64,
+) -> u32 {
+    unsafe {
+        raw::transaction_apply_shared_add(
+            nodesize,
+            sheet.as_ptr(),
+            sheet.len(),
+            bytenr,
+            kind,
+            parent,
+            count,
+            as_item,
+            out.as_mut_ptr(),
+            out.len(),
+            len,
+        )
+    }
+}
+
 pub fn backref_inline_refs(
     item_type: u8,
     body: &[u8],
@@ -545,10 +577,6 @@ pub fn transaction_max_inline_extent_item(nodesize: u32, limit: &mut u64) -> u32
     unsafe { raw::transaction_max_inline_extent_item(nodesize, limit) }
 }
 
-pub fn transaction_record_of(sheet: &[u8], bytenr: u64, number: &mut u64) -> u32 {
-    unsafe { raw::transaction_record_of(sheet.as_ptr(), sheet.len(), bytenr, number) }
-}
-
 pub fn transaction_apply_keyed_add_block(
     nodesize: u32,
     sheet: &[u8],
@@ -596,34 +624,6 @@ pub fn transaction_apply_keyed_add_data(
             tree,
             objectid,
             offset,
-            count,
-            as_item,
-            out.as_mut_ptr(),
-            out.len(),
-            len,
-        )
-    }
-}
-
-pub fn transaction_apply_shared_add(
-    nodesize: u32,
-    sheet: &[u8],
-    bytenr: u64,
-    kind: u8,
-    parent: u64,
-    count: u32,
-    as_item: bool,
-    out: &mut [u8],
-    len: &mut u64,
-) -> u32 {
-    unsafe {
-        raw::transaction_apply_shared_add(
-            nodesize,
-            sheet.as_ptr(),
-            sheet.len(),
-            bytenr,
-            kind,
-            parent,
             count,
             as_item,
             out.as_mut_ptr(),

@@ -1,0 +1,22 @@
+// The one writer of calls that change an extent's record in an item list (document 01's sheet): the record's body is a planned
+// edit, and a second place behind the record may change with it.
+use format::Key;
+
+mod write;
+
+pub use write::edit_record;
+
+// Where a record stands: its key, its first byte and the position past it.
+pub struct Record {
+    pub key: Key,
+    pub start: usize,
+    pub end: usize,
+}
+
+// A second edit, behind the record: the bytes from `from` up to `to` give way to the first `size` of `new`.
+pub struct Behind {
+    pub from: usize,
+    pub to: usize,
+    pub new: [u8; 4],
+    pub size: usize,
+}

@@ -1,0 +1,129 @@
+// Question 17 where it is asked, question 21, and then the bytes from left to right, once.
+use super::Behind;
+use super::Record;
+use backref_plan::Outcome;
+use backref_plan::Plan;
+use format::Edited;
+use format::Key;
+ghost use mathlib.Core.Path.{_≡_};
+ghost use mathlib.Core.List.{_++_};
+ghost use Prim.Native.Nat.{_+_, _-_, _≤_};
+ghost use lib.ListN.{length, take};
+ghost use Rattle.fields.specs.Parts.{written};
+ghost use Rattle.format.specs.Questions.{Answered, bind};
+ghost use Rattle.format.specs.Items.{itemBytes};
+ghost use Rattle.backref_plan.specs.Plans.{edited, planAnswer, EditIn, PlanIn};
+ghost use Rattle.record_edit.specs.Records.{dataOf, editLength, BehindIn, restOf, restLength, sheetLength, editedSheet, heldEdit};
+
+// The planned body goes to `out` at `at`. Returns the position past it.
+fn append_edit(body: &[u8], plan: Plan, out: &mut [u8], at: usize) -> usize
+    requires { ⌜ EditIn plan (now body) ⌝ }
+    requires { ⌜ at + editLength plan (length (now body)) ≤ length (now out) ⌝ }
+    ensures { λ r. ⌜ (r ≡ at + editLength plan (length (now (body .entry)))) × (now (out .exit) ≡ written at (edited plan (now (body .entry))) (now (out .entry))) ⌝ }
+{
+    let new = plan.new;
+    fields::put_u64_le(out, at, plan.total);
+    let one = item_write::append(body, 8, plan.from, out, at + 8);
+    let two = item_write::append(&new, 0, plan.size, out, one);
+    item_write::append(body, plan.to, body.len(), out, two)
+}
+
+// All up to the end of the record, with its planned body.
+fn append_record(
+    sheet: &[u8],
+    start: usize,
+    body: &[u8],
+    key: Key,
+    plan: Plan,
+    out: &mut [u8],
+) -> usize
+    requires { ⌜ EditIn plan (now body) ⌝ }
+    requires { ⌜ (start ≤ length (now sheet)) × (editLength plan (length (now body)) ≤ 65535) × (start + 21 + editLength plan (length (now body)) ≤ length (now out)) ⌝ }
+    ensures { λ r. ⌜ (r ≡ start + 21 + editLength plan (length (now (body .entry)))) × (now (out .exit) ≡ written 0 (take start (now (sheet .entry)) ++ itemBytes (record { key = key; bytes = edited plan (now (body .entry)) })) (now (out .entry))) ⌝ }
+{
+    let size = backref_plan::plan_length(plan, body.len());
+    let head = item_write::append(sheet, 0, start, out, 0);
+    let inside = item_write::append_head(key, size, out, head);
+    append_edit(body, plan, out, inside)
+}
+
+// All from the end of the record, with the second edit.
+fn append_rest(sheet: &[u8], end: usize, behind: Behind, out: &mut [u8], at: usize)
+    requires { ⌜ BehindIn behind end (now sheet) ⌝ }
+    requires { ⌜ at + restLength behind end (length (now sheet)) ≤ length (now out) ⌝ }
+    ensures { λ _. ⌜ now (out .exit) ≡ written at (restOf behind end (now (sheet .entry))) (now (out .entry)) ⌝ }
+{
+    let new = behind.new;
+    let one = item_write::append(sheet, end, behind.from, out, at);
+    let two = item_write::append(&new, 0, behind.size, out, one);
+    item_write::append(sheet, behind.to, sheet.len(), out, two);
+}
+
+fn write_record(sheet: &[u8], stand: Record, plan: Plan, behind: Behind, out: &mut [u8])
+    requires { ⌜ EditIn plan (dataOf (now sheet) (stand .start) (stand .end)) ⌝ }
+    requires { ⌜ BehindIn behind (stand .end) (now sheet) ⌝ }
+    requires { ⌜ (stand .start + 21 ≤ stand .end) × (editLength plan (stand .end - (stand .start + 21)) ≤ 65535) × (sheetLength stand plan behind (length (now sheet)) ≤ length (now out)) ⌝ }
+    ensures { λ _. ⌜ now (out .exit) ≡ written 0 (editedSheet (now (sheet .entry)) stand behind (edited plan (dataOf (now (sheet .entry)) (stand .start) (stand .end)))) (now (out .entry)) ⌝ }
+{
+    let start = stand.start;
+    let end = stand.end;
+    let body = &sheet[start + 21..end];
+    let at = append_record(sheet, start, body, stand.key, plan, out);
+    append_rest(sheet, end, behind, out, at);
+}
+
+// Questions 17 and 21, then the writing.
+fn write_held(
+    sheet: &[u8],
+    stand: Record,
+    plan: Plan,
+    behind: Behind,
+    limit: usize,
+    count: usize,
+    out: &mut [u8],
+) -> Edited
+    requires { ⌜ EditIn plan (dataOf (now sheet) (stand .start) (stand .end)) ⌝ }
+    requires { ⌜ BehindIn behind (stand .end) (now sheet) ⌝ }
+    requires { ⌜ (stand .start + 21 ≤ stand .end) × (length (now sheet) ≤ 262144) ⌝ }
+    ensures { λ r. ⌜ Answered (heldEdit (length (now (out .entry))) count limit (editedSheet (now (sheet .entry)) stand behind) (edited plan (dataOf (now (sheet .entry)) (stand .start) (stand .end)))) r (now (out .entry)) (now (out .exit)) ⌝ }
+{
+    let size = backref_plan::plan_length(plan, stand.end - (stand.start + 21));
+    if limit < size {
+        return Edited::Refused(17);
+    }
+    if 65535 < size {
+        return Edited::Refused(21);
+    }
+    let rest = behind.from - stand.end + behind.size + (sheet.len() - behind.to);
+    let long = stand.start + 21 + size + rest;
+    if item_write::room_for(out.len(), long, count) {
+        write_record(sheet, stand, plan, behind, out);
+        return Edited::Written(long);
+    }
+    Edited::Refused(21)
+}
+
+// The list with a planned body in its record and the second edit behind it, into `out`. `limit` is asked by question 17, and
+// `count` is the number of items that this makes.
+pub fn edit_record(
+    sheet: &[u8],
+    stand: Record,
+    plan: Plan,
+    behind: Behind,
+    limit: usize,
+    count: usize,
+    out: &mut [u8],
+) -> Edited
+    requires { ⌜ PlanIn plan (dataOf (now sheet) (stand .start) (stand .end)) ⌝ }
+    requires { ⌜ BehindIn behind (stand .end) (now sheet) ⌝ }
+    requires { ⌜ (stand .start + 21 ≤ stand .end) × (length (now sheet) ≤ 262144) ⌝ }
+    ensures { λ r. ⌜ Answered (bind (planAnswer plan (dataOf (now (sheet .entry)) (stand .start) (stand .end))) (heldEdit (length (now (out .entry))) count limit (editedSheet (now (sheet .entry)) stand behind))) r (now (out .entry)) (now (out .exit)) ⌝ }
+{
+    let outcome = plan.outcome;
+    match outcome {
+        Outcome::Edit => write_held(sheet, stand, plan, behind, limit, count, out),
+        Outcome::Absent => Edited::Absent,
+        Outcome::Remove => Edited::Remove,
+        Outcome::Refused(number) => Edited::Refused(number),
+    }
+}

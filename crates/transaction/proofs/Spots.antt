@@ -1,0 +1,210 @@
+-- An extent's record in an item list, from the answers of the pass and of the search. Assumes nothing.
+use mathlib.Core.Path.{_≡_, refl, sym, ap, ap₂, _∙_, subst}
+use mathlib.Core.Bool.{Bool, true, false, _&&_, cond}
+use mathlib.Core.Option.{Option, none, some}
+use mathlib.Core.List.{List, [], _∷_, _++_}
+use Prim.Native.Nat.{ℕ, _+_, _-_, _≤_}
+use native.Mathlib.Omega.{arith}
+use native.Mathlib.Nat.{zero-add}
+use lib.Dec.{T, leb}
+use lib.ListN.{length, drop, length-append}
+use mir.Facts.{and-yes}
+use Rattle.fields.specs.Lists.{all, Cut, cut}
+use Rattle.fields.specs.Numbers.{areBytes}
+use Rattle.fields.specs.Parts.{part, spliced}
+use Rattle.fields.proofs.Lists.{T-eq, all-mid, all-rest, Found, cut-some}
+use Rattle.format.specs.Questions.{Answer, refused, absent, remove, accepted, ask, bind, needed}
+use Rattle.format.specs.Items.{Item, readSheet, firstItem, itemBytes, itemsBytes, sheetBytes, onSheet, dataFits, withBytes, putBack}
+use Rattle.format.specs.Apply.{recordOf, onRecord}
+use Rattle.format.proofs.Items.{ReadsSheet, sheet, broken, unsorted, readSheet-decides, sane, sane-out, firstItem-back}
+use Rattle.format.proofs.Splices.{sheet-replace, sheet-from, sheet-data}
+use Rattle.item_list.specs.declared.Place.{Place}
+use Rattle.item_list.specs.declared.Place.the-variants.{At as Placed-at, Missing}
+use Rattle.item_list.specs.declared.Checked.the-variants.{Count}
+use Rattle.item_list.specs.Steps.{itemsOf, itemsIn, itemAt, checkedOf}
+use Rattle.item_list.specs.Seeks.{placeIn, recorded}
+use Rattle.item_list.proofs.Reading.{Counted, counted}
+use Rattle.item_list.proofs.Places.{Placed, placed, missing, Inside, inside}
+use Rattle.item_write.proofs.Writes.{sane-fit}
+use Rattle.record_edit.specs.Records.{dataOf}
+use Rattle.transaction.specs.declared.Spot.{Spot}
+use Rattle.transaction.specs.declared.Spot.the-variants.{At, Refused}
+use Rattle.transaction.specs.Spots.{spotAt, spotOf, withBody}
+
+-- ---- as code finds it
+
+pub spot-broken : (s : List ℕ) (extent : ℕ) (three : Bool) (k : ℕ) → readSheet s ≡ refused k → Refused k ≡ spotOf extent three (readSheet s)
+unfolding spotOf
+spot-broken s extent three k e = rw e
+
+module _ (s : List ℕ) (n : ℕ) (c : Counted s n) (extent : ℕ) (three : Bool) where
+  pub spot-three : three ≡ false → Refused 3 ≡ spotOf extent three (readSheet s)
+  unfolding spotOf
+  spot-three h = rw (c .reads, h)
+
+  module _ (h : three ≡ true) where
+    spot-sought : (p : Place) → placeIn (recorded extent) 0 1 (itemsOf s) ≡ p → spotAt n p ≡ spotOf extent three (readSheet s)
+    unfolding spotOf
+    spot-sought p e = rw (c .reads, h, e, c .count)
+
+    pub spot-missing : placeIn (recorded extent) 0 1 (itemsOf s) ≡ Missing → Refused 5 ≡ spotOf extent three (readSheet s)
+    unfolding spotAt
+    spot-missing e = spot-sought Missing e
+
+    pub spot-found : (number start end : ℕ) → placeIn (recorded extent) 0 1 (itemsOf s) ≡ Placed-at number start end
+        → At number start end n ≡ spotOf extent three (readSheet s)
+    unfolding spotAt
+    spot-found number start end e = spot-sought (Placed-at number start end) e
+
+-- ---- a refusal
+
+at-missing : {A : Type 0} (extent k : ℕ) (items : List Item) (next : Cut Item → Answer A) (p : Place) → placeIn (recorded extent) 0 1 items ≡ p
+    → spotAt (length items) p ≡ Refused k → onRecord extent items next ≡ refused k
+unfolding spotAt onRecord bind needed
+at-missing extent k items next Missing e f =
+    ap (λ (o : Option (Cut Item)). bind (needed 5 o) next) (missing (recordOf extent) 0 1 items e) ∙ ap refused (let z : 5 ≡ k = cc in z)
+at-missing extent k items next (Placed-at number start end) e f = let z : _≡_ {A = ℕ} 0 1 = cc in absurd (omega arith)
+
+pub spot-refused : {A : Type 0} (s : List ℕ) (extent : ℕ) (three : Bool) (k : ℕ) (next : Cut Item → Answer A) → spotOf extent three (readSheet s) ≡ Refused k
+    → onSheet s three (λ items. onRecord extent items next) ≡ refused k
+unfolding spotOf onSheet bind ask
+spot-refused {A} s extent three k next e = go (readSheet-decides s)
+  where
+    then-next : Bool → Answer (List Item) → Answer A
+    then-next b a = bind a (λ items. ask b 3 (onRecord extent items next))
+
+    spot-of : (a : Answer (List Item)) → readSheet s ≡ a → spotOf extent three a ≡ Refused k
+    spot-of a h = ap (spotOf extent three) (sym h) ∙ e
+
+    by : (items : List Item) (b : Bool) → cond b (spotAt (length items) (placeIn (recorded extent) 0 1 items)) (Refused 3) ≡ Refused k
+        → ask b 3 (onRecord extent items next) ≡ refused k
+    by items true f = at-missing extent k items next (placeIn (recorded extent) 0 1 items) refl f
+    by items false f = ap refused (let z : 3 ≡ k = cc in z)
+
+    go : ReadsSheet (readSheet s) → bind (readSheet s) (λ items. ask three 3 (onRecord extent items next)) ≡ refused k
+    go (sheet items h) = ap (then-next three) h ∙ by items three (spot-of (accepted items) h)
+    go (broken h) = ap (then-next three) h ∙ ap refused (let f = spot-of (refused 1) h in let z : 1 ≡ k = cc in z)
+    go (unsorted h) = ap (then-next three) h ∙ ap refused (let f = spot-of (refused 2) h in let z : 2 ≡ k = cc in z)
+
+-- ---- a record that was found
+
+pub record Standing (s : List ℕ) (extent : ℕ) (three : Bool) (number start end n : ℕ) : Type 0 where
+  pub at-cut : Cut Item
+  pub three-is : three ≡ true
+  pub reads : readSheet s ≡ accepted (itemsOf s)
+  pub finds : cut (recordOf extent) (itemsOf s) ≡ some at-cut
+  pub same : itemsOf s ≡ at-cut .front ++ at-cut .hit ∷ at-cut .back
+  pub number-is : number ≡ length (at-cut .front)
+  pub hit-is : at-cut .hit ≡ record { key = itemAt s start .key; bytes = dataOf s start end }
+  pub ordered : start + 21 ≤ end
+  pub within : end ≤ length s
+  pub small : length s ≤ 262144
+  pub count : length (itemsOf s) ≡ n
+  pub bytes-are : sheetBytes (itemsOf s) ≡ s
+  pub starts : length (sheetBytes (at-cut .front)) ≡ start
+  pub ends : length (sheetBytes (at-cut .front)) + (21 + length (at-cut .hit .bytes)) ≡ end
+  pub fit : T (all (λ i. dataFits (i .bytes)) (itemsOf s))
+
+module _ (s : List ℕ) (extent : ℕ) where
+  -- the item read at its place is the record
+  item-there : (front : List Item) (hit : Item) (back : List Item) (start end : ℕ) → sheetBytes (itemsOf s) ≡ s → itemsOf s ≡ front ++ hit ∷ back
+      → T (sane hit) → Inside s front hit start end → hit ≡ record { key = itemAt s start .key; bytes = dataOf s start end }
+  unfolding itemAt itemsBytes
+  item-there front hit back start end are same t i =
+      let there : firstItem (drop start s) ≡ hit =
+      ap₂ (λ (n : ℕ) (l : List ℕ). firstItem (drop n l)) (sym (i .starts)) (sym are ∙ ap sheetBytes same)
+      ∙ ap firstItem (sheet-from front (hit ∷ back)) ∙ firstItem-back hit (itemsBytes back) (sane-out hit t) in
+      let size : length (hit .bytes) ≡ end - (start + 21) = let a = i .starts in let b = i .ends in omega arith in
+      let bytes-is : hit .bytes ≡ dataOf s start end =
+      sym (sheet-data (itemsOf s) front hit back same) ∙ (λ j. part (i .starts j + 21) (size j) (are j)) in
+      let key-is : hit .key ≡ firstItem (drop start s) .key = ap (λ (i : Item). i .key) (sym there) in
+      λ j. record { key = key-is j; bytes = bytes-is j }
+
+  standing : (n : ℕ) → Counted s n → (number start end : ℕ) → placeIn (recorded extent) 0 1 (itemsOf s) ≡ Placed-at number start end
+      → Standing s extent true number start end n
+  standing n c number start end e =
+      let t : Placed (recordOf extent) (itemsOf s) 0 1 number start end = placed (recordOf extent) 0 1 (itemsOf s) number start end e in
+      let d : Cut Item = t .at-cut in
+      let f : Found (recordOf extent) (itemsOf s) d = cut-some (recordOf extent) (itemsOf s) (t .is) in
+      let i : Inside s (d .front) (d .hit) start end =
+      inside s (itemsOf s) (d .front) (d .hit) (d .back) start end (c .bytes-are) (f .same) (t .stands) in
+      record {
+        at-cut = d;
+        three-is = refl;
+        reads = c .reads;
+        finds = t .is;
+        same = f .same;
+        number-is = t .number-is ∙ zero-add (length (d .front));
+        hit-is = item-there (d .front) (d .hit) (d .back) start end (c .bytes-are) (f .same)
+            (all-mid sane (d .front) (d .hit) (d .back) (subst (λ (l : List Item). T (all sane l)) (f .same) (c .sane-all))) i;
+        ordered = i .ordered;
+        within = i .within;
+        small = c .small;
+        count = c .count;
+        bytes-are = c .bytes-are;
+        starts = i .starts;
+        ends = i .ends;
+        fit = sane-fit (itemsOf s) (c .sane-all);
+      }
+
+  at-found : T (areBytes s) → (number start end n : ℕ) (items : List Item) → readSheet s ≡ accepted items → (p : Place)
+      → placeIn (recorded extent) 0 1 items ≡ p → spotAt (length items) p ≡ At number start end n → Standing s extent true number start end n
+  unfolding spotAt checkedOf itemsIn
+  at-found t number start end n items h Missing f g = let z : _≡_ {A = ℕ} 0 1 = cc in absurd (omega arith)
+  at-found t number start end n items h (Placed-at m p q) f g =
+      let e₁ : m ≡ number = cc in
+      let e₂ : p ≡ start = cc in
+      let e₃ : q ≡ end = cc in
+      let many : length items ≡ n = cc in
+      let c : Counted s n = counted s n t (ap checkedOf h ∙ ap Count many) in
+      standing n c number start end
+      (ap (λ (x : Answer (List Item)). placeIn (recorded extent) 0 1 (itemsIn x)) h ∙ f ∙ (λ j. Placed-at (e₁ j) (e₂ j) (e₃ j)))
+
+  pub spot-stands : T (areBytes s) → (three : Bool) (number start end n : ℕ) → spotOf extent three (readSheet s) ≡ At number start end n
+      → Standing s extent three number start end n
+  unfolding spotOf
+  spot-stands t three number start end n e = go (readSheet s) refl three e
+    where
+      go : (r : Answer (List Item)) → readSheet s ≡ r → (three : Bool) → spotOf extent three r ≡ At number start end n → Standing s extent three number start end n
+      go (refused k) h b f = let z : _≡_ {A = ℕ} 0 1 = cc in absurd (omega arith)
+      go absent h b f = let z : _≡_ {A = ℕ} 0 1 = cc in absurd (omega arith)
+      go remove h b f = let z : _≡_ {A = ℕ} 0 1 = cc in absurd (omega arith)
+      go (accepted items) h false f = let z : _≡_ {A = ℕ} 0 1 = cc in absurd (omega arith)
+      go (accepted items) h true f = at-found t number start end n items h (placeIn (recorded extent) 0 1 items) refl f
+
+module _ {s : List ℕ} {extent : ℕ} {three : Bool} {number start end n : ℕ} (st : Standing s extent three number start end n) where
+  -- what a call on the record answers
+  pub stands-answer : {A : Type 0} (next : Cut Item → Answer A) → onSheet s three (λ items. onRecord extent items next) ≡ next (st .at-cut)
+  unfolding onSheet onRecord bind ask needed
+  stands-answer next =
+      ap (λ (x : Answer (List Item)). bind x (λ items. ask three 3 (onRecord extent items next))) (st .reads)
+      ∙ ap (λ (b : Bool). ask b 3 (onRecord extent (itemsOf s) next)) (st .three-is)
+      ∙ ap (λ (o : Option (Cut Item)). bind (needed 5 o) next) (st .finds)
+
+  -- the bytes and the number of the items with another body
+  pub put-bytes : (d : List ℕ) → sheetBytes (putBack (st .at-cut) d) ≡ withBody s start end d
+  put-bytes d =
+      let c : Cut Item = st .at-cut in
+      sheet-replace (itemsOf s) (c .front) (c .hit) d (c .back) (st .same)
+      ∙ (λ j. spliced (st .starts j) (st .ends j) (itemBytes (withBytes (st .hit-is j) d)) (st .bytes-are j))
+
+  pub put-count : (d : List ℕ) → length (putBack (st .at-cut) d) ≡ n
+  put-count d =
+      let c : Cut Item = st .at-cut in
+      length-append (c .front) (withBytes (c .hit) d ∷ c .back) ∙ sym (length-append (c .front) (c .hit ∷ c .back)) ∙ sym (ap length (st .same)) ∙ st .count
+
+  and-true : (a : Bool) → (a && true) ≡ a
+  and-true true = refl
+  and-true false = refl
+
+  all-but : (p : Item → Bool) (a : List Item) (x : Item) (b : List Item) → T (all p (a ++ b)) → all p (a ++ x ∷ b) ≡ p x
+  all-but p [] x b t = rw (T-eq (all p b) t) (and-true (p x))
+  all-but p (w ∷ a) x b t = let h = and-yes (p w) _ t in rw (T-eq (p w) (h .0)) (all-but p a x b (h .1))
+
+  pub put-fit : (d : List ℕ) → all (λ i. dataFits (i .bytes)) (putBack (st .at-cut) d) ≡ leb (length d) 65535
+  unfolding dataFits
+  put-fit d =
+      let c : Cut Item = st .at-cut in
+      let p : Item → Bool = λ i. leb (length (i .bytes)) 65535 in
+      all-but p (c .front) (withBytes (c .hit) d) (c .back)
+      (all-rest p (c .front) (c .hit) (c .back) (subst (λ (l : List Item). T (all p l)) (st .same) (st .fit)))

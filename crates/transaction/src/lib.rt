@@ -1,0 +1,17 @@
+// `record_of` and the calls of `transaction.rs` that change an extent's record in an item list (document 01's sheet).
+mod adds;
+mod stand;
+
+pub use adds::apply_shared_add;
+pub use stand::record_of;
+
+// Where an extent's record stands and how many items there are; or the refusal.
+pub enum Spot {
+    At {
+        number: usize,
+        start: usize,
+        end: usize,
+        count: usize,
+    },
+    Refused(u32),
+}
