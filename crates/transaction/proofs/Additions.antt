@@ -2,7 +2,7 @@
 use mathlib.Core.Path.{_≡_, refl, sym, ap, _∙_, subst}
 use mathlib.Core.Bool.{Bool, true, false, _&&_}
 use mathlib.Core.List.{List}
-use Prim.Native.Nat.{ℕ, _-_, _/_, _<_}
+use Prim.Native.Nat.{ℕ, _+_, _-_, _/_, _<_}
 use native.Mathlib.Omega.{arith}
 use lib.Dec.{leb, eqb}
 use lib.ListN.{length}
@@ -23,6 +23,7 @@ use Rattle.backref_plan.specs.Plans.{planAnswer, Planned}
 use Rattle.record_edit.specs.Records.{dataOf, heldEdit}
 use Rattle.transaction.specs.declared.Spot.the-variants.{Refused}
 use Rattle.transaction.specs.Spots.{spotOf, withBody}
+use Rattle.transaction.specs.Keyed.{limitFor}
 use Rattle.transaction.proofs.Spots.{Standing, spot-refused, stands-answer}
 use Rattle.transaction.proofs.Records.{put-answered}
 
@@ -72,11 +73,11 @@ pub shared-add-answered : (nodesize : ℕ) {s : List ℕ} {extent : ℕ} {number
     → Standing s extent (nodesizeFits nodesize && sharedKind (name .kind)) number start end n
     → (room count : ℕ) (asItem : Bool) (key : Key) (limit : ℕ) (plan : Plan) (r : Edited) (old new : List ℕ)
     → key ≡ itemAt s start .key
-    → limit ≡ inlineLimit nodesize
+    → limit ≡ limitFor nodesize (end - (start + 21)) false
     → Planned plan (dataOf s start end) (sharedBody (record { key = key; bytes = dataOf s start end }) name count asItem)
     → Answered (bind (planAnswer plan (dataOf s start end)) (heldEdit room n limit (withBody s start end))) r old new
     → Answered (heldSheet room (applySharedAddTo nodesize s extent name count asItem)) r old new
-unfolding applySharedAddTo applySharedAdd
+unfolding applySharedAddTo applySharedAdd limitFor
 shared-add-answered nodesize {s} {extent} {number} {start} {end} {n} name st room count asItem key limit plan r old new key-is limit-eq p w =
     let hit : Item = st .at-cut .hit in
     let next : Cut Item → Answer (List Item) =

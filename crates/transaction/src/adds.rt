@@ -4,6 +4,7 @@ use super::stand;
 use backref_plan::Plan;
 use format::Edited;
 use format::Key;
+use format::Keyed;
 use format::SharedRef;
 ghost use mathlib.Core.Path.{_≡_};
 ghost use mathlib.Core.Bool.{_&&_};
@@ -11,8 +12,9 @@ ghost use lib.ListN.{length};
 ghost use Rattle.format.specs.Questions.{Answered};
 ghost use Rattle.format.specs.Bodies.{sharedKind};
 ghost use Rattle.format.specs.Items.{nodesizeFits, heldSheet};
-ghost use Rattle.format.specs.Apply.{inlineLimit, sharedBody, applySharedAddTo};
+ghost use Rattle.format.specs.Apply.{inlineLimit, sharedBody, applyKeyedAddTo, applySharedAddTo};
 ghost use Rattle.backref_plan.specs.Plans.{Planned};
+ghost use Rattle.transaction.specs.Keyed.{unread, keyedPlan, larger, limitFor};
 
 // "(nodesize - 101) / 16, rounded down, minus 25"
 pub fn inline_limit(nodesize: u32) -> usize
@@ -22,6 +24,26 @@ pub fn inline_limit(nodesize: u32) -> usize
         return 0;
     }
     ((nodesize - 101) / 16 - 25) as usize
+}
+
+fn larger_of(a: usize, b: usize) -> usize
+    ensures { λ r. ⌜ r ≡ larger a b ⌝ }
+{
+    if a < b {
+        return b;
+    }
+    a
+}
+
+// What question 17 asks of a body that had `size` bytes. Asked only if it grew, the body may stay as long as it was.
+fn limit_for(nodesize: u32, size: usize, grown_only: bool) -> usize
+    ensures { λ r. ⌜ r ≡ limitFor nodesize size «grown_only» ⌝ }
+{
+    let limit = inline_limit(nodesize);
+    if grown_only {
+        return larger_of(size, limit);
+    }
+    limit
 }
 
 // Question 3 of a shared kind.
@@ -76,7 +98,65 @@ pub fn apply_shared_add(
         } => {
             let key = item_list::key_at(sheet, start);
             let plan = plan_shared(key, &sheet[start + 21..end], name, count, as_item);
-            let limit = inline_limit(nodesize);
+            let limit = limit_for(nodesize, end - (start + 21), false);
+            return stand::put_back(sheet, start, end, plan, limit, items, out);
+        }
+    }
+}
+
+// The body is left as it is, read or not.
+fn is_unread(keyed: Keyed, count: u32, as_item: bool) -> bool
+    ensures { λ r. ⌜ r ≡ unread keyed count «as_item» ⌝ }
+{
+    if as_item {
+        return false;
+    }
+    match keyed {
+        Keyed::Block(_) => false,
+        Keyed::Data(_) => count == 0,
+    }
+}
+
+// The record's new body. With the item flag only the total moves.
+fn plan_keyed(key: Key, body: &[u8], keyed: Keyed, count: u32, as_item: bool) -> Plan
+    ensures { λ r. ⌜ Planned r (now (body .entry)) (keyedPlan (record { key = key; bytes = now (body .entry) }) keyed count «as_item») ⌝ }
+{
+    if as_item {
+        return backref_plan::plan_raise_total(body, count as u64);
+    }
+    match keyed {
+        Keyed::Block(name) => backref::plan_add_tree(key.kind, body, name),
+        Keyed::Data(name) => backref::plan_add_data(key.kind, body, name, count),
+    }
+}
+
+// A reference that names a tree added to an extent's record. The inline limit is asked only if the body grew.
+pub fn apply_keyed_add(
+    nodesize: u32,
+    sheet: &[u8],
+    bytenr: u64,
+    keyed: Keyed,
+    count: u32,
+    as_item: bool,
+    out: &mut [u8],
+) -> Edited
+    ensures { λ r. ⌜ Answered (heldSheet (length (now (out .entry))) (applyKeyedAddTo nodesize (now (sheet .entry)) bytenr keyed count «as_item»)) r (now (out .entry)) (now (out .exit)) ⌝ }
+{
+    let spot = stand::find(sheet, bytenr, item_list::nodesize_fits(nodesize));
+    match spot {
+        Spot::Refused(number) => return Edited::Refused(number),
+        Spot::At {
+            number: _,
+            start,
+            end,
+            count: items,
+        } => {
+            if is_unread(keyed, count, as_item) {
+                return item_list::remove_item(sheet, 0, 0, items, out);
+            }
+            let key = item_list::key_at(sheet, start);
+            let plan = plan_keyed(key, &sheet[start + 21..end], keyed, count, as_item);
+            let limit = limit_for(nodesize, end - (start + 21), true);
             return stand::put_back(sheet, start, end, plan, limit, items, out);
         }
     }

@@ -2,6 +2,7 @@
 mod adds;
 mod stand;
 
+pub use adds::apply_keyed_add;
 pub use adds::apply_shared_add;
 pub use stand::record_of;
 

@@ -43,6 +43,12 @@ part-plan-shared-start c = let d = found (c .before) in let p = d .ordered in le
 part-plan-shared-end : tie.Need-part-plan-shared-end
 part-plan-shared-end c = let d = found (c .before) in let p = d .ordered in let q = d .within in omega arith
 
+add-limit-for : tie.Need-add-limit-for
+add-limit-for c = let d = found (c .before .before .before) in let p = d .ordered in let q = d .within in omega arith
+
+sub-limit-for : tie.Need-sub-limit-for
+sub-limit-for c = let d = found (c .before .before .before) in let p = d .ordered in omega arith
+
 put-back-requires : tie.Need-put-back-requires
 put-back-requires c κs =
     let d = found (c .before .before .before .before .before) in
@@ -52,9 +58,9 @@ returns-2 : tie.Need-returns-2
 returns-2 c =
     let a = c .before .before .before .before .before .before .before .before .before .before .before .before .before .before .before .args in
     shared-add-answered (a .nodesize) (a .name) (found (c .before .before .before .before .before .before .before .before)) (length (now (a .out))) (a .count) (a .as-item) _ _ _ _ (now (a .out)) _
-    (c .before .before .before .before .before .before .before .key-at .ensures) (c .before .before .before .before .inline-limit .ensures) (c .before .before .before .before .before .plan-shared .ensures) (c .before .before .put-back .ensures)
+    (c .before .before .before .before .before .before .before .key-at .ensures) (c .before .before .before .before .limit-for .ensures) (c .before .before .before .before .before .plan-shared .ensures) (c .before .before .put-back .ensures)
 
 pub apply-shared-add-spec : {M : Type 1} → statement M
 apply-shared-add-spec =
     tie.close
-    (tie.spec (λ c κs. search needs) (λ c κs. search needs) (λ c. search needs) returns (λ c. search needs) key-at-requires add-plan-shared sub-plan-shared part-plan-shared-start part-plan-shared-end (λ c κs. search needs) (λ c κs. search needs) put-back-requires (λ c. search needs) returns-2)
+    (tie.spec (λ c κs. search needs) (λ c κs. search needs) (λ c. search needs) returns (λ c. search needs) key-at-requires add-plan-shared sub-plan-shared part-plan-shared-start part-plan-shared-end (λ c κs. search needs) add-limit-for sub-limit-for (λ c κs. search needs) put-back-requires (λ c. search needs) returns-2)
