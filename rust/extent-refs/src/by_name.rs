@@ -41,7 +41,12 @@ pub const NAMES: &[&str] = &[
     "leaf_edit_split",
     "leaf_edit_split_to_fit",
     "leaf_edit_item",
+    "transaction_shared_add_item",
+    "transaction_shared_add_inline_size",
+    "transaction_max_inline_extent_item",
     "transaction_record_of",
+    "transaction_apply_keyed_add_block",
+    "transaction_apply_keyed_add_data",
     "transaction_apply_shared_add",
     "backref_inline_refs",
     "backref_take_inline_shared",
@@ -49,11 +54,6 @@ pub const NAMES: &[&str] = &[
     "backref_keyed_data_ref_body",
     "transaction_held_only_by",
     "transaction_keyed_data_ref_names",
-    "transaction_shared_add_item",
-    "transaction_shared_add_inline_size",
-    "transaction_max_inline_extent_item",
-    "transaction_apply_keyed_add_block",
-    "transaction_apply_keyed_add_data",
     "transaction_apply_shared_drop",
     "transaction_drop_kept_tree_ref",
     "ledger_post",
@@ -138,8 +138,23 @@ pub fn call(name: &str, args: &mut [Value<'_>]) -> Option<u64> {
         ("leaf_edit_item", [Bytes(sheet), Number(number), Lent(start), Lent(len)]) => {
             u64::from(lent::leaf_edit_item(sheet, *number, start, len))
         }
+        ("transaction_shared_add_item", [Number(kind), Number(count), Out(out), Lent(len)]) => {
+            u64::from(lent::transaction_shared_add_item(*kind as u8, *count as u32, out, len))
+        }
+        ("transaction_shared_add_inline_size", [Number(kind), Lent(size)]) => {
+            u64::from(lent::transaction_shared_add_inline_size(*kind as u8, size))
+        }
+        ("transaction_max_inline_extent_item", [Number(nodesize), Lent(limit)]) => {
+            u64::from(lent::transaction_max_inline_extent_item(*nodesize as u32, limit))
+        }
         ("transaction_record_of", [Bytes(sheet), Number(bytenr), Lent(number)]) => {
             u64::from(lent::transaction_record_of(sheet, *bytenr, number))
+        }
+        ("transaction_apply_keyed_add_block", [Number(nodesize), Bytes(sheet), Number(bytenr), Number(tree), Number(count), Number(as_item), Out(out), Lent(len)]) => {
+            u64::from(lent::transaction_apply_keyed_add_block(*nodesize as u32, sheet, *bytenr, *tree, *count as u32, *as_item != 0, out, len))
+        }
+        ("transaction_apply_keyed_add_data", [Number(nodesize), Bytes(sheet), Number(bytenr), Number(tree), Number(objectid), Number(offset), Number(count), Number(as_item), Out(out), Lent(len)]) => {
+            u64::from(lent::transaction_apply_keyed_add_data(*nodesize as u32, sheet, *bytenr, *tree, *objectid, *offset, *count as u32, *as_item != 0, out, len))
         }
         ("transaction_apply_shared_add", [Number(nodesize), Bytes(sheet), Number(bytenr), Number(kind), Number(parent), Number(count), Number(as_item), Out(out), Lent(len)]) => {
             u64::from(lent::transaction_apply_shared_add(*nodesize as u32, sheet, *bytenr, *kind as u8, *parent, *count as u32, *as_item != 0, out, len))
@@ -161,21 +176,6 @@ pub fn call(name: &str, args: &mut [Value<'_>]) -> Option<u64> {
         }
         ("transaction_keyed_data_ref_names", [Bytes(item), Number(tree), Number(objectid), Number(offset), Lent(names)]) => {
             u64::from(lent::transaction_keyed_data_ref_names(item, *tree, *objectid, *offset, names))
-        }
-        ("transaction_shared_add_item", [Number(kind), Number(count), Out(out), Lent(len)]) => {
-            u64::from(lent::transaction_shared_add_item(*kind as u8, *count as u32, out, len))
-        }
-        ("transaction_shared_add_inline_size", [Number(kind), Lent(size)]) => {
-            u64::from(lent::transaction_shared_add_inline_size(*kind as u8, size))
-        }
-        ("transaction_max_inline_extent_item", [Number(nodesize), Lent(limit)]) => {
-            u64::from(lent::transaction_max_inline_extent_item(*nodesize as u32, limit))
-        }
-        ("transaction_apply_keyed_add_block", [Number(nodesize), Bytes(sheet), Number(bytenr), Number(tree), Number(count), Number(as_item), Out(out), Lent(len)]) => {
-            u64::from(lent::transaction_apply_keyed_add_block(*nodesize as u32, sheet, *bytenr, *tree, *count as u32, *as_item != 0, out, len))
-        }
-        ("transaction_apply_keyed_add_data", [Number(nodesize), Bytes(sheet), Number(bytenr), Number(tree), Number(objectid), Number(offset), Number(count), Number(as_item), Out(out), Lent(len)]) => {
-            u64::from(lent::transaction_apply_keyed_add_data(*nodesize as u32, sheet, *bytenr, *tree, *objectid, *offset, *count as u32, *as_item != 0, out, len))
         }
         ("transaction_apply_shared_drop", [Bytes(sheet), Number(bytenr), Number(kind), Number(parent), Number(count), Number(as_item), Out(out), Lent(len)]) => {
             u64::from(lent::transaction_apply_shared_drop(sheet, *bytenr, *kind as u8, *parent, *count as u32, *as_item != 0, out, len))
