@@ -26,3 +26,4 @@ pub use step::Cursor;
 pub use step::Step;
 pub use wanted::Wanted;
 pub use wanted::kind_of;
+pub use wanted::names_triple;
