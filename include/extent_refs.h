@@ -186,6 +186,54 @@ uint32_t leaf_edit_item(
     uint64_t *start,
     uint64_t *len);
 
+uint32_t transaction_shared_add_item(
+    uint8_t kind,
+    uint32_t count,
+    uint8_t *out, size_t out_len,
+    uint64_t *len);
+
+uint32_t transaction_shared_add_inline_size(uint8_t kind, uint64_t *size);
+
+uint32_t transaction_max_inline_extent_item(uint32_t nodesize, uint64_t *limit);
+
+uint32_t transaction_record_of(
+    const uint8_t *sheet, size_t sheet_len,
+    uint64_t bytenr,
+    uint64_t *number);
+
+uint32_t transaction_apply_keyed_add_block(
+    uint32_t nodesize,
+    const uint8_t *sheet, size_t sheet_len,
+    uint64_t bytenr,
+    uint64_t tree,
+    uint32_t count,
+    bool as_item,
+    uint8_t *out, size_t out_len,
+    uint64_t *len);
+
+uint32_t transaction_apply_keyed_add_data(
+    uint32_t nodesize,
+    const uint8_t *sheet, size_t sheet_len,
+    uint64_t bytenr,
+    uint64_t tree,
+    uint64_t objectid,
+    uint64_t offset,
+    uint32_t count,
+    bool as_item,
+    uint8_t *out, size_t out_len,
+    uint64_t *len);
+
+uint32_t transaction_apply_shared_add(
+    uint32_t nodesize,
+    const uint8_t *sheet, size_t sheet_len,
+    uint64_t bytenr,
+    uint8_t kind,
+    uint64_t parent,
+    uint32_t count,
+    bool as_item,
+    uint8_t *out, size_t out_len,
+    uint64_t *len);
+
 /* Not exported yet:
  *   backref_inline_refs
  *   backref_take_inline_shared
@@ -193,13 +241,6 @@ uint32_t leaf_edit_item(
  *   backref_keyed_data_ref_body
  *   transaction_held_only_by
  *   transaction_keyed_data_ref_names
- *   transaction_shared_add_item
- *   transaction_shared_add_inline_size
- *   transaction_max_inline_extent_item
- *   transaction_record_of
- *   transaction_apply_keyed_add_block
- *   transaction_apply_keyed_add_data
- *   transaction_apply_shared_add
  *   transaction_apply_shared_drop
  *   transaction_drop_kept_tree_ref
  *   ledger_post

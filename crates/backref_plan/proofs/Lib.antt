@@ -4,3 +4,5 @@ pub mod Heads
 pub mod Sites
 pub mod Takes
 pub mod Gives
+pub mod KeyedDrops
+pub mod Taken

@@ -1,3 +1,4 @@
 pub mod Plans
 pub mod Heads
 pub mod Adds
+pub mod Takes

@@ -4,14 +4,14 @@ use crate::plan::Plan;
 use crate::plan::edit;
 use crate::plan::refuse;
 use crate::plan::without;
-use format::SharedRef;
 use inline_refs::Found;
 use inline_refs::Scan;
 use inline_refs::Wanted;
 ghost use mathlib.Core.Path.{_≡_};
-ghost use Rattle.format.specs.Bodies.{dropInline, takeInlineShared};
+ghost use Rattle.format.specs.Bodies.{dropInline};
 ghost use Rattle.inline_refs.specs.Scans.{kindOf, fieldsOf};
 ghost use Rattle.backref_plan.specs.Plans.{Planned, PlannedTaken};
+ghost use Rattle.backref_plan.specs.Takes.{takeInline};
 
 // One count off the wanted reference, and off the total. Place 0: no gap is looked for, so no hash is computed.
 pub fn plan_drop_inline(item_type: u8, body: &[u8], wanted: Wanted) -> Plan
@@ -32,6 +32,22 @@ pub fn plan_drop_inline(item_type: u8, body: &[u8], wanted: Wanted) -> Plan
             }
             let new = crate::bytes::bytes_of(wanted, weight - 1);
             edit(at, next, new, crate::bytes::size_of(wanted), total - 1, 0)
+        }
+    }
+}
+
+// The wanted reference goes whole, and the total stays.
+pub fn plan_take_inline(item_type: u8, body: &[u8], wanted: Wanted) -> Plan
+    ensures { λ r. ⌜ PlannedTaken r (now (body .entry)) (takeInline «item_type» (now (body .entry)) wanted) ⌝ }
+{
+    match inline_refs::scan_body(item_type, body, wanted, 0) {
+        Scan::Fault(number) => refuse(number),
+        Scan::Read(seen) => {
+            let Found::At { at, next, weight } = inline_refs::hit_of(seen) else {
+                return without(Outcome::Absent);
+            };
+            let total = fields::get_u64_le(body, 0);
+            edit(at, next, [0; 29], 0, total, weight)
         }
     }
 }

@@ -2,13 +2,14 @@
 use crate::plan::Outcome;
 use crate::plan::Plan;
 use format::Edited;
+use format::Taken;
 ghost use mathlib.Core.Path.{_≡_};
 ghost use Prim.Native.Nat.{_+_, _-_, _≤_};
 ghost use lib.ListN.{length};
 ghost use Rattle.fields.specs.Parts.{written};
-ghost use Rattle.format.specs.Questions.{Answered, accepted};
-ghost use Rattle.format.specs.Bodies.{heldBody};
-ghost use Rattle.backref_plan.specs.Plans.{edited, planAnswer, EditIn, PlanIn};
+ghost use Rattle.format.specs.Questions.{Answered, AnsweredTaken, accepted};
+ghost use Rattle.format.specs.Bodies.{heldBody, heldTaken};
+ghost use Rattle.backref_plan.specs.Plans.{edited, planAnswer, planTaken, EditIn, PlanIn};
 
 // How long a body of so many bytes is after a planned edit.
 pub fn plan_length(plan: Plan, body_len: usize) -> usize
@@ -58,5 +59,19 @@ pub fn write_plan(body: &[u8], plan: Plan, out: &mut [u8]) -> Edited
         Outcome::Absent => Edited::Absent,
         Outcome::Remove => Edited::Remove,
         Outcome::Refused(number) => Edited::Refused(number),
+    }
+}
+
+// The same with the count of the reference that was taken out.
+pub fn write_taken(body: &[u8], plan: Plan, out: &mut [u8]) -> Taken
+    requires { ⌜ PlanIn plan (now body) ⌝ }
+    ensures { λ r. ⌜ AnsweredTaken (heldTaken (length (now (out .entry))) (planTaken plan (now (body .entry)))) r (now (out .entry)) (now (out .exit)) ⌝ }
+{
+    let count = plan.count;
+    match write_plan(body, plan, out) {
+        Edited::Written(length) => Taken::Written { length, count },
+        Edited::Absent => Taken::Absent,
+        Edited::Remove => Taken::Refused(101),
+        Edited::Refused(number) => Taken::Refused(number),
     }
 }

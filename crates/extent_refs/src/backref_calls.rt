@@ -1,5 +1,4 @@
 // Bodies: the calls of `backref.rs`.
-ghost use mathlib.Core.Path.{_≡_};
 ghost use lib.ListN.{length};
 ghost use Rattle.format.specs.Bodies.{heldBody, flags, addInlineKeyed, dropInlineDataRef, lowerTotal, reduceTotal, raiseTotal, holdsInlineDataRef, addInlineDataRef, addInlineTreeRef, addInlineShared, dropInlineTreeRef, withFlags};
 ghost use Rattle.extent_refs.specs.Exports.{Coded, CodedBool, CodedNumber};

@@ -1,5 +1,4 @@
 // Item lists: the calls of `leaf_edit.rs`.
-ghost use mathlib.Core.Path.{_≡_};
 ghost use lib.ListN.{length};
 ghost use Rattle.format.specs.Items.{keyOf, heldSheet};
 ghost use Rattle.format.specs.Sheets.{insert, insertUnbounded, delete, fit, fits as fitsWith, split, splitToFit, heldCuts, item, itemStart};

@@ -34,7 +34,7 @@ pub fn kind_of(wanted: Wanted) -> u8
 }
 
 // Whether three fields from `start` on are those of a data reference.
-fn names_triple(name: DataRef, body: &[u8], start: usize) -> bool
+pub fn names_triple(name: DataRef, body: &[u8], start: usize) -> bool
     requires { ⌜ start + 24 ≤ length (now body) ⌝ }
     ensures { λ r. ⌜ r ≡ same (words 3 (drop start (now (body .entry)))) (triple name) ⌝ }
 {

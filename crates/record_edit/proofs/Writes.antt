@@ -19,8 +19,8 @@ use Rattle.format.specs.Questions.{Answer, refused, absent, remove, accepted, a
 use Rattle.format.specs.Items.{Item, itemBytes}
 use Rattle.format.proofs.Items.{length-itemBytes}
 use Rattle.format.proofs.Outputs.{answered-refused, answered-written}
-use Rattle.item_list.specs.Writes.{headBytes, roomFor}
-use Rattle.item_list.proofs.Writes.{length-head, item-head}
+use Rattle.item_write.specs.Writes.{headBytes, roomFor}
+use Rattle.item_write.proofs.Writes.{length-head, item-head}
 use Rattle.item_list.proofs.Steps.{and-false}
 use Rattle.backref_plan.specs.declared.plan.Outcome.{Outcome}
 use Rattle.backref_plan.specs.declared.plan.Outcome.the-variants.{Edit, Absent, Remove, Refused}

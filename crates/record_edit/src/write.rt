@@ -23,9 +23,9 @@ fn append_edit(body: &[u8], plan: Plan, out: &mut [u8], at: usize) -> usize
 {
     let new = plan.new;
     fields::put_u64_le(out, at, plan.total);
-    let one = item_list::append(body, 8, plan.from, out, at + 8);
-    let two = item_list::append(&new, 0, plan.size, out, one);
-    item_list::append(body, plan.to, body.len(), out, two)
+    let one = item_write::append(body, 8, plan.from, out, at + 8);
+    let two = item_write::append(&new, 0, plan.size, out, one);
+    item_write::append(body, plan.to, body.len(), out, two)
 }
 
 // All up to the end of the record, with its planned body.
@@ -42,8 +42,8 @@ fn append_record(
     ensures { λ r. ⌜ (r ≡ start + 21 + editLength plan (length (now (body .entry)))) × (now (out .exit) ≡ written 0 (take start (now (sheet .entry)) ++ itemBytes (record { key = key; bytes = edited plan (now (body .entry)) })) (now (out .entry))) ⌝ }
 {
     let size = backref_plan::plan_length(plan, body.len());
-    let head = item_list::append(sheet, 0, start, out, 0);
-    let inside = item_list::append_head(key, size, out, head);
+    let head = item_write::append(sheet, 0, start, out, 0);
+    let inside = item_write::append_head(key, size, out, head);
     append_edit(body, plan, out, inside)
 }
 
@@ -54,9 +54,9 @@ fn append_rest(sheet: &[u8], end: usize, behind: Behind, out: &mut [u8], at: usi
     ensures { λ _. ⌜ now (out .exit) ≡ written at (restOf behind end (now (sheet .entry))) (now (out .entry)) ⌝ }
 {
     let new = behind.new;
-    let one = item_list::append(sheet, end, behind.from, out, at);
-    let two = item_list::append(&new, 0, behind.size, out, one);
-    item_list::append(sheet, behind.to, sheet.len(), out, two);
+    let one = item_write::append(sheet, end, behind.from, out, at);
+    let two = item_write::append(&new, 0, behind.size, out, one);
+    item_write::append(sheet, behind.to, sheet.len(), out, two);
 }
 
 fn write_record(sheet: &[u8], stand: Record, plan: Plan, behind: Behind, out: &mut [u8])
@@ -96,7 +96,7 @@ fn write_held(
     }
     let rest = behind.from - stand.end + behind.size + (sheet.len() - behind.to);
     let long = stand.start + 21 + size + rest;
-    if item_list::room_for(out.len(), long, count) {
+    if item_write::room_for(out.len(), long, count) {
         write_record(sheet, stand, plan, behind, out);
         return Edited::Written(long);
     }

@@ -17,7 +17,7 @@ use Rattle.format.specs.Bodies.{sharedKind, raiseTotal, addInlineShared}
 use Rattle.format.specs.Items.{Item, readSheet, nodesizeFits, heldSheet, putBack}
 use Rattle.format.specs.Apply.{inlineLimit, sharedBody, applySharedAdd, applySharedAddTo}
 use Rattle.item_list.specs.Steps.{itemAt}
-use Rattle.item_list.proofs.Writes.{answered-no}
+use Rattle.item_write.proofs.Writes.{answered-no}
 use Rattle.backref_plan.specs.declared.plan.Plan.{Plan}
 use Rattle.backref_plan.specs.Plans.{planAnswer, Planned}
 use Rattle.record_edit.specs.Records.{dataOf, heldEdit}

@@ -23,8 +23,8 @@ use Rattle.format.specs.Bodies.{raiseTotal, addInlineTreeRef, addInlineData}
 use Rattle.format.specs.Items.{Item, readSheet, nodesizeFits, heldSheet, withBytes, putBack}
 use Rattle.format.specs.Apply.{inlineLimit, keyedBody, applyKeyedAdd, applyKeyedAddTo}
 use Rattle.item_list.specs.Steps.{itemAt, itemsOf}
-use Rattle.item_list.specs.Writes.{heldBytes}
-use Rattle.item_list.proofs.Writes.{answered-no, answered-by}
+use Rattle.item_write.specs.Writes.{heldBytes}
+use Rattle.item_write.proofs.Writes.{answered-no, answered-by}
 use Rattle.backref_plan.specs.declared.plan.Plan.{Plan}
 use Rattle.backref_plan.specs.Plans.{planAnswer, Planned}
 use Rattle.record_edit.specs.Records.{dataOf, heldEdit}

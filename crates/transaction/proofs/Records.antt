@@ -14,7 +14,7 @@ use Rattle.format.specs.Questions.{Answer, refused, absent, remove, accepted, a
 use Rattle.format.specs.Items.{Item, readSheet, itemBytes, sheetBytes, dataFits, sheetHolds, heldSheet, putBack}
 use Rattle.format.specs.Apply.{recordNumber}
 use Rattle.item_list.specs.Steps.{itemAt}
-use Rattle.item_list.specs.Writes.{roomFor}
+use Rattle.item_write.specs.Writes.{roomFor}
 use Rattle.backref_plan.specs.declared.plan.Plan.{Plan}
 use Rattle.backref_plan.specs.Plans.{planAnswer, Planned}
 use Rattle.record_edit.specs.declared.Behind.{Behind}

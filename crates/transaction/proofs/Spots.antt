@@ -25,7 +25,7 @@ use Rattle.item_list.specs.Steps.{itemsOf, itemsIn, itemAt, checkedOf}
 use Rattle.item_list.specs.Seeks.{placeIn, recorded}
 use Rattle.item_list.proofs.Reading.{Counted, counted}
 use Rattle.item_list.proofs.Places.{Placed, placed, missing, Inside, inside}
-use Rattle.item_list.proofs.Writes.{sane-fit}
+use Rattle.item_write.proofs.Writes.{sane-fit}
 use Rattle.record_edit.specs.Records.{dataOf}
 use Rattle.transaction.specs.declared.Spot.{Spot}
 use Rattle.transaction.specs.declared.Spot.the-variants.{At, Refused}

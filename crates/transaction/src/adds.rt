@@ -152,7 +152,7 @@ pub fn apply_keyed_add(
             count: items,
         } => {
             if is_unread(keyed, count, as_item) {
-                return item_list::remove_item(sheet, 0, 0, items, out);
+                return item_write::remove_item(sheet, 0, 0, items, out);
             }
             let key = item_list::key_at(sheet, start);
             let plan = plan_keyed(key, &sheet[start + 21..end], keyed, count, as_item);

@@ -41,12 +41,6 @@ pub const NAMES: &[&str] = &[
     "leaf_edit_split",
     "leaf_edit_split_to_fit",
     "leaf_edit_item",
-    "backref_inline_refs",
-    "backref_take_inline_shared",
-    "backref_drop_keyed_data_ref",
-    "backref_keyed_data_ref_body",
-    "transaction_held_only_by",
-    "transaction_keyed_data_ref_names",
     "transaction_shared_add_item",
     "transaction_shared_add_inline_size",
     "transaction_max_inline_extent_item",
@@ -54,6 +48,12 @@ pub const NAMES: &[&str] = &[
     "transaction_apply_keyed_add_block",
     "transaction_apply_keyed_add_data",
     "transaction_apply_shared_add",
+    "backref_inline_refs",
+    "backref_take_inline_shared",
+    "backref_drop_keyed_data_ref",
+    "backref_keyed_data_ref_body",
+    "transaction_held_only_by",
+    "transaction_keyed_data_ref_names",
     "transaction_apply_shared_drop",
     "transaction_drop_kept_tree_ref",
     "ledger_post",
@@ -138,24 +138,6 @@ pub fn call(name: &str, args: &mut [Value<'_>]) -> Option<u64> {
         ("leaf_edit_item", [Bytes(sheet), Number(number), Lent(start), Lent(len)]) => {
             u64::from(lent::leaf_edit_item(sheet, *number, start, len))
         }
-        ("backref_inline_refs", [Number(item_type), Bytes(body), Cuts(positions), Lent(count)]) => {
-            u64::from(lent::backref_inline_refs(*item_type as u8, body, positions, count))
-        }
-        ("backref_take_inline_shared", [Number(item_type), Bytes(body), Number(kind), Number(parent), Out(out), Lent(len), Lent(count)]) => {
-            u64::from(lent::backref_take_inline_shared(*item_type as u8, body, *kind as u8, *parent, out, len, count))
-        }
-        ("backref_drop_keyed_data_ref", [Bytes(item), Number(tree), Number(objectid), Number(offset), Out(out), Lent(len)]) => {
-            u64::from(lent::backref_drop_keyed_data_ref(item, *tree, *objectid, *offset, out, len))
-        }
-        ("backref_keyed_data_ref_body", [Number(tree), Number(objectid), Number(offset), Number(count), Out(out), Lent(len)]) => {
-            u64::from(lent::backref_keyed_data_ref_body(*tree, *objectid, *offset, *count as u32, out, len))
-        }
-        ("transaction_held_only_by", [Bytes(body), Number(root), Number(ino), Words(offsets), Lent(holds)]) => {
-            u64::from(lent::transaction_held_only_by(body, *root, *ino, offsets, holds))
-        }
-        ("transaction_keyed_data_ref_names", [Bytes(item), Number(tree), Number(objectid), Number(offset), Lent(names)]) => {
-            u64::from(lent::transaction_keyed_data_ref_names(item, *tree, *objectid, *offset, names))
-        }
         ("transaction_shared_add_item", [Number(kind), Number(count), Out(out), Lent(len)]) => {
             u64::from(lent::transaction_shared_add_item(*kind as u8, *count as u32, out, len))
         }
@@ -176,6 +158,24 @@ pub fn call(name: &str, args: &mut [Value<'_>]) -> Option<u64> {
         }
         ("transaction_apply_shared_add", [Number(nodesize), Bytes(sheet), Number(bytenr), Number(kind), Number(parent), Number(count), Number(as_item), Out(out), Lent(len)]) => {
             u64::from(lent::transaction_apply_shared_add(*nodesize as u32, sheet, *bytenr, *kind as u8, *parent, *count as u32, *as_item != 0, out, len))
+        }
+        ("backref_inline_refs", [Number(item_type), Bytes(body), Cuts(positions), Lent(count)]) => {
+            u64::from(lent::backref_inline_refs(*item_type as u8, body, positions, count))
+        }
+        ("backref_take_inline_shared", [Number(item_type), Bytes(body), Number(kind), Number(parent), Out(out), Lent(len), Lent(count)]) => {
+            u64::from(lent::backref_take_inline_shared(*item_type as u8, body, *kind as u8, *parent, out, len, count))
+        }
+        ("backref_drop_keyed_data_ref", [Bytes(item), Number(tree), Number(objectid), Number(offset), Out(out), Lent(len)]) => {
+            u64::from(lent::backref_drop_keyed_data_ref(item, *tree, *objectid, *offset, out, len))
+        }
+        ("backref_keyed_data_ref_body", [Number(tree), Number(objectid), Number(offset), Number(count), Out(out), Lent(len)]) => {
+            u64::from(lent::backref_keyed_data_ref_body(*tree, *objectid, *offset, *count as u32, out, len))
+        }
+        ("transaction_held_only_by", [Bytes(body), Number(root), Number(ino), Words(offsets), Lent(holds)]) => {
+            u64::from(lent::transaction_held_only_by(body, *root, *ino, offsets, holds))
+        }
+        ("transaction_keyed_data_ref_names", [Bytes(item), Number(tree), Number(objectid), Number(offset), Lent(names)]) => {
+            u64::from(lent::transaction_keyed_data_ref_names(item, *tree, *objectid, *offset, names))
         }
         ("transaction_apply_shared_drop", [Bytes(sheet), Number(bytenr), Number(kind), Number(parent), Number(count), Number(as_item), Out(out), Lent(len)]) => {
             u64::from(lent::transaction_apply_shared_drop(sheet, *bytenr, *kind as u8, *parent, *count as u32, *as_item != 0, out, len))

@@ -409,6 +409,106 @@ pub fn leaf_edit_item(sheet: &[u8], number: u64, start: &mut u64, len: &mut u64)
     unsafe { raw::leaf_edit_item(sheet.as_ptr(), sheet.len(), number, start, len) }
 }
 
+pub fn transaction_shared_add_item(kind: u8, count: u32, out: &mut [u8], len: &mut u64) -> u32 {
+    unsafe { raw::transaction_shared_add_item(kind, count, out.as_mut_ptr(), out.len(), len) }
+}
+
+pub fn transaction_shared_add_inline_size(kind: u8, size: &mut u64) -> u32 {
+    unsafe { raw::transaction_shared_add_inline_size(kind, size) }
+}
+
+pub fn transaction_max_inline_extent_item(nodesize: u32, limit: &mut u64) -> u32 {
+    unsafe { raw::transaction_max_inline_extent_item(nodesize, limit) }
+}
+
+pub fn transaction_record_of(sheet: &[u8], bytenr: u64, number: &mut u64) -> u32 {
+    unsafe { raw::transaction_record_of(sheet.as_ptr(), sheet.len(), bytenr, number) }
+}
+
+pub fn transaction_apply_keyed_add_block(
+    nodesize: u32,
+    sheet: &[u8],
+    bytenr: u64,
+    tree: u64,
+    count: u32,
+    as_item: bool,
+    out: &mut [u8],
+    len: &mut u64,
+) -> u32 {
+    unsafe {
+        raw::transaction_apply_keyed_add_block(
+            nodesize,
+            sheet.as_ptr(),
+            sheet.len(),
+            bytenr,
+            tree,
+            count,
+            as_item,
+            out.as_mut_ptr(),
+            out.len(),
+            len,
+        )
+    }
+}
+
+pub fn transaction_apply_keyed_add_data(
+    nodesize: u32,
+    sheet: &[u8],
+    bytenr: u64,
+    tree: u64,
+    objectid: u64,
+    offset: u64,
+    count: u32,
+    as_item: bool,
+    out: &mut [u8],
+    len: &mut u64,
+) -> u32 {
+    unsafe {
+        raw::transaction_apply_keyed_add_data(
+            nodesize,
+            sheet.as_ptr(),
+            sheet.len(),
+            bytenr,
+            tree,
+            objectid,
+            offset,
+            count,
+            as_item,
+            out.as_mut_ptr(),
+            out.len(),
+            len,
+        )
+    }
+}
+
+pub fn transaction_apply_shared_add(
+    nodesize: u32,
+    sheet: &[u8],
+    bytenr: u64,
+    kind: u8,
+    parent: u64,
+    count: u32,
+    as_item: bool,
+    out: &mut [u8],
+    len: &mut u64,
+) -> u32 {
+    unsafe {
+        raw::transaction_apply_shared_add(
+            nodesize,
+            sheet.as_ptr(),
+            sheet.len(),
+            bytenr,
+            kind,
+            parent,
+            count,
+            as_item,
+            out.as_mut_ptr(),
+            out.len(),
+            len,
+        )
+    }
+}
+
 pub fn backref_inline_refs(
     item_type: u8,
     body: &[u8],
@@ -529,106 +629,6 @@ pub fn transaction_keyed_data_ref_names(
             objectid,
             offset,
             names,
-        )
-    }
-}
-
-pub fn transaction_shared_add_item(kind: u8, count: u32, out: &mut [u8], len: &mut u64) -> u32 {
-    unsafe { raw::transaction_shared_add_item(kind, count, out.as_mut_ptr(), out.len(), len) }
-}
-
-pub fn transaction_shared_add_inline_size(kind: u8, size: &mut u64) -> u32 {
-    unsafe { raw::transaction_shared_add_inline_size(kind, size) }
-}
-
-pub fn transaction_max_inline_extent_item(nodesize: u32, limit: &mut u64) -> u32 {
-    unsafe { raw::transaction_max_inline_extent_item(nodesize, limit) }
-}
-
-pub fn transaction_record_of(sheet: &[u8], bytenr: u64, number: &mut u64) -> u32 {
-    unsafe { raw::transaction_record_of(sheet.as_ptr(), sheet.len(), bytenr, number) }
-}
-
-pub fn transaction_apply_keyed_add_block(
-    nodesize: u32,
-    sheet: &[u8],
-    bytenr: u64,
-    tree: u64,
-    count: u32,
-    as_item: bool,
-    out: &mut [u8],
-    len: &mut u64,
-) -> u32 {
-    unsafe {
-        raw::transaction_apply_keyed_add_block(
-            nodesize,
-            sheet.as_ptr(),
-            sheet.len(),
-            bytenr,
-            tree,
-            count,
-            as_item,
-            out.as_mut_ptr(),
-            out.len(),
-            len,
-        )
-    }
-}
-
-pub fn transaction_apply_keyed_add_data(
-    nodesize: u32,
-    sheet: &[u8],
-    bytenr: u64,
-    tree: u64,
-    objectid: u64,
-    offset: u64,
-    count: u32,
-    as_item: bool,
-    out: &mut [u8],
-    len: &mut u64,
-) -> u32 {
-    unsafe {
-        raw::transaction_apply_keyed_add_data(
-            nodesize,
-            sheet.as_ptr(),
-            sheet.len(),
-            bytenr,
-            tree,
-            objectid,
-            offset,
-            count,
-            as_item,
-            out.as_mut_ptr(),
-            out.len(),
-            len,
-        )
-    }
-}
-
-pub fn transaction_apply_shared_add(
-    nodesize: u32,
-    sheet: &[u8],
-    bytenr: u64,
-    kind: u8,
-    parent: u64,
-    count: u32,
-    as_item: bool,
-    out: &mut [u8],
-    len: &mut u64,
-) -> u32 {
-    unsafe {
-        raw::transaction_apply_shared_add(
-            nodesize,
-            sheet.as_ptr(),
-            sheet.len(),
-            bytenr,
-            kind,
-            parent,
-            count,
-            as_item,
-            out.as_mut_ptr(),
-            out.len(),
-            len,
         )
     }
 }

@@ -210,6 +210,60 @@ extern "C" {
         start: *mut u64,
         len: *mut u64,
     ) -> u32;
+    pub fn transaction_shared_add_item(
+        kind: u8,
+        count: u32,
+        out: *mut u8,
+        out_len: usize,
+        len: *mut u64,
+    ) -> u32;
+    pub fn transaction_shared_add_inline_size(kind: u8, size: *mut u64) -> u32;
+    pub fn transaction_max_inline_extent_item(nodesize: u32, limit: *mut u64) -> u32;
+    pub fn transaction_record_of(
+        sheet: *const u8,
+        sheet_len: usize,
+        bytenr: u64,
+        number: *mut u64,
+    ) -> u32;
+    pub fn transaction_apply_keyed_add_block(
+        nodesize: u32,
+        sheet: *const u8,
+        sheet_len: usize,
+        bytenr: u64,
+        tree: u64,
+        count: u32,
+        as_item: bool,
+        out: *mut u8,
+        out_len: usize,
+        len: *mut u64,
+    ) -> u32;
+    pub fn transaction_apply_keyed_add_data(
+        nodesize: u32,
+        sheet: *const u8,
+        sheet_len: usize,
+        bytenr: u64,
+        tree: u64,
+        objectid: u64,
+        offset: u64,
+        count: u32,
+        as_item: bool,
+        out: *mut u8,
+        out_len: usize,
+        len: *mut u64,
+    ) -> u32;
+    pub fn transaction_apply_shared_add(
+        nodesize: u32,
+        sheet: *const u8,
+        sheet_len: usize,
+        bytenr: u64,
+        kind: u8,
+        parent: u64,
+        count: u32,
+        as_item: bool,
+        out: *mut u8,
+        out_len: usize,
+        len: *mut u64,
+    ) -> u32;
 }
 
 // Declared, but not exported by the source yet. build.rs gives each a stand-in.
@@ -219,13 +273,6 @@ extern "C" {
 // waits: backref_keyed_data_ref_body tree:u64 objectid:u64 offset:u64 count:u32 out:out len:lent
 // waits: transaction_held_only_by body:bytes root:u64 ino:u64 offsets:words holds:lent
 // waits: transaction_keyed_data_ref_names item:bytes tree:u64 objectid:u64 offset:u64 names:lent
-// waits: transaction_shared_add_item kind:u8 count:u32 out:out len:lent
-// waits: transaction_shared_add_inline_size kind:u8 size:lent
-// waits: transaction_max_inline_extent_item nodesize:u32 limit:lent
-// waits: transaction_record_of sheet:bytes bytenr:u64 number:lent
-// waits: transaction_apply_keyed_add_block nodesize:u32 sheet:bytes bytenr:u64 tree:u64 count:u32 as_item:bool out:out len:lent
-// waits: transaction_apply_keyed_add_data nodesize:u32 sheet:bytes bytenr:u64 tree:u64 objectid:u64 offset:u64 count:u32 as_item:bool out:out len:lent
-// waits: transaction_apply_shared_add nodesize:u32 sheet:bytes bytenr:u64 kind:u8 parent:u64 count:u32 as_item:bool out:out len:lent
 // waits: transaction_apply_shared_drop sheet:bytes bytenr:u64 kind:u8 parent:u64 count:u32 as_item:bool out:out len:lent
 // waits: transaction_drop_kept_tree_ref sheet:bytes bytenr:u64 level:u8 tree:u64 own:bool out:out len:lent
 // waits: ledger_post nodesize:u32 sheet:bytes change:u8 extent:u64 a:u64 b:u64 c:u64 amount:u32 out:out len:lent
@@ -284,60 +331,6 @@ extern "C" {
         objectid: u64,
         offset: u64,
         names: *mut u64,
-    ) -> u32;
-    pub fn transaction_shared_add_item(
-        kind: u8,
-        count: u32,
-        out: *mut u8,
-        out_len: usize,
-        len: *mut u64,
-    ) -> u32;
-    pub fn transaction_shared_add_inline_size(kind: u8, size: *mut u64) -> u32;
-    pub fn transaction_max_inline_extent_item(nodesize: u32, limit: *mut u64) -> u32;
-    pub fn transaction_record_of(
-        sheet: *const u8,
-        sheet_len: usize,
-        bytenr: u64,
-        number: *mut u64,
-    ) -> u32;
-    pub fn transaction_apply_keyed_add_block(
-        nodesize: u32,
-        sheet: *const u8,
-        sheet_len: usize,
-        bytenr: u64,
-        tree: u64,
-        count: u32,
-        as_item: bool,
-        out: *mut u8,
-        out_len: usize,
-        len: *mut u64,
-    ) -> u32;
-    pub fn transaction_apply_keyed_add_data(
-        nodesize: u32,
-        sheet: *const u8,
-        sheet_len: usize,
-        bytenr: u64,
-        tree: u64,
-        objectid: u64,
-        offset: u64,
-        count: u32,
-        as_item: bool,
-        out: *mut u8,
-        out_len: usize,
-        len: *mut u64,
-    ) -> u32;
-    pub fn transaction_apply_shared_add(
-        nodesize: u32,
-        sheet: *const u8,
-        sheet_len: usize,
-        bytenr: u64,
-        kind: u8,
-        parent: u64,
-        count: u32,
-        as_item: bool,
-        out: *mut u8,
-        out_len: usize,
-        len: *mut u64,
     ) -> u32;
     pub fn transaction_apply_shared_drop(
         sheet: *const u8,

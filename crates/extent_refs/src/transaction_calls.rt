@@ -1,0 +1,130 @@
+// References in bodies and in item lists: the calls of `transaction.rs`.
+ghost use lib.ListN.{length};
+ghost use Rattle.format.specs.Bodies.{heldBody, sharedAddItem, sharedAddInlineSize};
+ghost use Rattle.format.specs.Items.{heldSheet};
+ghost use Rattle.format.specs.Apply.{maxInlineExtentItem, recordNumber, applyKeyedAddTo, applySharedAddTo};
+ghost use Rattle.extent_refs.specs.Exports.{Coded, CodedNumber};
+use super::codes;
+use format::BlockRef;
+use format::DataRef;
+use format::Keyed;
+use format::SharedRef;
+
+#[no_mangle]
+pub extern "C" fn transaction_shared_add_item(
+    kind: u8,
+    count: u32,
+    out: &mut [u8],
+    len: &mut u64,
+) -> u32
+    ensures { λ r. ⌜ Coded (heldBody (length (now (out .entry))) (sharedAddItem kind count)) r (now (len .exit)) (now (out .entry)) (now (out .exit)) ⌝ }
+{
+    let answer = transaction_bodies::shared_add_item(kind, count, out);
+    codes::put_edited(answer, len)
+}
+
+#[no_mangle]
+pub extern "C" fn transaction_shared_add_inline_size(kind: u8, size: &mut u64) -> u32
+    ensures { λ r. ⌜ CodedNumber (sharedAddInlineSize kind) r (now (size .exit)) ⌝ }
+{
+    let answer = transaction_bodies::shared_add_inline_size(kind);
+    codes::put_told(answer, size)
+}
+
+#[no_mangle]
+pub extern "C" fn transaction_max_inline_extent_item(nodesize: u32, limit: &mut u64) -> u32
+    ensures { λ r. ⌜ CodedNumber (maxInlineExtentItem nodesize) r (now (limit .exit)) ⌝ }
+{
+    let answer = transaction_bodies::max_inline_extent_item(nodesize);
+    codes::put_told(answer, limit)
+}
+
+#[no_mangle]
+pub extern "C" fn transaction_record_of(sheet: &[u8], bytenr: u64, number: &mut u64) -> u32
+    ensures { λ r. ⌜ CodedNumber (recordNumber (now (sheet .entry)) bytenr) r (now (number .exit)) ⌝ }
+{
+    let answer = transaction::record_of(sheet, bytenr);
+    codes::put_told(answer, number)
+}
+
+#[no_mangle]
+pub extern "C" fn transaction_apply_keyed_add_block(
+    nodesize: u32,
+    sheet: &[u8],
+    bytenr: u64,
+    tree: u64,
+    count: u32,
+    as_item: bool,
+    out: &mut [u8],
+    len: &mut u64,
+) -> u32
+    ensures { λ r. ⌜ Coded (heldSheet (length (now (out .entry))) (applyKeyedAddTo nodesize (now (sheet .entry)) bytenr (Keyed.Block (record { tree = tree })) count «as_item»)) r (now (len .exit)) (now (out .entry)) (now (out .exit)) ⌝ }
+{
+    let answer = transaction::apply_keyed_add(
+        nodesize,
+        sheet,
+        bytenr,
+        Keyed::Block(BlockRef { tree }),
+        count,
+        as_item,
+        out,
+    );
+    codes::put_edited(answer, len)
+}
+
+#[no_mangle]
+pub extern "C" fn transaction_apply_keyed_add_data(
+    nodesize: u32,
+    sheet: &[u8],
+    bytenr: u64,
+    tree: u64,
+    objectid: u64,
+    offset: u64,
+    count: u32,
+    as_item: bool,
+    out: &mut [u8],
+    len: &mut u64,
+) -> u32
+    ensures { λ r. ⌜ Coded (heldSheet (length (now (out .entry))) (applyKeyedAddTo nodesize (now (sheet .entry)) bytenr (Keyed.Data (record { tree = tree; objectid = objectid; offset = offset })) count «as_item»)) r (now (len .exit)) (now (out .entry)) (now (out .exit)) ⌝ }
+{
+    let answer = transaction::apply_keyed_add(
+        nodesize,
+        sheet,
+        bytenr,
+        Keyed::Data(DataRef {
+            tree,
+            objectid,
+            offset,
+        }),
+        count,
+        as_item,
+        out,
+    );
+    codes::put_edited(answer, len)
+}
+
+#[no_mangle]
+pub extern "C" fn transaction_apply_shared_add(
+    nodesize: u32,
+    sheet: &[u8],
+    bytenr: u64,
+    kind: u8,
+    parent: u64,
+    count: u32,
+    as_item: bool,
+    out: &mut [u8],
+    len: &mut u64,
+) -> u32
+    ensures { λ r. ⌜ Coded (heldSheet (length (now (out .entry))) (applySharedAddTo nodesize (now (sheet .entry)) bytenr (record { kind = kind; parent = parent }) count «as_item»)) r (now (len .exit)) (now (out .entry)) (now (out .exit)) ⌝ }
+{
+    let answer = transaction::apply_shared_add(
+        nodesize,
+        sheet,
+        bytenr,
+        SharedRef { kind, parent },
+        count,
+        as_item,
+        out,
+    );
+    codes::put_edited(answer, len)
+}

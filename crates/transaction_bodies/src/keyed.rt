@@ -1,0 +1,18 @@
+// Whether an item of its own is a data reference of that name.
+use format::DataRef;
+use format::Judged;
+ghost use mathlib.Core.Path.{_≡_};
+ghost use Rattle.format.specs.Questions.{judgedOf};
+ghost use Rattle.format.specs.Bodies.{keyedDataRefNames};
+
+pub fn keyed_data_ref_names(item: &[u8], name: DataRef) -> Judged
+    ensures { λ r. ⌜ r ≡ judgedOf (keyedDataRefNames (now (item .entry)) name) ⌝ }
+{
+    if 65535 < item.len() {
+        return Judged::Refused(3);
+    }
+    if item.len() < 24 {
+        return Judged::Says(false);
+    }
+    Judged::Says(inline_refs::names_triple(name, item, 0))
+}
