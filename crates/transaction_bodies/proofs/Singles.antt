@@ -1,6 +1,6 @@
 -- Laws of one offset and of one reference, tested where it stands. Assumes nothing.
 use mathlib.Core.Path.{_≡_, refl, sym, ap, _∙_}
-use mathlib.Core.Bool.{Bool, true, false, not, _&&_, cond}
+use mathlib.Core.Bool.{Bool, true, false, not, cond}
 use mathlib.Core.List.{List, [], _∷_}
 use Prim.Native.Nat.{ℕ, suc, _+_, _≤_, _<_}
 use native.Mathlib.Numerals.{add-one}
@@ -9,10 +9,9 @@ use lib.Dec.{eqb, leb}
 use lib.ListN.{length, drop, getD, drop-of-length-le}
 use lib.Seq.{drop-cons}
 use borrow.Author.Tests.{eq-eqb, ne-eqb}
-use Rattle.fields.specs.Lists.{sum, all}
+use Rattle.fields.specs.Lists.{all}
 use Rattle.fields.specs.Numbers.{le, words}
 use Rattle.fields.specs.Parts.{part}
-use Rattle.format.specs.declared.DataRef.{DataRef}
 use Rattle.format.specs.References.{rowIn, payloadLength, countPosition, counted, fieldCount, Ref, refAt}
 use Rattle.format.specs.Bodies.{named, times, offsetOf}
 use Rattle.format.proofs.Rows.{Kind, k172, k176, k178, k182, k184}

@@ -3,7 +3,6 @@ use denote.Ref.{now}
 use Rattle.format.proofs.Rows.{known-kind}
 use Rattle.inline_refs.proofs.Tests.{payload-178}
 use Rattle.transaction_bodies.proofs.Singles.{offset-other, offset-is}
-use borrow.Author.Needs.{needs}
 use Rattle.transaction_bodies.proofs.reference.offset_at.Statement.{statement}
 use Rattle.transaction_bodies.proofs.reference.offset_at.Tie as tie
 
