@@ -1,0 +1,247 @@
+-- Where an item that was sought stands: the list taken apart at it, and its place in the bytes. Assumes nothing.
+use mathlib.Core.Path.{_≡_, refl, sym, ap, _∙_, subst}
+use mathlib.Core.Logic.{_⊎_, inl, inr}
+use mathlib.Core.Bool.{Bool, true, false, not, _&&_, cond}
+use mathlib.Core.Option.{Option, none, some, Option·map}
+use mathlib.Core.List.{List, [], _∷_, _++_}
+use Prim.Native.Nat.{ℕ, zero, suc, _+_, _-_, _≤_, _<_}
+use native.Mathlib.Omega.{arith}
+use lib.Dec.{T, eqb}
+use lib.ListN.{length, take, drop, getElem?, length-append}
+use lib.Seq.{take-at}
+use mir.Facts.{yes-and, and-yes}
+use borrow.Author.Tests.{eqb-true, eqb-false}
+use Rattle.fields.specs.Lists.{all, Cut, later, cut}
+use Rattle.fields.proofs.Lists.{T-eq, all-map, some-inj, no-some}
+use Rattle.format.specs.declared.Key.{Key}
+use Rattle.format.specs.Items.{Item, sameKey, keyBelow, above, rising, itemBytes, itemsBytes, sheetBytes}
+use Rattle.format.specs.Sheets.{hasKey, putBefore}
+use Rattle.format.proofs.Items.{length-itemBytes, length-sheetBytes}
+use Rattle.format.proofs.Keys.{beyond, below-trans, below-irrefl, below-or, below-not-same, above-not-same, rising-after}
+use Rattle.item_list.specs.declared.Place.{Place}
+use Rattle.item_list.specs.declared.Place.the-variants.{At, Missing}
+use Rattle.item_list.specs.declared.Sought.{Sought}
+use Rattle.item_list.specs.declared.Sought.the-variants.{Present, Absent}
+use Rattle.item_list.specs.Seeks.{sizeOf, placeIn, numbered, seekIn}
+
+-- an item of a list whose first stands at `at`: where it starts and ends
+pub record Stands (at : ℕ) (front : List Item) (hit : Item) (start end : ℕ) : Type 0 where
+  pub starts : start ≡ at + length (itemsBytes front)
+  pub ends : end ≡ start + (21 + length (hit .bytes))
+
+-- behind one more item
+stands-later : (at : ℕ) (i : Item) (front : List Item) (hit : Item) (start end : ℕ) → Stands (at + sizeOf i) front hit start end → Stands at (i ∷ front) hit start end
+unfolding sizeOf itemsBytes
+stands-later at i front hit start end h =
+    record {
+      starts = omega (arith, h .starts, length-append (itemBytes i) (itemsBytes front), length-itemBytes i);
+      ends = h .ends;
+    }
+
+-- the first
+stands-first : (at : ℕ) (i : Item) (start end : ℕ) → at ≡ start → at + sizeOf i ≡ end → Stands at [] i start end
+unfolding sizeOf itemsBytes
+stands-first at i start end p q = record { starts = omega arith; ends = omega arith }
+
+-- ---- the first item that passes a test
+
+pub record Placed (p : Item → Bool) (items : List Item) (n at number start end : ℕ) : Type 0 where
+  pub at-cut : Cut Item
+  pub is : cut p items ≡ some at-cut
+  pub number-is : number ≡ n + length (at-cut .front)
+  pub stands : Stands at (at-cut .front) (at-cut .hit) start end
+
+pub placed : (p : Item → Bool) (n at : ℕ) (items : List Item) (number start end : ℕ) → placeIn (λ m. p) n at items ≡ At number start end
+    → Placed p items n at number start end
+unfolding placeIn
+placed p n at [] number start end e = let z : _≡_ {A = ℕ} 0 1 = cc in absurd (omega arith)
+placed p n at (i ∷ items) number start end e = go (p i) refl e (placed p (n + 1) (at + sizeOf i) items number start end)
+  where
+    go : (b : Bool) → p i ≡ b → cond b (At n at (at + sizeOf i)) (placeIn (λ m. p) (n + 1) (at + sizeOf i) items) ≡ At number start end
+        → (placeIn (λ m. p) (n + 1) (at + sizeOf i) items ≡ At number start end → Placed p items (n + 1) (at + sizeOf i) number start end)
+        → Placed p (i ∷ items) n at number start end
+    go true h f ih =
+        let e₁ : n ≡ number = cc in
+        let e₂ : at ≡ start = cc in
+        let e₃ : at + sizeOf i ≡ end = cc in
+        record { at-cut = record { front = []; hit = i; back = items }; is = rw h; number-is = omega arith; stands = stands-first at i start end e₂ e₃ }
+    go false h f ih =
+        let t = ih f in
+        let c = t .at-cut in
+        record {
+          at-cut = later i c;
+          is = rw (h, t .is);
+          number-is = omega (arith, t .number-is);
+          stands = stands-later at i (c .front) (c .hit) start end (t .stands);
+        }
+
+pub missing : (p : Item → Bool) (n at : ℕ) (items : List Item) → placeIn (λ m. p) n at items ≡ Missing → cut p items ≡ none
+unfolding placeIn
+missing p n at [] e = refl
+missing p n at (i ∷ items) e = go (p i) refl e (missing p (n + 1) (at + sizeOf i) items)
+  where
+    go : (b : Bool) → p i ≡ b → cond b (At n at (at + sizeOf i)) (placeIn (λ m. p) (n + 1) (at + sizeOf i) items) ≡ Missing
+        → (placeIn (λ m. p) (n + 1) (at + sizeOf i) items ≡ Missing → cut p items ≡ none) → cut p (i ∷ items) ≡ none
+    go true h f ih = let z : _≡_ {A = ℕ} 0 1 = cc in absurd (omega arith)
+    go false h f ih = rw (h, ih f)
+
+-- ---- the item of a number
+
+pub record Numbered (items : List Item) (k at start end : ℕ) : Type 0 where
+  pub front : List Item
+  pub hit : Item
+  pub back : List Item
+  pub same : items ≡ front ++ hit ∷ back
+  pub is : getElem? items k ≡ some hit
+  pub before : take k items ≡ front
+  pub stands : Stands at front hit start end
+
+pub numbered-at : (wanted n k at : ℕ) (items : List Item) (number start end : ℕ) → wanted ≡ n + k → placeIn (numbered wanted) n at items ≡ At number start end
+    → Numbered items k at start end
+unfolding placeIn
+numbered-at wanted n k at [] number start end w e = let z : _≡_ {A = ℕ} 0 1 = cc in absurd (omega arith)
+numbered-at wanted n k at (i ∷ items) number start end w e =
+    go (eqb n wanted) refl e k w (λ j v. numbered-at wanted (n + 1) j (at + sizeOf i) items number start end v)
+  where
+    go : (b : Bool) → eqb n wanted ≡ b → cond b (At n at (at + sizeOf i)) (placeIn (numbered wanted) (n + 1) (at + sizeOf i) items) ≡ At number start end
+        → (k : ℕ) → wanted ≡ n + k
+        → ((j : ℕ) → wanted ≡ n + 1 + j → placeIn (numbered wanted) (n + 1) (at + sizeOf i) items ≡ At number start end → Numbered items j (at + sizeOf i) start end)
+        → Numbered (i ∷ items) k at start end
+    go true h f zero v ih =
+        let e₂ : at ≡ start = cc in
+        let e₃ : at + sizeOf i ≡ end = cc in
+        record { front = []; hit = i; back = items; same = refl; is = refl; before = refl; stands = stands-first at i start end e₂ e₃ }
+    go true h f (suc k) v ih = let z = eqb-true n wanted h in absurd (omega arith)
+    go false h f zero v ih = absurd (eqb-false n wanted h (omega arith))
+    go false h f (suc k) v ih =
+        let t = ih k (omega arith) f in
+        record {
+          front = i ∷ t .front;
+          hit = t .hit;
+          back = t .back;
+          same = ap (λ (l : List Item). i ∷ l) (t .same);
+          is = t .is;
+          before = ap (λ (l : List Item). i ∷ l) (t .before);
+          stands = stands-later at i (t .front) (t .hit) start end (t .stands);
+        }
+
+pub numbered-missing : (wanted n k at : ℕ) (items : List Item) → wanted ≡ n + k → placeIn (numbered wanted) n at items ≡ Missing → getElem? items k ≡ none
+unfolding placeIn
+numbered-missing wanted n k at [] w e = refl
+numbered-missing wanted n k at (i ∷ items) w e =
+    go (eqb n wanted) refl e k w (λ j v. numbered-missing wanted (n + 1) j (at + sizeOf i) items v)
+  where
+    go : (b : Bool) → eqb n wanted ≡ b → cond b (At n at (at + sizeOf i)) (placeIn (numbered wanted) (n + 1) (at + sizeOf i) items) ≡ Missing
+        → (k : ℕ) → wanted ≡ n + k
+        → ((j : ℕ) → wanted ≡ n + 1 + j → placeIn (numbered wanted) (n + 1) (at + sizeOf i) items ≡ Missing → getElem? items j ≡ none)
+        → getElem? (i ∷ items) k ≡ none
+    go true h f k v ih = let z : _≡_ {A = ℕ} 0 1 = cc in absurd (omega arith)
+    go false h f zero v ih = absurd (eqb-false n wanted h (omega arith))
+    go false h f (suc k) v ih = ih k (omega arith) f
+
+-- ---- a key that is there
+
+not-true : (b : Bool) → T (not b) → b ≡ false
+not-true true t = absurd t
+not-true false t = refl
+
+is-true : (b : Bool) → b ≡ true → T b
+is-true b e = subst T (sym e) tt
+
+same-key : (a b : Key) → keyBelow a b ≡ false → keyBelow b a ≡ false → sameKey a b ≡ true
+same-key a b h k = go (below-or a b)
+  where
+    go : T (keyBelow a b) ⊎ (T (sameKey a b) ⊎ T (keyBelow b a)) → sameKey a b ≡ true
+    go (inl t) = absurd (subst T h t)
+    go (inr (inl t)) = T-eq (sameKey a b) t
+    go (inr (inr t)) = absurd (subst T k t)
+
+pub record Sits (key : Key) (items : List Item) (at start end : ℕ) : Type 0 where
+  pub at-cut : Cut Item
+  pub is : cut (hasKey key) items ≡ some at-cut
+  pub stands : Stands at (at-cut .front) (at-cut .hit) start end
+
+pub sits : (key : Key) (at : ℕ) (items : List Item) (start end : ℕ) → seekIn key at items ≡ Present start end → Sits key items at start end
+unfolding seekIn
+sits key at [] start end e = let z : _≡_ {A = ℕ} 0 1 = cc in absurd (omega arith)
+sits key at (i ∷ items) start end e = go (keyBelow (i .key) key) (keyBelow key (i .key)) refl refl e (sits key (at + sizeOf i) items start end)
+  where
+    go : (b c : Bool) → keyBelow (i .key) key ≡ b → keyBelow key (i .key) ≡ c
+        → cond b (seekIn key (at + sizeOf i) items) (cond c (Absent at) (Present at (at + sizeOf i))) ≡ Present start end
+        → (seekIn key (at + sizeOf i) items ≡ Present start end → Sits key items (at + sizeOf i) start end)
+        → Sits key (i ∷ items) at start end
+    go true c h k f ih =
+        let t = ih f in
+        let d = t .at-cut in
+        let n : sameKey (i .key) key ≡ false = not-true (sameKey (i .key) key) (below-not-same (i .key) key (is-true (keyBelow (i .key) key) h)) in
+        record { at-cut = later i d; is = rw (n, t .is); stands = stands-later at i (d .front) (d .hit) start end (t .stands) }
+    go false true h k f ih = let z : _≡_ {A = ℕ} 0 1 = cc in absurd (omega arith)
+    go false false h k f ih =
+        let e₂ : at ≡ start = cc in
+        let e₃ : at + sizeOf i ≡ end = cc in
+        record { at-cut = record { front = []; hit = i; back = items }; is = rw (same-key (i .key) key h k); stands = stands-first at i start end e₂ e₃ }
+
+-- ---- a key that is not there
+
+pub record Gap (key : Key) (items : List Item) (at start : ℕ) : Type 0 where
+  pub front : List Item
+  pub back : List Item
+  pub free : T (all (λ i. not (hasKey key i)) items)
+  pub same : items ≡ front ++ back
+  pub put : (new : Item) → putBefore new items (cut (beyond key) items) ≡ front ++ new ∷ back
+  pub starts : start ≡ at + length (itemsBytes front)
+
+put-later : (new i : Item) (items : List Item) (o : Option (Cut Item)) → putBefore new (i ∷ items) (Option·map (later i) o) ≡ i ∷ putBefore new items o
+unfolding putBefore
+put-later new i items none = refl
+put-later new i items (some c) = refl
+
+gap-end : (key : Key) (at start : ℕ) → at ≡ start → Gap key [] at start
+unfolding putBefore itemsBytes
+gap-end key at start e = record { front = []; back = []; free = tt; same = refl; put = λ new. refl; starts = omega arith }
+
+gap-first : (key : Key) (at start : ℕ) (i : Item) (items : List Item) → T (rising (i ∷ items)) → keyBelow key (i .key) ≡ true → at ≡ start
+    → Gap key (i ∷ items) at start
+unfolding putBefore itemsBytes
+gap-first key at start i items r k e =
+    let t : T (keyBelow key (i .key)) = is-true (keyBelow key (i .key)) k in
+    record {
+      front = [];
+      back = i ∷ items;
+      free = yes-and (not (sameKey (i .key) key)) _ (above-not-same (i .key) key t)
+          (all-map (beyond (i .key)) (λ j. not (hasKey key j)) (λ j h. above-not-same (j .key) key (below-trans key (i .key) (j .key) t h)) items
+          (rising-after i items r));
+      same = refl;
+      put = λ new. rw k;
+      starts = omega arith;
+    }
+
+further : (at : ℕ) (i : Item) (front : List Item) (start : ℕ) → start ≡ at + sizeOf i + length (itemsBytes front) → start ≡ at + length (itemsBytes (i ∷ front))
+unfolding sizeOf itemsBytes
+further at i front start e = omega (arith, e, length-append (itemBytes i) (itemsBytes front), length-itemBytes i)
+
+pub gap : (key : Key) (at : ℕ) (items : List Item) (start : ℕ) → T (rising items) → seekIn key at items ≡ Absent start → Gap key items at start
+unfolding seekIn
+gap key at [] start r e = gap-end key at start cc
+gap key at (i ∷ items) start r e =
+    go (keyBelow (i .key) key) (keyBelow key (i .key)) refl refl e
+    (gap key (at + sizeOf i) items start (and-yes (above i items) _ r .1))
+  where
+    go : (b c : Bool) → keyBelow (i .key) key ≡ b → keyBelow key (i .key) ≡ c
+        → cond b (seekIn key (at + sizeOf i) items) (cond c (Absent at) (Present at (at + sizeOf i))) ≡ Absent start
+        → (seekIn key (at + sizeOf i) items ≡ Absent start → Gap key items (at + sizeOf i) start)
+        → Gap key (i ∷ items) at start
+    go true true h k f ih =
+        absurd (below-irrefl key (below-trans key (i .key) key (is-true (keyBelow key (i .key)) k) (is-true (keyBelow (i .key) key) h)))
+    go true false h k f ih =
+        let t = ih f in
+        record {
+          front = i ∷ t .front;
+          back = t .back;
+          free = yes-and (not (sameKey (i .key) key)) _ (below-not-same (i .key) key (is-true (keyBelow (i .key) key) h)) (t .free);
+          same = ap (λ (l : List Item). i ∷ l) (t .same);
+          put = λ new. rw k (put-later new i items (cut (beyond key) items) ∙ ap (λ (l : List Item). i ∷ l) (t .put new));
+          starts = further at i (t .front) start (t .starts);
+        }
+    go false true h k f ih = gap-first key at start i items r k cc
+    go false false h k f ih = let z : _≡_ {A = ℕ} 0 1 = cc in absurd (omega arith)

@@ -1,0 +1,119 @@
+-- Walking over the items of an item list: what is left from a position on, and what a step says of it. Assumes nothing.
+use mathlib.Core.Path.{_≡_, refl, sym, ap, _∙_, subst}
+use mathlib.Core.Bool.{Bool, true, false, cond}
+use mathlib.Core.List.{List, [], _∷_}
+use Prim.Native.Nat.{ℕ, zero, suc, _+_, _-_, _≤_, _<_}
+use native.Mathlib.Omega.{arith}
+use lib.Dec.{eqb}
+use lib.ListN.{length, drop}
+use borrow.Author.Tests.{eq-eqb, ne-eqb}
+use Rattle.format.specs.declared.Key.{Key}
+use Rattle.format.specs.Questions.{Answer, refused, accepted, bind}
+use Rattle.format.specs.Items.{Item, keyBelow, readItems}
+use Rattle.format.specs.Apply.{isRecord, recordOf}
+use Rattle.format.proofs.Answers.{refused-not, accepted-inj, bind-ok}
+use Rattle.format.proofs.Items.{sheet-out}
+use Rattle.item_list.specs.declared.Step.{Step}
+use Rattle.item_list.specs.declared.Step.the-variants.{Whole, Broken, End}
+use Rattle.item_list.specs.declared.Place.{Place}
+use Rattle.item_list.specs.declared.Place.the-variants.{At, Missing}
+use Rattle.item_list.specs.declared.Sought.{Sought}
+use Rattle.item_list.specs.declared.Sought.the-variants.{Present, Absent}
+use Rattle.item_list.specs.Steps.{itemAt, stepAt, itemsOf, Listed}
+use Rattle.item_list.specs.Seeks.{sizeOf, placeIn, seekIn}
+use Rattle.item_list.proofs.Steps.{WholeAt, whole-at, data-long, items-end, items-broken, items-over, items-item}
+
+-- from a position on, the bytes are these items
+pub record Rest (s : List ℕ) (at : ℕ) (items : List Item) : Type 0 where
+  pub most : ℕ
+  pub reads : readItems most (drop at s) ≡ accepted items
+
+pub rest-all : (s : List ℕ) → Listed s → Rest s 1 (itemsOf s)
+rest-all s l =
+    let h = sheet-out s (itemsOf s) (l .reads) in
+    record { most = 4096; reads = ap (λ (x : List ℕ). readItems 4096 (drop 1 x)) (h .1) ∙ h .2 }
+
+pub rest-end : (s : List ℕ) (at : ℕ) (items : List Item) → Rest s at items → stepAt s at ≡ End → items ≡ []
+rest-end s at items r e = accepted-inj (sym (r .reads) ∙ items-end (r .most) s at e)
+
+pub rest-broken : (s : List ℕ) (at : ℕ) (items : List Item) → Rest s at items → stepAt s at ≡ Broken → ⊥
+rest-broken s at items r e = refused-not (sym (items-broken (r .most) s at e) ∙ r .reads)
+
+-- an item at the position: it is the first, and the others follow at its end
+pub record More (s : List ℕ) (at next : ℕ) (items : List Item) : Type 0 where
+  pub others : List Item
+  pub is : items ≡ itemAt s at ∷ others
+  pub rest : Rest s next others
+  pub whole : WholeAt s at next
+
+pub rest-item : (s : List ℕ) (at next : ℕ) (items : List Item) → Rest s at items → stepAt s at ≡ Whole next → More s at next items
+rest-item s at next items r e = go (r .most) (r .reads)
+  where
+    w : WholeAt s at next
+    w = whole-at s at next e
+
+    go : (n : ℕ) → readItems n (drop at s) ≡ accepted items → More s at next items
+    go zero h = refused-not (sym (items-over s at (w .before)) ∙ h)
+    go (suc n) h =
+        let t = bind-ok (readItems n (drop next s)) (λ others. accepted (itemAt s at ∷ others)) (sym (items-item n s at next e) ∙ h) in
+        record { others = t .0; is = sym (accepted-inj (t .2)); rest = record { most = n; reads = t .1 }; whole = w }
+
+-- the state of a walk: what is left, and what holds of it
+pub record Walked (s : List ℕ) (at : ℕ) (P : List Item → Type 0) : Type 0 where
+  pub items : List Item
+  pub rest : Rest s at items
+  pub so : P items
+
+-- where an item ends
+pub ends : (s : List ℕ) (at next : ℕ) → WholeAt s at next → at + sizeOf (itemAt s at) ≡ next
+unfolding sizeOf
+ends s at next w = data-long s at next w
+
+-- ---- the first that passes a test
+
+pub place-end : (test : ℕ → Item → Bool) (n at : ℕ) (items : List Item) → items ≡ [] → placeIn test n at items ≡ Missing
+unfolding placeIn
+place-end test n at items e = rw e
+
+module _ (s : List ℕ) (at next : ℕ) (items : List Item) (r : More s at next items) (test : ℕ → Item → Bool) (n : ℕ) where
+  pub place-here : test n (itemAt s at) ≡ true → placeIn test n at items ≡ At n at next
+  unfolding placeIn
+  place-here h = rw (r .is, h, ends s at next (r .whole))
+
+  pub place-later : test n (itemAt s at) ≡ false → placeIn test n at items ≡ placeIn test (n + 1) next (r .others)
+  unfolding placeIn
+  place-later h = rw (r .is, h, ends s at next (r .whole))
+
+-- ---- by key
+
+pub seek-end : (key : Key) (at : ℕ) (items : List Item) → items ≡ [] → seekIn key at items ≡ Absent at
+unfolding seekIn
+seek-end key at items e = rw e
+
+module _ (s : List ℕ) (at next : ℕ) (items : List Item) (r : More s at next items) (key : Key) where
+  pub seek-later : keyBelow (itemAt s at .key) key ≡ true → seekIn key at items ≡ seekIn key next (r .others)
+  unfolding seekIn
+  seek-later b = rw (r .is, b, ends s at next (r .whole))
+
+  pub seek-past : keyBelow (itemAt s at .key) key ≡ false → keyBelow key (itemAt s at .key) ≡ true → seekIn key at items ≡ Absent at
+  unfolding seekIn
+  seek-past b a = rw (r .is, b, a)
+
+  pub seek-here : keyBelow (itemAt s at .key) key ≡ false → keyBelow key (itemAt s at .key) ≡ false → seekIn key at items ≡ Present at next
+  unfolding seekIn
+  seek-here b a = rw (r .is, b, a, ends s at next (r .whole))
+
+-- ---- an extent's record, as code tests it
+
+module _ (extent : ℕ) (i : Item) where
+  pub record-168 : i .key .kind ≡ 168 → eqb (i .key .objectid) extent ≡ recordOf extent i
+  unfolding isRecord
+  record-168 e = rw (eq-eqb (i .key .kind) 168 e)
+
+  pub record-169 : (i .key .kind ≡ 168 → ⊥) → i .key .kind ≡ 169 → eqb (i .key .objectid) extent ≡ recordOf extent i
+  unfolding isRecord
+  record-169 n e = rw (ne-eqb (i .key .kind) 168 n, eq-eqb (i .key .kind) 169 e)
+
+  pub record-other : (i .key .kind ≡ 168 → ⊥) → (i .key .kind ≡ 169 → ⊥) → false ≡ recordOf extent i
+  unfolding isRecord
+  record-other n m = rw (ne-eqb (i .key .kind) 168 n, ne-eqb (i .key .kind) 169 m)

@@ -1,0 +1,15 @@
+use borrow.Author.Needs.{needs}
+use Rattle.item_list.specs.Steps.{verdictOf}
+use Rattle.item_list.proofs.checking.verdict.Statement.{statement}
+use Rattle.item_list.proofs.checking.verdict.Tie as tie
+
+returns : tie.Need-returns
+unfolding verdictOf
+returns c = rw (c .if1 .taken)
+
+returns-2 : tie.Need-returns-2
+unfolding verdictOf
+returns-2 c = rw (c .if1 .left)
+
+pub verdict-spec : {M : Type 1} → statement M
+verdict-spec = tie.close (tie.spec returns returns-2)

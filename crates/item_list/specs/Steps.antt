@@ -1,0 +1,57 @@
+-- What stands at a position of an item list (document 01's sheet), and what the pass over its items answers. Assumes nothing.
+use mathlib.Core.Path.{_≡_}
+use mathlib.Core.Bool.{Bool, true, false, cond}
+use mathlib.Core.List.{List, [], _∷_}
+use Prim.Native.Nat.{ℕ, zero, suc, _+_}
+use lib.Dec.{leb}
+use lib.ListN.{length, drop}
+use Rattle.format.specs.declared.Key.{Key}
+use Rattle.format.specs.Questions.{Answer, refused, absent, remove, accepted}
+use Rattle.format.specs.Items.{Item, keyBelow, itemLength, wholeItem, firstItem, readSheet}
+use Rattle.item_list.specs.declared.Step.{Step}
+use Rattle.item_list.specs.declared.Step.the-variants.{Whole, Broken, End}
+use Rattle.item_list.specs.declared.Checked.{Checked}
+use Rattle.item_list.specs.declared.Checked.the-variants.{Count, Refused}
+
+-- ---- one step
+
+-- the item that starts at a position
+unfoldable pub itemAt : List ℕ → ℕ → Item
+itemAt s at = firstItem (drop at s)
+
+-- where it ends
+unfoldable pub nextAt : List ℕ → ℕ → ℕ
+nextAt s at = at + 4 + itemLength (drop at s)
+
+unfoldable pub stepAt : List ℕ → ℕ → Step
+stepAt s at = cond (leb (length s) at) End (cond (wholeItem (drop at s)) (Whole (nextAt s at)) Broken)
+
+-- ---- questions 1 and 2
+
+-- a first key follows whatever stands before it; a later one must be above the last
+unfoldable pub following : ℕ → Key → Key → Bool
+following zero last key = true
+following (suc n) last key = keyBelow last key
+
+unfoldable pub verdictOf : Bool → ℕ → Checked
+verdictOf ordered n = cond ordered (Count n) (Refused 2)
+
+unfoldable pub checkedOf : Answer (List Item) → Checked
+checkedOf (refused number) = Refused number
+checkedOf absent = Refused 100
+checkedOf remove = Refused 101
+checkedOf (accepted items) = Count (length items)
+
+-- the items of an accepted list
+unfoldable pub itemsIn : Answer (List Item) → List Item
+itemsIn (refused number) = []
+itemsIn absent = []
+itemsIn remove = []
+itemsIn (accepted items) = items
+
+abbrev pub itemsOf : List ℕ → List Item
+itemsOf s = itemsIn (readSheet s)
+
+-- what `check` has shown: the bytes are an item list
+pub record Listed (s : List ℕ) : Type 0 where
+  pub reads : readSheet s ≡ accepted (itemsOf s)
