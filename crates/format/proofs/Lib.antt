@@ -8,3 +8,5 @@ pub mod Keys
 pub mod Items
 pub mod Splices
 pub mod Postings
+pub mod Hash
+pub mod Outputs

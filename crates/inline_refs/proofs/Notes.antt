@@ -1,0 +1,166 @@
+-- Laws of the scan: what is noted at one reference, a step of the walk, and where the references of a body are read.
+-- Assumes nothing.
+use mathlib.Core.Path.{_≡_, refl, sym, ap, subst, _∙_}
+use mathlib.Core.Bool.{Bool, true, false, _&&_, _||_, cond}
+use mathlib.Core.List.{List, [], _∷_}
+use Prim.Native.Nat.{ℕ, _+_, _/_, _%_, _≤_, _<_}
+use native.Mathlib.Omega.{arith}
+use lib.Dec.{eqb, leb}
+use lib.ListN.{length, drop, length-drop}
+use native.Mathlib.Nat.{le-refl}
+use borrow.Author.Tests.{eq-eqb, ne-eqb, le-leb, lt-leb, leb-true}
+use Rattle.fields.specs.Numbers.{le}
+use Rattle.fields.specs.Parts.{part}
+use Rattle.format.specs.Questions.{Answer, refused, absent, remove, accepted, ask, bind}
+use Rattle.format.specs.References.{payloadLength, Ref, refAt, readRefs, flagsOf, startOf, Body, readBody}
+use Rattle.format.specs.Bodies.{onBody, bodyFits, stops}
+use Rattle.format.proofs.Refs.{readRefs-enough}
+use Rattle.inline_refs.specs.declared.wanted.Wanted.{Wanted}
+use Rattle.inline_refs.specs.declared.scan.Seen.{Seen}
+use Rattle.inline_refs.specs.declared.scan.Seen.the-variants.{Open, Gap, Hit, Late}
+use Rattle.inline_refs.specs.declared.scan.Scan.the-variants.{Fault, Read}
+use Rattle.inline_refs.specs.declared.start.Start.{Start}
+use Rattle.inline_refs.specs.declared.start.Start.the-variants.{From, Refused as Shut}
+use Rattle.inline_refs.specs.Steps.{readFrom, openOf}
+use Rattle.inline_refs.specs.Scans.{kindOf, isWanted, sizeOf, noted, walk, scanOf, refsIn}
+use Rattle.inline_refs.proofs.Steps.{by-test, At}
+
+-- ---- what is noted
+
+module _ (w : Wanted) (place at next : ℕ) (r : Ref) (seen : Seen) where
+  module _ (kin b : Bool) (e : seen ≡ Open kin) (n : b ≡ isWanted w r) where
+    pub note-hit : (x : ℕ) → b ≡ true → x ≡ r .weight → Hit at next x ≡ noted w place at next r seen
+    unfolding noted
+    note-hit x t q = simp (e, sym n ∙ t, q)
+
+    module _ (f : b ≡ false) (k d : Bool) (q : k ≡ kin || eqb (r .kind) (kindOf w)) (s : d ≡ stops (kindOf w) place r) where
+      pub note-gap : d ≡ true → Gap at k ≡ noted w place at next r seen
+      unfolding noted
+      note-gap t = simp (e, sym n ∙ f, sym s ∙ t, q)
+
+      pub note-open : d ≡ false → Open k ≡ noted w place at next r seen
+      unfolding noted
+      note-open t = simp (e, sym n ∙ f, sym s ∙ t, q)
+
+  module _ (gap : ℕ) (kin b : Bool) (e : seen ≡ Gap gap kin) (n : b ≡ isWanted w r) where
+    pub note-late : (x : ℕ) → b ≡ true → x ≡ r .weight → Late gap at next x ≡ noted w place at next r seen
+    unfolding noted
+    note-late x t q = simp (e, sym n ∙ t, q)
+
+    pub note-still : (k : Bool) → b ≡ false → k ≡ kin || eqb (r .kind) (kindOf w) → Gap gap k ≡ noted w place at next r seen
+    unfolding noted
+    note-still k f q = simp (e, sym n ∙ f, q)
+
+-- ---- a step of the walk
+
+scan-cons : (w : Wanted) (place at : ℕ) (seen : Seen) (r : Ref) (x : Answer (List Ref))
+    → scanOf w place (at + sizeOf r) (noted w place at (at + sizeOf r) r seen) x ≡ scanOf w place at seen (bind x (λ refs. accepted (r ∷ refs)))
+unfolding scanOf bind walk
+scan-cons w place at seen r (refused number) = refl
+scan-cons w place at seen r absent = refl
+scan-cons w place at seen r remove = refl
+scan-cons w place at seen r (accepted refs) = refl
+
+pub scan-step : (w : Wanted) (place at k p n q next : ℕ) (s : List ℕ) (seen after : Seen) → At s at k p n q next
+    → after ≡ noted w place at next (refAt k (drop p s)) seen
+    → scanOf w place next after (readFrom s next) ≡ scanOf w place at seen (readFrom s at)
+unfolding sizeOf refAt
+scan-step w place at k p n q next s seen after h e =
+    let r : Ref = refAt k (drop p s) in
+    let z : at + (1 + payloadLength k) ≡ next = omega (arith, h .further, h .long) in
+    ap (λ (x : Seen). scanOf w place next x (readFrom s next)) e
+    ∙ ap (λ (m : ℕ). scanOf w place m (noted w place at m r seen) (readFrom s next)) (sym z)
+    ∙ scan-cons w place at seen r (readFrom s next)
+    ∙ ap (scanOf w place at seen) (sym (h .reads))
+
+pub scan-end : (w : Wanted) (place at : ℕ) (seen : Seen) (x : Answer (List Ref)) → x ≡ accepted [] → Read seen ≡ scanOf w place at seen x
+unfolding scanOf walk
+scan-end w place at seen x e = rw e refl
+
+pub scan-fault : (w : Wanted) (place at n : ℕ) (seen : Seen) (x : Answer (List Ref)) → x ≡ refused n → Fault n ≡ scanOf w place at seen x
+unfolding scanOf
+scan-fault w place at n seen x e = rw e refl
+
+-- ---- where the references start
+
+module _ (type flags : ℕ) (s : List ℕ) (e : flags ≡ le (part 16 8 s)) where
+  pub start-block : type ≡ 168 → flags / 2 % 2 ≡ 1 → 42 ≡ startOf type s
+  unfolding startOf flagsOf
+  start-block h k = simp (eq-eqb _ _ h, ← e, eq-eqb _ _ k)
+
+  pub start-data : type ≡ 168 → (flags / 2 % 2 ≡ 1 → ⊥) → 24 ≡ startOf type s
+  unfolding startOf flagsOf
+  start-data h k = simp (eq-eqb _ _ h, ← e, ne-eqb _ _ k)
+
+pub start-other : (type : ℕ) (s : List ℕ) → (type ≡ 168 → ⊥) → 24 ≡ startOf type s
+unfolding startOf
+start-other type s h = simp (ne-eqb _ _ h)
+
+module _ (type : ℕ) (s : List ℕ) where
+  pub open-long : 65535 < length s → Shut 3 ≡ openOf type s
+  unfolding openOf bodyFits
+  open-long h = simp (lt-leb _ _ h)
+
+  module _ (fits : length s ≤ 65535) where
+    pub open-short : length s < 24 → Shut 6 ≡ openOf type s
+    unfolding openOf bodyFits
+    open-short h = simp (le-leb _ _ fits, lt-leb _ _ h)
+
+    module _ (long : 24 ≤ length s) (start : ℕ) (e : start ≡ startOf type s) where
+      pub open-cut : length s < start → Shut 6 ≡ openOf type s
+      unfolding openOf bodyFits
+      open-cut h = simp (le-leb _ _ fits, le-leb _ _ long, ← e, lt-leb _ _ h)
+
+      pub open-from : start ≤ length s → From start ≡ openOf type s
+      unfolding openOf bodyFits
+      open-from h = simp (le-leb _ _ fits, le-leb _ _ long, ← e, le-leb _ _ h)
+
+-- ---- what an open body says of the reading
+
+pub record Opens (type : ℕ) (s : List ℕ) (start : ℕ) : Type 0 where
+  pub at : start ≡ startOf type s
+  pub fits : length s ≤ 65535
+  pub long : 24 ≤ length s
+  pub inside : start ≤ length s
+  pub reads : refsIn type s ≡ readFrom s start
+
+abbrev pub Opened : ℕ → List ℕ → Start → Type 0
+Opened type s (From start) = Opens type s start
+Opened type s (Shut number) = refsIn type s ≡ refused number
+
+abbrev made : ℕ → List ℕ → List Ref → Body
+made total fixed refs = record { total = total; fixed = fixed; refs = refs }
+
+refs-again : (x : Answer (List Ref)) (total : ℕ) (fixed : List ℕ)
+    → bind (bind x (λ refs. accepted (made total fixed refs))) (λ b. accepted (b .refs)) ≡ x
+unfolding bind
+refs-again (refused number) total fixed = refl
+refs-again absent total fixed = refl
+refs-again remove total fixed = refl
+refs-again (accepted refs) total fixed = refl
+
+pub opened : (type : ℕ) (s : List ℕ) → Opened type s (openOf type s)
+unfolding openOf refsIn onBody readBody ask bind readFrom bodyFits
+opened type s =
+    let st : ℕ = startOf type s in
+    by-test (leb (length s) 65535)
+    (λ a. rw a
+    (by-test (leb 24 (length s))
+    (λ b. rw b
+    (by-test (leb (startOf type s) (length s))
+    (λ d. rw d
+    let z : length (drop st s) ≤ length s = rw length-drop (omega arith) in
+    record {
+      at = refl;
+      fits = leb-true _ _ a;
+      long = leb-true _ _ b;
+      inside = leb-true _ _ d;
+      reads = rw (a, b, d) (refs-again (readRefs (length s) (drop st s)) _ _
+          ∙ readRefs-enough (length s) (length (drop st s)) (drop st s) z (le-refl (length (drop st s))));
+    })
+    (λ d. rw d (rw (a, b, d) refl))))
+    (λ b. rw b (rw (a, b) refl))))
+    (λ a. rw a (rw a refl))
+
+pub opens : (type : ℕ) (s : List ℕ) (r : Start) → r ≡ openOf type s → Opened type s r
+opens type s r e = subst (Opened type s) (sym e) (opened type s)

@@ -1,0 +1,138 @@
+-- A scan's notes, as the definitions of document 01 have them: the first match, the spot of an added reference. Assumes nothing.
+use mathlib.Core.Path.{_≡_, refl, sym, ap, subst, _∙_}
+use mathlib.Core.Bool.{Bool, true, false, not, _&&_, _||_, cond}
+use mathlib.Core.Option.{Option, none, some, Option·map}
+use mathlib.Core.List.{List, [], _∷_, _++_, append-nil}
+use Prim.Native.Nat.{ℕ, _+_}
+use native.Mathlib.Omega.{arith}
+use lib.Dec.{T, eqb}
+use Rattle.fields.specs.Lists.{sum, all, Cut, later, cut}
+use Rattle.fields.proofs.Lists.{T-eq, no-some, cut-some}
+use Rattle.format.specs.References.{Ref, placeOf}
+use Rattle.format.specs.Bodies.{Spot, gap, standing, named, stops, gapAt, insertPosition, standingOr, spotAnywhere, scanned, spotByScan}
+use Rattle.inline_refs.specs.declared.wanted.Wanted.{Wanted}
+use Rattle.inline_refs.specs.declared.scan.Seen.{Seen}
+use Rattle.inline_refs.specs.declared.scan.Seen.the-variants.{Open, Gap, Hit, Late}
+use Rattle.inline_refs.specs.declared.site.Found.{Found}
+use Rattle.inline_refs.specs.declared.site.Found.the-variants.{At, Nothing}
+use Rattle.inline_refs.specs.declared.site.Site.{Site}
+use Rattle.inline_refs.specs.declared.site.Site.the-variants.{Gap as NewAt, Standing}
+use Rattle.inline_refs.specs.Scans.{kindOf, fieldsOf, isWanted, sizeOf}
+use Rattle.inline_refs.specs.Sites.{hitOf, siteAnywhere, siteByScan, kinIn}
+use Rattle.inline_refs.proofs.Steps.{by-test}
+use Rattle.inline_refs.proofs.Views.{Between, CutAt, either, anyKin, StopAt, HitAt, View}
+
+-- ---- a cut with its positions, as three parts
+
+module _ (m : Ref → Bool) (start : ℕ) (refs : List Ref) (p q x : ℕ) (h : CutAt m start refs p q x) where
+  -- the one that passed, with what stands before and after it
+  pub cut-between : Between start refs (h .parts .front) (h .parts .hit ∷ []) (h .parts .back) p q
+  cut-between = record { same = cut-some m refs (h .cuts) .same; from = h .from; to = omega (arith, h .to) }
+
+  -- what stands before it, and the rest
+  pub cut-before : Between start refs (h .parts .front) [] (h .parts .hit ∷ h .parts .back) p p
+  cut-before = record { same = cut-some m refs (h .cuts) .same; from = h .from; to = omega arith }
+
+  pub cut-passed : m (h .parts .hit) ≡ true
+  cut-passed = T-eq (m (h .parts .hit)) (cut-some m refs (h .cuts) .hit)
+
+pub at-end : (start end : ℕ) (refs : List Ref) → end ≡ start + sum sizeOf refs → Between start refs refs [] [] end end
+at-end start end refs e = record { same = sym (append-nil refs); from = e; to = omega arith }
+
+-- ---- the first match
+
+abbrev pub FoundView : Wanted → ℕ → List Ref → Found → Type 0
+FoundView w start refs (At p q x) = CutAt (isWanted w) start refs p q x
+FoundView w start refs Nothing = cut (isWanted w) refs ≡ none
+
+hit-view : (w : Wanted) (place start : ℕ) (refs : List Ref) (s : Seen) → View w place start refs false s → FoundView w start refs (hitOf s)
+unfolding hitOf
+hit-view w place start refs (Open kin) v = v .0
+hit-view w place start refs (Gap at kin) v = v .0
+hit-view w place start refs (Hit p q x) v = v .hit
+hit-view w place start refs (Late g p q x) v = v .0
+
+pub found-view : (w : Wanted) (place start : ℕ) (refs : List Ref) (s : Seen) (f : Found) → f ≡ hitOf s → View w place start refs false s
+    → FoundView w start refs f
+found-view w place start refs s f e v = subst (FoundView w start refs) (sym e) (hit-view w place start refs s v)
+
+-- ---- the spot of an added reference
+
+pub record Stands (w : Wanted) (start : ℕ) (refs : List Ref) (p q x : ℕ) (c : Cut Ref) : Type 0 where
+  pub between : Between start refs (c .front) (c .hit ∷ []) (c .back) p q
+  pub weighs : x ≡ c .hit .weight
+  pub wanted : isWanted w (c .hit) ≡ true
+
+abbrev pub SpotView : Wanted → ℕ → List Ref → Site → Spot → Type 0
+SpotView w start refs (NewAt p) (gap front back) = Between start refs front [] back p p
+SpotView w start refs (NewAt p) (standing c) = ⊥
+SpotView w start refs (Standing p q x) (gap front back) = ⊥
+SpotView w start refs (Standing p q x) (standing c) = Stands w start refs p q x c
+
+stands : (w : Wanted) (start : ℕ) (refs : List Ref) (p q x : ℕ) (h : CutAt (isWanted w) start refs p q x) → Stands w start refs p q x (h .parts)
+stands w start refs p q x h = record {
+  between = cut-between (isWanted w) start refs p q x h;
+  weighs = h .weighs;
+  wanted = cut-passed (isWanted w) start refs p q x h;
+}
+
+map-none : {A B : Type 0} (f : A → B) (o : Option A) → Option·map f o ≡ none → o ≡ none
+map-none f none e = refl
+map-none f (some x) e = no-some (sym e)
+
+-- where none passes the first of two tests, the second decides
+cut-or : (m n : Ref → Bool) (refs : List Ref) → cut m refs ≡ none → cut (λ r. m r || n r) refs ≡ cut n refs
+cut-or m n [] e = refl
+cut-or m n (r ∷ refs) e =
+    by-test (m r)
+    (λ t. no-some (sym (rw t at e)))
+    (λ f. rw f (ap (λ (o : Option (Cut Ref)). cond (n r) (some (record { front = []; hit = r; back = refs })) (Option·map (later r) o))
+    (cut-or m n refs (map-none (later r) (cut m refs) (rw f at e)))))
+
+module _ (w : Wanted) (place start end : ℕ) (refs : List Ref) (e : end ≡ start + sum sizeOf refs) where
+  anywhere-gap : cut (isWanted w) refs ≡ none → (o : Option (Cut Ref)) → cut (either w place) refs ≡ o
+      → spotAnywhere (kindOf w) (fieldsOf w) place refs ≡ gapAt refs o
+  unfolding spotAnywhere standingOr insertPosition
+  anywhere-gap n o q = rw n (ap (gapAt refs) (sym (cut-or (isWanted w) (stops (kindOf w) place) refs n) ∙ q))
+
+  anywhere-stands : (c : Cut Ref) → cut (isWanted w) refs ≡ some c → spotAnywhere (kindOf w) (fieldsOf w) place refs ≡ standing c
+  unfolding spotAnywhere standingOr
+  anywhere-stands c q = rw q refl
+
+  spot-view : (s : Seen) → View w place start refs false s
+      → SpotView w start refs (siteAnywhere end s) (spotAnywhere (kindOf w) (fieldsOf w) place refs)
+  unfolding siteAnywhere gapAt
+  spot-view (Open kin) v = rw (anywhere-gap (v .0) none (v .1)) (at-end start end refs e)
+  spot-view (Gap at kin) v =
+      let h = v .1 .stop in
+      rw (anywhere-gap (v .0) (some (h .parts)) (h .cuts)) (cut-before (either w place) start refs at _ _ h)
+  spot-view (Hit p q x) v = rw (anywhere-stands (v .hit .parts) (v .hit .cuts)) (stands w start refs p q x (v .hit))
+  spot-view (Late g p q x) v = rw (anywhere-stands (v .0 .parts) (v .0 .cuts)) (stands w start refs p q x (v .0))
+
+  pub spot-anywhere : (s : Seen) (i : Site) → i ≡ siteAnywhere end s → View w place start refs false s
+      → SpotView w start refs i (spotAnywhere (kindOf w) (fieldsOf w) place refs)
+  spot-anywhere s i q v = subst (λ (j : Site). SpotView w start refs j (spotAnywhere (kindOf w) (fieldsOf w) place refs)) (sym q) (spot-view s v)
+
+  module _ (at : place ≡ placeOf (kindOf w) (fieldsOf w)) where
+    scan-is : (o : Option (Cut Ref)) → cut (either w place) refs ≡ o
+        → spotByScan (kindOf w) (fieldsOf w) refs ≡ scanned (kindOf w) (fieldsOf w) refs o
+    unfolding spotByScan
+    scan-is o q = rw (← at) (ap (scanned (kindOf w) (fieldsOf w) refs) q)
+
+    scan-view : (s : Seen) → View w place start refs false s
+        → SpotView w start refs (siteByScan end s) (spotByScan (kindOf w) (fieldsOf w) refs)
+    unfolding siteByScan scanned
+    scan-view (Open kin) v = rw (scan-is none (v .1)) (at-end start end refs e)
+    scan-view (Gap g kin) v =
+        let h = v .1 .stop in
+        rw (scan-is (some (h .parts)) (h .cuts)) (rw (v .1 .other) (cut-before (either w place) start refs g _ _ h))
+    scan-view (Hit p q x) v =
+        rw (scan-is (some (v .hit .parts)) (v .first))
+        (rw (cut-passed (isWanted w) start refs p q x (v .hit)) (stands w start refs p q x (v .hit)))
+    scan-view (Late g p q x) v =
+        let h = v .1 .stop in
+        rw (scan-is (some (h .parts)) (h .cuts)) (rw (v .1 .other) (cut-before (either w place) start refs g _ _ h))
+
+    pub spot-by-scan : (s : Seen) (i : Site) → i ≡ siteByScan end s → View w place start refs false s
+        → SpotView w start refs i (spotByScan (kindOf w) (fieldsOf w) refs)
+    spot-by-scan s i q v = subst (λ (j : Site). SpotView w start refs j (spotByScan (kindOf w) (fieldsOf w) refs)) (sym q) (scan-view s v)

@@ -1,0 +1,190 @@
+-- What a scan saw, as cuts of the list of references: where the wanted one stands, and where a new one goes.
+-- Assumes nothing.
+use mathlib.Core.Path.{_≡_, refl, sym, ap, subst, _∙_}
+use mathlib.Core.Bool.{Bool, true, false, not, _&&_, _||_, cond}
+use mathlib.Core.Option.{Option, none, some, Option·map}
+use mathlib.Core.List.{List, [], _∷_, _++_, append-nil}
+use Prim.Native.Nat.{ℕ, _+_}
+use native.Mathlib.Omega.{arith}
+use lib.Dec.{T, eqb}
+use Rattle.fields.specs.Lists.{sum, all, Cut, later, cut}
+use Rattle.fields.proofs.Lists.{cut-some}
+use Rattle.format.specs.References.{Ref}
+use Rattle.format.specs.Bodies.{Spot, gap, standing, stops, gapAt, insertPosition, standingOr, spotAnywhere, scanned, spotByScan}
+use Rattle.inline_refs.specs.declared.wanted.Wanted.{Wanted}
+use Rattle.inline_refs.specs.declared.scan.Seen.{Seen}
+use Rattle.inline_refs.specs.declared.scan.Seen.the-variants.{Open, Gap, Hit, Late}
+use Rattle.inline_refs.specs.Scans.{kindOf, fieldsOf, isWanted, sizeOf, noted, walk}
+use Rattle.inline_refs.proofs.Steps.{by-test}
+
+-- ---- a part of the references that stands from one position up to another
+
+pub record Between (start : ℕ) (refs front old back : List Ref) (p q : ℕ) : Type 0 where
+  pub same : refs ≡ front ++ (old ++ back)
+  pub from : p ≡ start + sum sizeOf front
+  pub to : q ≡ p + sum sizeOf old
+
+-- ---- the first that passes a test, with its positions
+
+pub record CutAt (m : Ref → Bool) (start : ℕ) (refs : List Ref) (p q weight : ℕ) : Type 0 where
+  pub parts : Cut Ref
+  pub cuts : cut m refs ≡ some parts
+  pub from : p ≡ start + sum sizeOf (parts .front)
+  pub to : q ≡ p + sizeOf (parts .hit)
+  pub weighs : weight ≡ parts .hit .weight
+
+module _ (m : Ref → Bool) (start : ℕ) (r : Ref) (refs : List Ref) where
+  cut-here : (weight : ℕ) → m r ≡ true → weight ≡ r .weight → CutAt m start (r ∷ refs) start (start + sizeOf r) weight
+  cut-here weight t e = record {
+    parts = record { front = []; hit = r; back = refs };
+    cuts = rw t refl;
+    from = omega arith;
+    to = refl;
+    weighs = e;
+  }
+
+  cut-later : (p q weight : ℕ) → m r ≡ false → CutAt m (start + sizeOf r) refs p q weight → CutAt m start (r ∷ refs) p q weight
+  cut-later p q weight f h = record {
+    parts = later r (h .parts);
+    cuts = rw f (ap (Option·map (later r)) (h .cuts));
+    from = omega (arith, h .from);
+    to = h .to;
+    weighs = h .weighs;
+  }
+
+  none-later : m r ≡ false → cut m refs ≡ none → cut m (r ∷ refs) ≡ none
+  none-later f e = rw f (ap (Option·map (later r)) e)
+
+module _ (w : Wanted) (place : ℕ) where
+  -- the wanted one, or one that a new one goes before
+  abbrev pub either : Ref → Bool
+  either r = isWanted w r || stops (kindOf w) place r
+
+  abbrev pub anyKin : List Ref → Bool
+  anyKin [] = false
+  anyKin (r ∷ refs) = eqb (r .kind) (kindOf w) || anyKin refs
+
+  -- the insert position came before a wanted one
+  pub record StopAt (start : ℕ) (refs : List Ref) (p : ℕ) : Type 0 where
+    pub after : ℕ
+    pub weight : ℕ
+    pub stop : CutAt either start refs p after weight
+    pub other : isWanted w (stop .parts .hit) ≡ false
+
+  pub record HitAt (start : ℕ) (refs : List Ref) (p q weight : ℕ) : Type 0 where
+    pub hit : CutAt (isWanted w) start refs p q weight
+    pub first : cut either refs ≡ some (hit .parts)
+
+  abbrev GapView : ℕ → List Ref → ℕ → Bool → Seen → Type 0
+  GapView start refs g kin₀ (Open kin) = ⊥
+  GapView start refs g kin₀ (Gap g′ kin) = (g′ ≡ g) × (cut (isWanted w) refs ≡ none) × (kin ≡ kin₀ || anyKin refs)
+  GapView start refs g kin₀ (Hit p q x) = ⊥
+  GapView start refs g kin₀ (Late g′ p q x) = (g′ ≡ g) × CutAt (isWanted w) start refs p q x
+
+  abbrev pub View : ℕ → List Ref → Bool → Seen → Type 0
+  View start refs kin₀ (Open kin) = (cut (isWanted w) refs ≡ none) × (cut either refs ≡ none) × (kin ≡ kin₀ || anyKin refs)
+  View start refs kin₀ (Gap g kin) = (cut (isWanted w) refs ≡ none) × StopAt start refs g × (kin ≡ kin₀ || anyKin refs)
+  View start refs kin₀ (Hit p q x) = HitAt start refs p q x
+  View start refs kin₀ (Late g p q x) = CutAt (isWanted w) start refs p q x × StopAt start refs g
+
+  hit-stays : (start p q x : ℕ) (refs : List Ref) → walk w place start (Hit p q x) refs ≡ Hit p q x
+  unfolding walk noted
+  hit-stays start p q x [] = refl
+  hit-stays start p q x (r ∷ refs) = hit-stays (start + sizeOf r) p q x refs
+
+  late-stays : (start g p q x : ℕ) (refs : List Ref) → walk w place start (Late g p q x) refs ≡ Late g p q x
+  unfolding walk noted
+  late-stays start g p q x [] = refl
+  late-stays start g p q x (r ∷ refs) = late-stays (start + sizeOf r) g p q x refs
+
+  or-false : (b : Bool) → b ≡ b || false
+  or-false true = refl
+  or-false false = refl
+
+  or-assoc : (a b c : Bool) → (a || b) || c ≡ a || (b || c)
+  or-assoc true b c = refl
+  or-assoc false b c = refl
+
+  gap-later : (start : ℕ) (r : Ref) (refs : List Ref) (g : ℕ) (kin₀ : Bool) (s : Seen) → isWanted w r ≡ false
+      → GapView (start + sizeOf r) refs g (kin₀ || eqb (r .kind) (kindOf w)) s → GapView start (r ∷ refs) g kin₀ s
+  gap-later start r refs g kin₀ (Open kin) f v = v
+  gap-later start r refs g kin₀ (Gap g′ kin) f v =
+      (v .0, none-later (isWanted w) start r refs f (v .1), v .2 ∙ or-assoc kin₀ (eqb (r .kind) (kindOf w)) (anyKin refs))
+  gap-later start r refs g kin₀ (Hit p q x) f v = v
+  gap-later start r refs g kin₀ (Late g′ p q x) f v = (v .0, cut-later (isWanted w) start r refs p q x f (v .1))
+
+  gap-view : (start : ℕ) (refs : List Ref) (g : ℕ) (kin₀ : Bool) → GapView start refs g kin₀ (walk w place start (Gap g kin₀) refs)
+  unfolding walk noted
+  gap-view start [] g kin₀ = (refl, refl, or-false kin₀)
+  gap-view start (r ∷ refs) g kin₀ =
+      by-test (isWanted w r)
+      (λ t. rw t
+      (subst (GapView start (r ∷ refs) g kin₀) (sym (late-stays (start + sizeOf r) g start (start + sizeOf r) (r .weight) refs))
+      (refl, cut-here (isWanted w) start r refs (r .weight) t refl)))
+      (λ f. rw f
+      (gap-later start r refs g kin₀ (walk w place (start + sizeOf r) (Gap g (kin₀ || eqb (r .kind) (kindOf w))) refs) f (gap-view (start + sizeOf r) refs g (kin₀ || eqb (r .kind) (kindOf w)))))
+
+  stop-later : (start : ℕ) (r : Ref) (refs : List Ref) (g : ℕ) → either r ≡ false → StopAt (start + sizeOf r) refs g → StopAt start (r ∷ refs) g
+  unfolding cut-later
+  stop-later start r refs g e h = record {
+    after = h .after;
+    weight = h .weight;
+    stop = cut-later either start r refs g (h .after) (h .weight) e (h .stop);
+    other = h .other;
+  }
+
+  view-later : (start : ℕ) (r : Ref) (refs : List Ref) (kin₀ : Bool) (s : Seen) → isWanted w r ≡ false → either r ≡ false
+      → View (start + sizeOf r) refs (kin₀ || eqb (r .kind) (kindOf w)) s → View start (r ∷ refs) kin₀ s
+  unfolding cut-later
+  view-later start r refs kin₀ (Open kin) f e v =
+      (none-later (isWanted w) start r refs f (v .0), none-later either start r refs e (v .1), v .2 ∙ or-assoc kin₀ (eqb (r .kind) (kindOf w)) (anyKin refs))
+  view-later start r refs kin₀ (Gap g kin) f e v = (
+    none-later (isWanted w) start r refs f (v .0),
+    stop-later start r refs g e (v .1),
+    v .2 ∙ or-assoc kin₀ (eqb (r .kind) (kindOf w)) (anyKin refs),
+  )
+  view-later start r refs kin₀ (Hit p q x) f e v = record {
+    hit = cut-later (isWanted w) start r refs p q x f (v .hit);
+    first = rw e (ap (Option·map (later r)) (v .first));
+  }
+  view-later start r refs kin₀ (Late g p q x) f e v =
+      (cut-later (isWanted w) start r refs p q x f (v .0), stop-later start r refs g e (v .1))
+
+  stop-here : (start : ℕ) (r : Ref) (refs : List Ref) → isWanted w r ≡ false → either r ≡ true → StopAt start (r ∷ refs) start
+  unfolding cut-here
+  stop-here start r refs f e = record {
+    after = start + sizeOf r;
+    weight = r .weight;
+    stop = cut-here either start r refs (r .weight) e refl;
+    other = f;
+  }
+
+  -- a gap here, and what follows it
+  gap-here : (start : ℕ) (r : Ref) (refs : List Ref) (kin₀ : Bool) (s : Seen) → isWanted w r ≡ false → either r ≡ true
+      → GapView (start + sizeOf r) refs start (kin₀ || eqb (r .kind) (kindOf w)) s → View start (r ∷ refs) kin₀ s
+  gap-here start r refs kin₀ (Open kin) f e v = absurd v
+  gap-here start r refs kin₀ (Gap g kin) f e v = (
+    none-later (isWanted w) start r refs f (v .1),
+    subst (StopAt start (r ∷ refs)) (sym (v .0)) (stop-here start r refs f e),
+    v .2 ∙ or-assoc kin₀ (eqb (r .kind) (kindOf w)) (anyKin refs),
+  )
+  gap-here start r refs kin₀ (Hit p q x) f e v = absurd v
+  gap-here start r refs kin₀ (Late g p q x) f e v =
+      (cut-later (isWanted w) start r refs p q x f (v .1), subst (StopAt start (r ∷ refs)) (sym (v .0)) (stop-here start r refs f e))
+
+  view : (start : ℕ) (refs : List Ref) (kin₀ : Bool) → View start refs kin₀ (walk w place start (Open kin₀) refs)
+  unfolding walk noted cut-here
+  view start [] kin₀ = (refl, refl, or-false kin₀)
+  view start (r ∷ refs) kin₀ =
+      by-test (isWanted w r)
+      (λ t. rw t
+      (subst (View start (r ∷ refs) kin₀) (sym (hit-stays (start + sizeOf r) start (start + sizeOf r) (r .weight) refs))
+      (record { hit = cut-here (isWanted w) start r refs (r .weight) t refl; first = rw t refl })))
+      (λ f. by-test (stops (kindOf w) place r)
+      (λ d. rw (f, d)
+      (gap-here start r refs kin₀ (walk w place (start + sizeOf r) (Gap start (kin₀ || eqb (r .kind) (kindOf w))) refs) f (rw (f, d) refl) (gap-view (start + sizeOf r) refs start (kin₀ || eqb (r .kind) (kindOf w)))))
+      (λ d. rw (f, d)
+      (view-later start r refs kin₀ (walk w place (start + sizeOf r) (Open (kin₀ || eqb (r .kind) (kindOf w))) refs) f (rw (f, d) refl) (view (start + sizeOf r) refs (kin₀ || eqb (r .kind) (kindOf w))))))
+
+  pub viewed : (start : ℕ) (refs : List Ref) (s : Seen) → s ≡ walk w place start (Open false) refs → View start refs false s
+  viewed start refs s e = subst (View start refs false) (sym e) (view start refs false)

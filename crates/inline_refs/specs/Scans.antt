@@ -1,0 +1,61 @@
+-- The one scan over the references of a body: what it notes on the way, and what it hands back. Assumes nothing.
+use mathlib.Core.Bool.{Bool, true, false, _||_, cond}
+use mathlib.Core.List.{List, [], _∷_}
+use Prim.Native.Nat.{ℕ, _+_}
+use lib.Dec.{eqb}
+use Rattle.format.specs.Questions.{Answer, refused, absent, remove, accepted}
+use Rattle.format.specs.References.{payloadLength, Ref}
+use Rattle.format.specs.Bodies.{onBody, named, one, triple, stops}
+use Rattle.inline_refs.specs.declared.wanted.Wanted.{Wanted}
+use Rattle.inline_refs.specs.declared.wanted.Wanted.the-variants.{Block, Data, SharedBlock, SharedData}
+use Rattle.inline_refs.specs.declared.scan.Seen.{Seen}
+use Rattle.inline_refs.specs.declared.scan.Seen.the-variants.{Open, Gap, Hit, Late}
+use Rattle.inline_refs.specs.declared.scan.Scan.{Scan}
+use Rattle.inline_refs.specs.declared.scan.Scan.the-variants.{Fault, Read}
+
+unfoldable pub kindOf : Wanted → ℕ
+kindOf (Block name) = 176
+kindOf (Data name) = 178
+kindOf (SharedBlock parent) = 182
+kindOf (SharedData parent) = 184
+
+unfoldable pub fieldsOf : Wanted → List ℕ
+fieldsOf (Block name) = one (name .tree)
+fieldsOf (Data name) = triple name
+fieldsOf (SharedBlock parent) = one parent
+fieldsOf (SharedData parent) = one parent
+
+-- the wanted reference
+abbrev pub isWanted : Wanted → Ref → Bool
+isWanted wanted r = named (kindOf wanted) (fieldsOf wanted) r
+
+-- how many bytes a reference takes
+unfoldable pub sizeOf : Ref → ℕ
+sizeOf r = 1 + payloadLength (r .kind)
+
+-- what is noted at a reference that stands at `at`: the first wanted one; and, while there is none, the first one that a new
+-- reference goes before, and whether any of the wanted kind stands
+unfoldable pub noted : Wanted → ℕ → ℕ → ℕ → Ref → Seen → Seen
+noted wanted place at next r (Open kin) =
+    cond (isWanted wanted r) (Hit at next (r .weight))
+    (cond (stops (kindOf wanted) place r) (Gap at (kin || eqb (r .kind) (kindOf wanted))) (Open (kin || eqb (r .kind) (kindOf wanted))))
+noted wanted place at next r (Gap gap kin) =
+    cond (isWanted wanted r) (Late gap at next (r .weight)) (Gap gap (kin || eqb (r .kind) (kindOf wanted)))
+noted wanted place at next r (Hit first after weight) = Hit first after weight
+noted wanted place at next r (Late gap first after weight) = Late gap first after weight
+
+-- from a reference that stands at `at` to the last
+unfoldable pub walk : Wanted → ℕ → ℕ → Seen → List Ref → Seen
+walk wanted place at seen [] = seen
+walk wanted place at seen (r ∷ refs) =
+    walk wanted place (at + sizeOf r) (noted wanted place at (at + sizeOf r) r seen) refs
+
+unfoldable pub scanOf : Wanted → ℕ → ℕ → Seen → Answer (List Ref) → Scan
+scanOf wanted place at seen (refused number) = Fault number
+scanOf wanted place at seen absent = Fault 100
+scanOf wanted place at seen remove = Fault 101
+scanOf wanted place at seen (accepted refs) = Read (walk wanted place at seen refs)
+
+-- questions 3 and 6 to 8, then the references
+unfoldable pub refsIn : ℕ → List ℕ → Answer (List Ref)
+refsIn type body = onBody type body (λ b. accepted (b .refs))

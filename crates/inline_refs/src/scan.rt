@@ -1,0 +1,184 @@
+// The one scan over the references of a body.
+use crate::start::Start;
+use crate::step::Cursor;
+use crate::step::Step;
+use crate::wanted::Wanted;
+ghost use mathlib.Core.Path.{_≡_};
+ghost use mathlib.Core.Bool.{false};
+ghost use Prim.Native.Nat.{_+_, _≤_};
+ghost use lib.Dec.{T};
+ghost use lib.ListN.{length, drop};
+ghost use Rattle.crc32c.specs.Register.{crc32c, tableOf};
+ghost use Rattle.format.specs.References.{kinds, known, payloadLength, countPosition, refAt, startOf};
+ghost use Rattle.inline_refs.specs.Steps.{readFrom};
+ghost use Rattle.inline_refs.specs.Scans.{noted, scanOf, refsIn};
+
+// What a scan has noted.
+pub enum Seen {
+    // Neither the wanted reference nor one that a new one goes before; and whether one of its kind stood there.
+    Open {
+        kin: bool,
+    },
+    // A new one goes before the reference at `at`.
+    Gap {
+        at: usize,
+        kin: bool,
+    },
+    // The wanted reference, and the next one.
+    Hit {
+        at: usize,
+        next: usize,
+        weight: u32,
+    },
+    // The wanted reference, after one that a new one goes before.
+    Late {
+        gap: usize,
+        at: usize,
+        next: usize,
+        weight: u32,
+    },
+}
+
+// What a scan hands back: the question that is answered "no", or what it noted up to the end.
+pub enum Scan {
+    Fault(u32),
+    Read(Seen),
+}
+
+// The weight of the reference of this kind whose payload starts at `start`.
+fn weight_at(body: &[u8], kind: u8, start: usize, count: usize) -> u32
+    requires { ⌜ T (known kind) × (start + payloadLength kind ≤ length (now body)) × (count ≡ countPosition kind) ⌝ }
+    ensures { λ r. ⌜ r ≡ refAt kind (drop start (now (body .entry))) .weight ⌝ }
+{
+    if 0 < count {
+        return fields::get_u32_le(body, start + count);
+    }
+    if kind == 172 {
+        return 0;
+    }
+    1
+}
+
+// What is noted at one more reference. The wanted one is looked for first: it never stops a new one.
+fn note(
+    table: &[u32; 256],
+    body: &[u8],
+    wanted: Wanted,
+    place: u64,
+    seen: Seen,
+    at: usize,
+    kind: u8,
+    start: usize,
+    count: usize,
+    next: usize,
+) -> Seen
+    requires { ⌜ now table ≡ tableOf crc32c ⌝ }
+    requires { ⌜ T (known kind) × (start + payloadLength kind ≤ length (now body)) × (count ≡ countPosition kind) ⌝ }
+    ensures { λ r. ⌜ r ≡ noted wanted place at next (refAt kind (drop start (now (body .entry)))) seen ⌝ }
+{
+    match seen {
+        Seen::Open { kin } => {
+            if crate::wanted::names(wanted, body, kind, start) {
+                let weight = weight_at(body, kind, start, count);
+                return Seen::Hit { at, next, weight };
+            }
+            let stood = crate::wanted::akin(kin, wanted, kind);
+            let sought = crate::wanted::kind_of(wanted);
+            if crate::wanted::stops_at(table, sought, place, body, kind, start) {
+                return Seen::Gap { at, kin: stood };
+            }
+            Seen::Open { kin: stood }
+        }
+        Seen::Gap { at: gap, kin } => {
+            if crate::wanted::names(wanted, body, kind, start) {
+                let weight = weight_at(body, kind, start, count);
+                return Seen::Late {
+                    gap,
+                    at,
+                    next,
+                    weight,
+                };
+            }
+            let stood = crate::wanted::akin(kin, wanted, kind);
+            Seen::Gap {
+                at: gap,
+                kin: stood,
+            }
+        }
+        Seen::Hit {
+            at: _,
+            next: _,
+            weight: _,
+        } => seen,
+        Seen::Late {
+            gap: _,
+            at: _,
+            next: _,
+            weight: _,
+        } => seen,
+    }
+}
+
+// From `start` to the end of the body.
+pub fn scan_from(
+    rows: &[[u8; 3]; 5],
+    table: &[u32; 256],
+    body: &[u8],
+    start: usize,
+    wanted: Wanted,
+    place: u64,
+) -> Scan
+    requires { ⌜ now rows ≡ kinds ⌝ }
+    requires { ⌜ now table ≡ tableOf crc32c ⌝ }
+    ensures { λ r. ⌜ r ≡ scanOf wanted place start (Seen.Open false) (readFrom (now (body .entry)) start) ⌝ }
+{
+    let mut at = start;
+    let mut seen = Seen::Open { kin: false };
+    loop {
+        let cursor = Cursor { at };
+        match cursor.step(rows, body) {
+            Step::Ref {
+                kind,
+                start: payload,
+                size: _,
+                count,
+                next,
+            } => {
+                let after = next.at;
+                seen = note(
+                    table,
+                    body,
+                    wanted,
+                    place,
+                    seen,
+                    at,
+                    kind,
+                    payload,
+                    count,
+                    after,
+                );
+                at = after;
+            }
+            Step::End => {
+                return Scan::Read(seen);
+            }
+            Step::Refused(number) => {
+                return Scan::Fault(number);
+            }
+        }
+    }
+}
+
+// Questions 3 and 6 to 8, and the scan of a body's references.
+pub fn scan_body(item_type: u8, body: &[u8], wanted: Wanted, place: u64) -> Scan
+    ensures { λ r. ⌜ r ≡ scanOf wanted place (startOf «item_type» (now (body .entry))) (Seen.Open false) (refsIn «item_type» (now (body .entry))) ⌝ }
+{
+    match crate::start::open_body(item_type, body) {
+        Start::From(start) => {
+            let rows = crate::kinds::rows();
+            let table = crc32c::table();
+            scan_from(&rows, &table, body, start, wanted, place)
+        }
+        Start::Refused(number) => Scan::Fault(number),
+    }
+}

@@ -1,0 +1,87 @@
+// What a scan's notes mean to a call: where the wanted reference stands, or where a new one goes.
+use crate::scan::Seen;
+ghost use mathlib.Core.Path.{_≡_};
+ghost use Rattle.inline_refs.specs.Sites.{hitOf, siteAnywhere, siteByScan, kinIn};
+
+// The answer of an inline search: where the wanted reference stands, where the next one starts, and its weight.
+pub enum Found {
+    At { at: usize, next: usize, weight: u32 },
+    Nothing,
+}
+
+pub fn hit_of(seen: Seen) -> Found
+    ensures { λ r. ⌜ r ≡ hitOf seen ⌝ }
+{
+    match seen {
+        Seen::Hit { at, next, weight } => Found::At { at, next, weight },
+        Seen::Late {
+            gap: _,
+            at,
+            next,
+            weight,
+        } => Found::At { at, next, weight },
+        Seen::Open { kin: _ } => Found::Nothing,
+        Seen::Gap { at: _, kin: _ } => Found::Nothing,
+    }
+}
+
+// Where an added reference goes: a new one at a position, or to the one that stands.
+pub enum Site {
+    Gap(usize),
+    Standing { at: usize, next: usize, weight: u32 },
+}
+
+// To the wanted one wherever it stands.
+pub fn site_anywhere(seen: Seen, end: usize) -> Site
+    ensures { λ r. ⌜ r ≡ siteAnywhere end seen ⌝ }
+{
+    match seen {
+        Seen::Hit { at, next, weight } => Site::Standing { at, next, weight },
+        Seen::Late {
+            gap: _,
+            at,
+            next,
+            weight,
+        } => Site::Standing { at, next, weight },
+        Seen::Open { kin: _ } => Site::Gap(end),
+        Seen::Gap { at, kin: _ } => Site::Gap(at),
+    }
+}
+
+// To the wanted one if it stands before the insert position.
+pub fn site_by_scan(seen: Seen, end: usize) -> Site
+    ensures { λ r. ⌜ r ≡ siteByScan end seen ⌝ }
+{
+    match seen {
+        Seen::Hit { at, next, weight } => Site::Standing { at, next, weight },
+        Seen::Late {
+            gap,
+            at: _,
+            next: _,
+            weight: _,
+        } => Site::Gap(gap),
+        Seen::Open { kin: _ } => Site::Gap(end),
+        Seen::Gap { at, kin: _ } => Site::Gap(at),
+    }
+}
+
+// Whether a reference of the wanted kind stood where the wanted one did not.
+pub fn any_kin(seen: Seen) -> bool
+    ensures { λ r. ⌜ r ≡ kinIn seen ⌝ }
+{
+    match seen {
+        Seen::Hit {
+            at: _,
+            next: _,
+            weight: _,
+        } => true,
+        Seen::Late {
+            gap: _,
+            at: _,
+            next: _,
+            weight: _,
+        } => true,
+        Seen::Open { kin } => kin,
+        Seen::Gap { at: _, kin } => kin,
+    }
+}

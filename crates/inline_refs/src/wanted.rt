@@ -1,0 +1,119 @@
+// What a scan looks for: a named reference, and the place of a new one.
+use format::BlockRef;
+use format::DataRef;
+ghost use mathlib.Core.Path.{_≡_};
+ghost use mathlib.Core.Bool.{_||_};
+ghost use Prim.Native.Nat.{_+_, _≤_};
+ghost use lib.Dec.{T, eqb};
+ghost use lib.ListN.{length, drop};
+ghost use Rattle.crc32c.specs.Register.{crc32c, tableOf};
+ghost use Rattle.format.specs.References.{known, payloadLength, refAt, place};
+ghost use Rattle.format.specs.Bodies.{named, stops, triple};
+ghost use Rattle.fields.specs.Lists.{same};
+ghost use Rattle.fields.specs.Numbers.{words};
+ghost use Rattle.inline_refs.specs.Scans.{kindOf, fieldsOf};
+
+// The name of the reference that is looked for.
+pub enum Wanted {
+    Block(BlockRef),
+    Data(DataRef),
+    // The parent of a shared block (182) or of shared data (184).
+    SharedBlock(u64),
+    SharedData(u64),
+}
+
+pub fn kind_of(wanted: Wanted) -> u8
+    ensures { λ r. ⌜ r ≡ kindOf wanted ⌝ }
+{
+    match wanted {
+        Wanted::Block(_) => 176,
+        Wanted::Data(_) => 178,
+        Wanted::SharedBlock(_) => 182,
+        Wanted::SharedData(_) => 184,
+    }
+}
+
+// Whether three fields from `start` on are those of a data reference.
+fn names_triple(name: DataRef, body: &[u8], start: usize) -> bool
+    requires { ⌜ start + 24 ≤ length (now body) ⌝ }
+    ensures { λ r. ⌜ r ≡ same (words 3 (drop start (now (body .entry)))) (triple name) ⌝ }
+{
+    if fields::get_u64_le(body, start) != name.tree {
+        return false;
+    }
+    if fields::get_u64_le(body, start + 8) != name.objectid {
+        return false;
+    }
+    fields::get_u64_le(body, start + 16) == name.offset
+}
+
+// Whether the reference of this kind whose payload starts at `start` is the wanted one.
+pub fn names(wanted: Wanted, body: &[u8], kind: u8, start: usize) -> bool
+    requires { ⌜ T (known kind) × (start + payloadLength kind ≤ length (now body)) ⌝ }
+    ensures { λ r. ⌜ r ≡ named (kindOf wanted) (fieldsOf wanted) (refAt kind (drop start (now (body .entry)))) ⌝ }
+{
+    if kind_of(wanted) != kind {
+        return false;
+    }
+    match wanted {
+        Wanted::Block(name) => fields::get_u64_le(body, start) == name.tree,
+        Wanted::Data(name) => names_triple(name, body, start),
+        Wanted::SharedBlock(parent) => fields::get_u64_le(body, start) == parent,
+        Wanted::SharedData(parent) => fields::get_u64_le(body, start) == parent,
+    }
+}
+// What the references of one kind are ordered by: the hash of a triple, else the first field.
+pub fn place_at(table: &[u32; 256], body: &[u8], kind: u8, start: usize) -> u64
+    requires { ⌜ now table ≡ tableOf crc32c ⌝ }
+    requires { ⌜ T (known kind) × (start + payloadLength kind ≤ length (now body)) ⌝ }
+    ensures { λ r. ⌜ r ≡ place (refAt kind (drop start (now (body .entry)))) ⌝ }
+{
+    if kind != 178 {
+        return fields::get_u64_le(body, start);
+    }
+    extent_write::hash_with(
+        table,
+        fields::get_u64_le(body, start),
+        fields::get_u64_le(body, start + 8),
+        fields::get_u64_le(body, start + 16),
+    )
+}
+
+// Whether a new reference of kind `wanted` with a place goes before this one. Nothing has a place below 0, so that place
+// costs no hash.
+pub fn stops_at(
+    table: &[u32; 256],
+    wanted: u8,
+    place: u64,
+    body: &[u8],
+    kind: u8,
+    start: usize,
+) -> bool
+    requires { ⌜ now table ≡ tableOf crc32c ⌝ }
+    requires { ⌜ T (known kind) × (start + payloadLength kind ≤ length (now body)) ⌝ }
+    ensures { λ r. ⌜ r ≡ stops wanted place (refAt kind (drop start (now (body .entry)))) ⌝ }
+{
+    if kind == 172 {
+        return false;
+    }
+    if wanted < kind {
+        return true;
+    }
+    if wanted != kind {
+        return false;
+    }
+    if place == 0 {
+        return false;
+    }
+    place_at(table, body, kind, start) < place
+}
+
+// Whether one of the wanted kind stands, with one more reference.
+pub fn akin(stood: bool, wanted: Wanted, kind: u8) -> bool
+    ensures { λ r. ⌜ r ≡ stood || eqb kind (kindOf wanted) ⌝ }
+{
+    if stood {
+        return true;
+    }
+    kind == kind_of(wanted)
+}
