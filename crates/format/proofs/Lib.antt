@@ -1,6 +1,4 @@
 pub mod Answers
-pub mod Outputs
-pub mod Hash
 pub mod Rows
 pub mod Refs
 pub mod Bodies
