@@ -46,7 +46,7 @@ pub enum Scan {
 }
 
 // The weight of the reference of this kind whose payload starts at `start`.
-fn weight_at(body: &[u8], kind: u8, start: usize, count: usize) -> u32
+pub fn weight_at(body: &[u8], kind: u8, start: usize, count: usize) -> u32
     requires { ⌜ T (known kind) × (start + payloadLength kind ≤ length (now body)) × (count ≡ countPosition kind) ⌝ }
     ensures { λ r. ⌜ r ≡ refAt kind (drop start (now (body .entry))) .weight ⌝ }
 {

@@ -1,0 +1,4 @@
+// Whether a sheet is balanced, in one pass over its items.
+mod record;
+
+pub use record::Weighed;
