@@ -18,6 +18,7 @@ use Rattle.format.specs.Bodies.{named, triple}
 use Rattle.balance_laws.specs.Runs.{Run, start, joins, kept, after, apart, weighs, admits, sound}
 use Rattle.balance_laws.specs.Tally.{weightIn}
 use Rattle.balance.specs.declared.record.Run.{Run as Passed}
+use Rattle.balance.specs.declared.record.Admitted.{Admitted}
 use Rattle.balance.specs.declared.record.Admitted.the-variants.{Yes, No}
 use Rattle.balance.specs.Spans.{spanRefs, clear, runOf, Reaches, Admitting}
 
@@ -242,7 +243,7 @@ module _ (body : List ℕ) (p : Passed) (at kind start : ℕ) (s : start ≡ at 
   is-kind = refl
 
   pub says-lower : kind < p .kind → Admitting body p here (start + payloadLength kind) No
-  unfolding runOf refAt
+  unfolding runOf refAt Admitting
   says-lower h = admits-lower (runOf body p) here h
 
   module _ (weight spot : ℕ) (w : weight ≡ here .weight) (o : spot ≡ place here) where
@@ -257,15 +258,16 @@ module _ (body : List ℕ) (p : Passed) (at kind start : ℕ) (s : start ≡ at 
     alone-reaches e = rw (e, payload-178) (omega arith)
 
     says-alone : Begins (runOf body p) here → Admitting body p here (start + payloadLength kind) (Yes alone weight)
+    unfolding Admitting
     says-alone b = (b .0, (alone-is ∙ b .1, (alone-reaches, w)))
 
     pub says-owner : p .kind ≤ kind → kind ≡ 172 → Admitting body p here (start + payloadLength kind) (Yes alone weight)
-    unfolding runOf refAt
+    unfolding runOf refAt Admitting
     says-owner h e = says-alone (admits-owner (runOf body p) here h e)
 
     module _ (owner : kind ≡ 172 → ⊥) where
       pub says-light : weight ≡ 0 → Admitting body p here (start + payloadLength kind) No
-      unfolding runOf refAt
+      unfolding runOf refAt Admitting
       says-light e = admits-light (runOf body p) here owner (sym w ∙ e)
 
       module _ (heavy : weight ≡ 0 → ⊥) where
@@ -273,21 +275,21 @@ module _ (body : List ℕ) (p : Passed) (at kind start : ℕ) (s : start ≡ at 
         some-weight = rw (← w) (omega arith)
 
         pub says-higher : p .kind < kind → Admitting body p here (start + payloadLength kind) (Yes alone weight)
-        unfolding runOf refAt
+        unfolding runOf refAt Admitting
         says-higher h = says-alone (admits-higher (runOf body p) here h some-weight)
 
         module _ (same-kind : p .kind ≡ kind) where
           pub says-falls : spot < p .spot → Admitting body p here (start + payloadLength kind) (Yes alone weight)
-          unfolding runOf refAt
+          unfolding runOf refAt Admitting
           says-falls h = says-alone (admits-falls (runOf body p) here same-kind owner (rw (← o) h) some-weight)
 
           pub says-stays : (kind ≡ 178 → ⊥) → p .spot ≤ spot → Admitting body p here (start + payloadLength kind) No
-          unfolding runOf refAt
+          unfolding runOf refAt Admitting
           says-stays n h = admits-stays (runOf body p) here same-kind owner n (rw (← o) h)
 
           module _ (d : kind ≡ 178) where
             pub says-rises : p .spot < spot → Admitting body p here (start + payloadLength kind) No
-            unfolding runOf refAt
+            unfolding runOf refAt Admitting
             says-rises h = admits-rises (runOf body p) here same-kind d (rw (← o) h)
 
             module _ (e : spot ≡ p .spot) where
@@ -303,7 +305,7 @@ module _ (body : List ℕ) (p : Passed) (at kind start : ℕ) (s : start ≡ at 
                   (λ i. all (λ x. not (same (x .fields) (refAt (d i) (drop (s i) body) .fields))) (spanRefs (k i) body (p .from) (p .n))) ∙ c
 
               pub says-twice : clear body at (p .from) (p .n) ≡ false → Admitting body p here (start + payloadLength kind) No
-              unfolding runOf refAt
+              unfolding runOf refAt Admitting
               says-twice c = admits-twice (runOf body p) here same-kind d spot-is (clear-is false c)
 
               abbrev pub grown : Passed
@@ -327,7 +329,18 @@ module _ (body : List ℕ) (p : Passed) (at kind start : ℕ) (s : start ≡ at 
               grown-reaches k = rw (d, payload-178) (omega (arith, reach (same-kind ∙ d)))
 
               pub says-joins : clear body at (p .from) (p .n) ≡ true → Admitting body p here (start + payloadLength kind) (Yes grown weight)
-              unfolding runOf refAt
+              unfolding runOf refAt Admitting
               says-joins c =
                   let j = admits-joins (runOf body p) here same-kind d spot-is (clear-is true c) some-weight in
                   (j .0, (grown-is ∙ j .1, (grown-reaches, w)))
+
+-- ---- and back
+
+pub admitted-yes : (body : List ℕ) (p : Passed) (r : Ref) (next : ℕ) (a : Admitted) (q : Passed) (weight : ℕ) → a ≡ Yes q weight → Admitting body p r next a
+    → (admits (runOf body p) r ≡ true) × ((runOf body q ≡ kept (runOf body p) r) × (Reaches q next × (weight ≡ r .weight)))
+unfolding Admitting
+admitted-yes body p r next a q weight e h = subst (Admitting body p r next) e h
+
+pub admitted-no : (body : List ℕ) (p : Passed) (r : Ref) (next : ℕ) (a : Admitted) → a ≡ No → Admitting body p r next a → admits (runOf body p) r ≡ false
+unfolding Admitting
+admitted-no body p r next a e h = subst (Admitting body p r next) e h

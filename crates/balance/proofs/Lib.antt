@@ -1,1 +1,2 @@
 pub mod Admits
+pub mod Weighs

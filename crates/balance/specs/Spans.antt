@@ -33,7 +33,7 @@ abbrev pub Reaches : Passed → ℕ → Type 0
 Reaches p at = p .kind ≡ 178 → p .from + 29 * p .n ≡ at
 
 -- what the answer says of the reference that ends at `next`
-abbrev pub Admitting : List ℕ → Passed → Ref → ℕ → Admitted → Type 0
+unfoldable pub Admitting : List ℕ → Passed → Ref → ℕ → Admitted → Type 0
 Admitting body p r next No = admits (runOf body p) r ≡ false
 Admitting body p r next (Yes q weight) =
     (admits (runOf body p) r ≡ true) × ((runOf body q ≡ kept (runOf body p) r) × (Reaches q next × (weight ≡ r .weight)))

@@ -2,3 +2,4 @@
 mod record;
 
 pub use record::Weighed;
+pub use record::weigh_refs;

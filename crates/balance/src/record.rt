@@ -123,3 +123,43 @@ fn admit(
         weight,
     }
 }
+
+// The weight of the references from `start` to the end of a body.
+pub fn weigh_refs(rows: &[[u8; 3]; 5], table: &[u32; 256], body: &[u8], start: usize) -> Weighed
+    requires { ⌜ (now rows ≡ kinds) × (now table ≡ tableOf crc32c) ⌝ }
+    requires { ⌜ length (now body) ≤ 262144 ⌝ }
+    ensures { λ r. ⌜ r ≡ weighedOf (readFrom (now (body .entry)) start) ⌝ }
+{
+    let mut at = start;
+    let mut run = Run {
+        kind: 0,
+        spot: 0,
+        from: start,
+        n: 0,
+    };
+    let mut sum: u64 = 0;
+    loop {
+        let cursor = Cursor { at };
+        match cursor.step(rows, body) {
+            Step::Ref {
+                kind,
+                start: payload,
+                size: _,
+                count,
+                next,
+            } => {
+                let after = next.at;
+                match admit(table, body, run, at, kind, payload, count) {
+                    Admitted::Yes { run: grown, weight } => {
+                        run = grown;
+                        sum += weight as u64;
+                        at = after;
+                    }
+                    Admitted::No => return Weighed::Bad,
+                }
+            }
+            Step::End => return Weighed::Of(sum),
+            Step::Refused(_) => return Weighed::Bad,
+        }
+    }
+}
