@@ -1,2 +1,5 @@
 pub mod Admits
 pub mod Weighs
+pub mod Steps
+pub mod Spanning
+pub mod Halves
