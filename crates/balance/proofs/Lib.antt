@@ -3,3 +3,8 @@ pub mod Weighs
 pub mod Steps
 pub mod Spanning
 pub mod Halves
+pub mod Forms
+pub mod Marks
+pub mod Rows
+pub mod Refers
+pub mod Turns

@@ -2,7 +2,7 @@
 use mathlib.Core.Path.{_≡_}
 use mathlib.Core.Bool.{Bool, true, false, not, _&&_, _||_, cond}
 use mathlib.Core.List.{List, [], _∷_, _++_}
-use Prim.Native.Nat.{ℕ, zero, suc, _+_, _*_}
+use Prim.Native.Nat.{ℕ, zero, suc, _+_, _*_, _≤_}
 use lib.Dec.{T, leb, ltb, eqb}
 use lib.ListN.{length, drop}
 use Rattle.fields.specs.Lists.{sum, all, same}
@@ -47,3 +47,8 @@ weighing run weight (accepted refs) = cond (sound run refs) (Of (weight + sum we
 
 unfoldable pub weighedOf : Answer (List Ref) → Weighed
 weighedOf answer = weighing start 0 answer
+
+-- each reference weighs less than 2 ^ 32
+abbrev pub Light : ℕ → Weighed → Type 0
+Light size (Of weight) = weight ≤ 4294967296 * size
+Light size Bad = Unit {0}

@@ -1,7 +1,12 @@
 // Whether a sheet is balanced, in one pass over its items.
+mod group;
+mod marking;
+mod naming;
 mod record;
+mod reference;
 mod search;
 mod span;
+mod turning;
+mod walk;
 
-pub use record::Weighed;
-pub use record::weigh_refs;
+pub use walk::balanced;

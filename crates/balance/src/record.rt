@@ -13,7 +13,7 @@ ghost use Rattle.fields.specs.Numbers.{words};
 ghost use Rattle.format.specs.Bodies.{triple};
 ghost use Rattle.format.specs.References.{kinds, known, payloadLength, countPosition, refAt};
 ghost use Rattle.inline_refs.specs.Steps.{readFrom};
-ghost use Rattle.balance.specs.Spans.{clear, Admitting, Reaches, weighedOf};
+ghost use Rattle.balance.specs.Spans.{clear, Admitting, Reaches, weighedOf, Light};
 
 // The references passed last: their type, what they are ordered by, where the first of them stands, and how many there are.
 // Only data references of one hash are more than one.
@@ -36,7 +36,7 @@ pub enum Weighed {
     Bad,
 }
 
-fn triple_at(body: &[u8], start: usize) -> DataRef
+pub fn triple_at(body: &[u8], start: usize) -> DataRef
     requires { ⌜ start + 24 ≤ length (now body) ⌝ }
     ensures { λ r. ⌜ triple r ≡ words 3 (drop start (now (body .entry))) ⌝ }
 {
@@ -127,8 +127,8 @@ fn admit(
 // The weight of the references from `start` to the end of a body.
 pub fn weigh_refs(rows: &[[u8; 3]; 5], table: &[u32; 256], body: &[u8], start: usize) -> Weighed
     requires { ⌜ (now rows ≡ kinds) × (now table ≡ tableOf crc32c) ⌝ }
-    requires { ⌜ length (now body) ≤ 262144 ⌝ }
-    ensures { λ r. ⌜ r ≡ weighedOf (readFrom (now (body .entry)) start) ⌝ }
+    requires { ⌜ (length (now body) ≤ 262144) × (start ≤ length (now body)) ⌝ }
+    ensures { λ r. ⌜ (r ≡ weighedOf (readFrom (now (body .entry)) start)) × Light (length (now (body .entry))) r ⌝ }
 {
     let mut at = start;
     let mut run = Run {
