@@ -344,3 +344,17 @@ admitted-yes body p r next a q weight e h = subst (Admitting body p r next) e h
 pub admitted-no : (body : List ℕ) (p : Passed) (r : Ref) (next : ℕ) (a : Admitted) → a ≡ No → Admitting body p r next a → admits (runOf body p) r ≡ false
 unfolding Admitting
 admitted-no body p r next a e h = subst (Admitting body p r next) e h
+
+-- ---- a type that is known to be 178
+
+pub no-172 : _≡_ {A = ℕ} 178 172 → ⊥
+no-172 e = omega arith
+
+pub at-178 : (body : List ℕ) (start kind weight spot : ℕ) → kind ≡ 178 → weight ≡ refAt kind (drop start body) .weight → spot ≡ place (refAt kind (drop start body))
+    → (weight ≡ refAt 178 (drop start body) .weight) × (spot ≡ place (refAt 178 (drop start body)))
+at-178 body start kind weight spot e w o =
+    subst (λ (k : ℕ). (weight ≡ refAt k (drop start body) .weight) × (spot ≡ place (refAt k (drop start body)))) e (w, o)
+
+pub as-178 : (body : List ℕ) (p : Passed) (start kind : ℕ) (r : Admitted) → kind ≡ 178
+    → Admitting body p (refAt 178 (drop start body)) (start + payloadLength 178) r → Admitting body p (refAt kind (drop start body)) (start + payloadLength kind) r
+as-178 body p start kind r e h = subst (λ (k : ℕ). Admitting body p (refAt k (drop start body)) (start + payloadLength k) r) (sym e) h

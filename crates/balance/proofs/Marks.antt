@@ -37,7 +37,7 @@ use Rattle.balance.specs.declared.group.Group.{Group}
 use Rattle.balance.specs.declared.group.Turn.the-variants.{Next, Bad}
 use Rattle.balance.specs.Spans.{weighing, weighedOf, Light}
 use Rattle.balance.specs.Places.{refsRead, refsFrom, Readable}
-use Rattle.balance.specs.Groups.{itemOf, bodyOf, tallyOf, Body as Stored, Kept, Taking}
+use Rattle.balance.specs.Groups.{itemOf, bodyOf, tallyOf, afterRecord, Body as Stored, Kept, Taking}
 use Rattle.balance.proofs.Steps.{read-is}
 
 -- ---- a weight comes from references that read
@@ -160,23 +160,14 @@ module _ (s : List ℕ) (g : Group) (at next : ℕ) (key : Key) (rec : T (isReco
         ∙ and-false (not (tallyOf s g .marked)))
 
     module _ (order : at + 21 ≤ next) (within : next ≤ length s) (total weight : ℕ) where
-      abbrev pub marked-group : Group
-      marked-group =
-          record {
-            extent = g .extent;
-            marked = true;
-            from = at + 21;
-            to = next;
-            start = from;
-            total = total;
-            weight = weight;
-            span = record { kind = 0; from = 0; n = 0 };
-          }
+      abbrev marked-group : Group
+      marked-group = afterRecord (g .extent) (at + 21) next from total weight
 
-      pub mark-good : g .marked ≡ false → Of weight ≡ weighedOf (readFrom inner from) → Light (length inner) (Of weight) → total ≡ le (part 0 8 inner)
-          → Taking s g (itemOf s at next key) next (Next marked-group)
+      pub mark-good : (h : Group) → h ≡ afterRecord (g .extent) (at + 21) next from total weight → g .marked ≡ false → Of weight ≡ weighedOf (readFrom inner from) → Light (length inner) (Of weight) → total ≡ le (part 0 8 inner)
+          → Taking s g (itemOf s at next key) next (Next h)
       unfolding Taking tallyOf totalOf refsRead
-      mark-good m w l q =
+      mark-good made is m w l q =
+          subst (λ (x : Group). Taking s g (itemOf s at next key) next (Next x)) (sym is)
           let h = weighed-of (readFrom inner from) weight w in
           let r : readFrom inner from ≡ accepted (h .refs) = h .reads in
           let f : refsFrom inner from ≡ h .refs = ap refsRead r in

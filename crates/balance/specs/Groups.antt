@@ -64,6 +64,20 @@ pub record Kept (s : List ℕ) (g : Group) (at : ℕ) : Type 0 where
   pub body : g .marked ≡ true → Body s g
   pub light : g .weight ≤ 4294967296 * at
 
+-- an extent whose record was read
+abbrev pub afterRecord : ℕ → ℕ → ℕ → ℕ → ℕ → ℕ → Group
+afterRecord extent from to start total weight =
+    record {
+      extent = extent;
+      marked = true;
+      from = from;
+      to = to;
+      start = start;
+      total = total;
+      weight = weight;
+      span = record { kind = 0; from = 0; n = 0 };
+    }
+
 -- an extent of which no item was read
 abbrev pub empty : ℕ → Group
 empty extent =

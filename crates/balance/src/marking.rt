@@ -13,7 +13,27 @@ ghost use lib.ListN.{length};
 ghost use Rattle.crc32c.specs.Register.{crc32c, tableOf};
 ghost use Rattle.format.specs.References.{kinds};
 ghost use Rattle.format.specs.Apply.{isRecord};
-ghost use Rattle.balance.specs.Groups.{itemOf, Taking};
+ghost use Rattle.balance.specs.Groups.{itemOf, afterRecord, Taking};
+
+// An extent whose record was read.
+fn marked(extent: u64, from: usize, to: usize, start: usize, total: u64, weight: u64) -> Group
+    ensures { λ r. ⌜ r ≡ afterRecord extent from to start total weight ⌝ }
+{
+    Group {
+        extent,
+        marked: true,
+        from,
+        to,
+        start,
+        total,
+        weight,
+        span: Span {
+            kind: 0,
+            from: 0,
+            n: 0,
+        },
+    }
+}
 
 pub fn take_record(
     rows: &[[u8; 3]; 5],
@@ -38,21 +58,7 @@ pub fn take_record(
         Start::From(start) => match record::weigh_refs(rows, table, body, start) {
             Weighed::Of(weight) => {
                 let total = fields::get_u64_le(body, 0);
-                let span = Span {
-                    kind: 0,
-                    from: 0,
-                    n: 0,
-                };
-                Turn::Next(Group {
-                    extent: g.extent,
-                    marked: true,
-                    from,
-                    to: next,
-                    start,
-                    total,
-                    weight,
-                    span,
-                })
+                Turn::Next(marked(g.extent, from, next, start, total, weight))
             }
             Weighed::Bad => Turn::Bad,
         },

@@ -11,7 +11,7 @@ ghost use lib.ListN.{length, drop};
 ghost use Rattle.crc32c.specs.Register.{crc32c, tableOf};
 ghost use Rattle.fields.specs.Numbers.{words};
 ghost use Rattle.format.specs.Bodies.{triple};
-ghost use Rattle.format.specs.References.{kinds, known, payloadLength, countPosition, refAt};
+ghost use Rattle.format.specs.References.{kinds, known, payloadLength, countPosition, refAt, place};
 ghost use Rattle.inline_refs.specs.Steps.{readFrom};
 ghost use Rattle.balance.specs.Spans.{clear, Admitting, Reaches, weighedOf, Light};
 
@@ -65,6 +65,31 @@ fn repeated(body: &[u8], from: usize, n: usize, at: usize) -> bool
     false
 }
 
+// A data reference whose hash is not below that of the data references passed.
+fn join(body: &[u8], run: Run, at: usize, start: usize, spot: u64, weight: u32) -> Admitted
+    requires { ⌜ (run .kind ≡ 178) × ((run .spot ≤ spot) × (weight ≡ 0 → ⊥)) ⌝ }
+    requires { ⌜ (start ≡ at + 1) × ((start + 28 ≤ length (now body)) × Reaches run at) ⌝ }
+    requires { ⌜ (weight ≡ refAt 178 (drop start (now body)) .weight) × (spot ≡ place (refAt 178 (drop start (now body)))) ⌝ }
+    ensures { λ r. ⌜ Admitting (now (body .entry)) run (refAt 178 (drop start (now (body .entry)))) (start + payloadLength 178) r ⌝ }
+{
+    if run.spot < spot {
+        return Admitted::No;
+    }
+    if repeated(body, run.from, run.n, at) {
+        return Admitted::No;
+    }
+    let n = run.n + 1;
+    Admitted::Yes {
+        run: Run {
+            kind: 178,
+            spot,
+            from: run.from,
+            n,
+        },
+        weight,
+    }
+}
+
 // Whether the reference of this kind that stands at `at`, with its payload at `start`, may follow those passed.
 fn admit(
     table: &[u32; 256],
@@ -106,22 +131,7 @@ fn admit(
     if kind != 178 {
         return Admitted::No;
     }
-    if run.spot < spot {
-        return Admitted::No;
-    }
-    if repeated(body, run.from, run.n, at) {
-        return Admitted::No;
-    }
-    let n = run.n + 1;
-    Admitted::Yes {
-        run: Run {
-            kind,
-            spot,
-            from: run.from,
-            n,
-        },
-        weight,
-    }
+    join(body, run, at, start, spot, weight)
 }
 
 // The weight of the references from `start` to the end of a body.

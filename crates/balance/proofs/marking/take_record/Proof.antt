@@ -28,11 +28,11 @@ get-u64-le-requires c κs =
 
 returns-2 : tie.Need-returns-2
 returns-2 c =
-    let s = c .before .before .before .before .before .before .before .before .before .before .before .before in
+    let s = c .before .before .before .before .before .before .before .before .before .before .before .before .before in
     let p = s .pre .1 .0 in
-    let e = sym (c .before .before .before .before .before .before .start .given .1) ∙ c .before .before .before .before .before .before .before .before .open-body .ensures in
-    let w = c .before .before .before .before .weigh-refs .ensures in
-    mark-good (now (s .args .s)) (s .args .g) (s .args .at) (s .args .next) (s .args .key) (s .pre .1 .1) _ e (p .0) (p .1 .0) _ _ (c .before .before .before .before .before .before .before .before .before .before .if1 .left) (sym (c .before .before .weight .given .1) ∙ w .0) (light-of _ _ _ (c .before .before .weight .given .1) (w .1)) (c .get-u64-le .ensures)
+    let e = sym (c .before .before .before .before .before .before .before .start .given .1) ∙ c .before .before .before .before .before .before .before .before .before .open-body .ensures in
+    let w = c .before .before .before .before .before .weigh-refs .ensures in
+    mark-good (now (s .args .s)) (s .args .g) (s .args .at) (s .args .next) (s .args .key) (s .pre .1 .1) _ e (p .0) (p .1 .0) _ _ _ (c .marked .ensures) (c .before .before .before .before .before .before .before .before .before .before .before .if1 .left) (sym (c .before .before .before .weight .given .1) ∙ w .0) (light-of _ _ _ (c .before .before .before .weight .given .1) (w .1)) (c .before .get-u64-le .ensures)
 
 returns-3 : tie.Need-returns-3
 returns-3 c =
@@ -50,4 +50,4 @@ returns-4 c =
 pub take-record-spec : {M : Type 1} → statement M
 take-record-spec =
     tie.close
-    (tie.spec returns (λ c. search needs) (λ c. search needs) (λ c. search needs) (λ c. search needs) (λ c κs. search needs) (λ c. search needs) weigh-refs-requires (λ c. search needs) get-u64-le-requires (λ c. search needs) (λ c. search needs) returns-2 returns-3 returns-4)
+    (tie.spec returns (λ c. search needs) (λ c. search needs) (λ c. search needs) (λ c. search needs) (λ c κs. search needs) (λ c. search needs) weigh-refs-requires (λ c. search needs) get-u64-le-requires (λ c κs. search needs) (λ c. search needs) (λ c. search needs) returns-2 returns-3 returns-4)

@@ -1,10 +1,8 @@
 use denote.Ref.{now}
 use mathlib.Core.Path.{_≡_, refl, sym, ap, _∙_}
-use mathlib.Core.Bool.{Bool, true, false, not}
 use Prim.Native.Nat.{ℕ, _+_, _*_, _≤_, _<_}
 use native.Mathlib.Omega.{arith}
-use Rattle.balance.specs.Spans.{clear}
-use Rattle.balance.proofs.Admits.{payload-178, not-true, not-false, says-lower, says-owner, says-light, says-higher, says-falls, says-stays, says-rises, says-twice, says-joins}
+use Rattle.balance.proofs.Admits.{says-lower, says-owner, says-light, says-higher, says-falls, says-stays, at-178, as-178}
 use Rattle.inline_refs.proofs.Tests.{payload-178 as long-178}
 use borrow.Author.Needs.{needs}
 use Rattle.balance.proofs.record.admit.Statement.{statement}
@@ -48,44 +46,20 @@ returns-6 c =
     let k : c .before .before .before .before .before .before .before .before .before .before .before .before .args .run .kind ≡ c .before .before .before .before .before .before .before .before .before .before .before .before .args .kind = omega (arith, c .before .before .before .before .before .before .before .before .before .if1 .left, c .before .before .before .if4 .left) in
     says-stays (now (a .body)) (a .run) (a .at) (a .kind) (a .start) (s .pre .1 .1 .0) (s .pre .1 .1 .1) _ _ (c .before .before .before .before .before .before .before .before .weight-at .ensures) (c .before .before .before .before .before .before .before .place-at .ensures) (c .before .before .before .before .before .before .if2 .left) (c .before .before .before .before .before .if3 .left) k (c .if6 .taken) (c .before .if5 .left)
 
+join-requires : tie.Need-join-requires
+join-requires c κs =
+    let s = c .before .before .before .before .before .before .before .before .before .before .before .before in
+    let k : c .before .before .before .before .before .before .before .before .before .before .before .before .args .run .kind ≡ c .before .before .before .before .before .before .before .before .before .before .before .before .args .kind = omega (arith, c .before .before .before .before .before .before .before .before .before .if1 .left, c .before .before .before .if4 .left) in
+    let d = c .if6 .left in
+    let r = at-178 (now (s .args .body)) (s .args .start) (s .args .kind) _ _ d (c .before .before .before .before .before .before .before .before .weight-at .ensures) (c .before .before .before .before .before .before .before .place-at .ensures) in
+    ((k ∙ d, (c .before .if5 .left, c .before .before .before .before .before .if3 .left)), ((s .pre .1 .1 .0, (omega (arith, s .pre .1 .0 .1, long-178 _ d), s .pre .1 .1 .1)), r))
+
 returns-7 : tie.Need-returns-7
 returns-7 c =
-    let s = c .before .before .before .before .before .before .before .before .before .before .before .before .before .before in
-    let a = s .args in
-    let k : c .before .before .before .before .before .before .before .before .before .before .before .before .before .before .args .run .kind ≡ c .before .before .before .before .before .before .before .before .before .before .before .before .before .before .args .kind = omega (arith, c .before .before .before .before .before .before .before .before .before .before .before .if1 .left, c .before .before .before .before .before .if4 .left) in
-    says-rises (now (a .body)) (a .run) (a .at) (a .kind) (a .start) (s .pre .1 .1 .0) (s .pre .1 .1 .1) _ _ (c .before .before .before .before .before .before .before .before .before .before .weight-at .ensures) (c .before .before .before .before .before .before .before .before .before .place-at .ensures) (c .before .before .before .before .before .before .before .before .if2 .left) (c .before .before .before .before .before .before .before .if3 .left) k (c .before .before .if6 .left) (c .if7 .taken)
-
-repeated-requires : tie.Need-repeated-requires
-repeated-requires c κs =
-    let s = c .before .before .before .before .before .before .before .before .before .before .before .before .before .before in
-    let k : c .before .before .before .before .before .before .before .before .before .before .before .before .before .before .args .run .kind ≡ c .before .before .before .before .before .before .before .before .before .before .before .before .before .before .args .kind = omega (arith, c .before .before .before .before .before .before .before .before .before .before .before .if1 .left, c .before .before .before .before .before .if4 .left) in
-    let d = c .before .before .if6 .left in
-    (omega (arith, s .pre .1 .1 .1 (k ∙ d)), omega (arith, s .pre .1 .1 .0, s .pre .1 .0 .1, long-178 _ d))
-
-returns-8 : tie.Need-returns-8
-returns-8 c =
-    let s = c .before .before .before .before .before .before .before .before .before .before .before .before .before .before .before .before in
-    let a = s .args in
-    let k : c .before .before .before .before .before .before .before .before .before .before .before .before .before .before .before .before .args .run .kind ≡ c .before .before .before .before .before .before .before .before .before .before .before .before .before .before .before .before .args .kind = omega (arith, c .before .before .before .before .before .before .before .before .before .before .before .before .before .if1 .left, c .before .before .before .before .before .before .before .if4 .left) in
-    let e : c .before .before .before .before .before .before .before .before .before .before .before .place-at .result ≡ c .before .before .before .before .before .before .before .before .before .before .before .before .before .before .before .before .args .run .spot = omega (arith, c .before .before .before .before .before .if5 .left, c .before .before .if7 .left) in
-    says-twice (now (a .body)) (a .run) (a .at) (a .kind) (a .start) (s .pre .1 .1 .0) (s .pre .1 .1 .1) _ _ (c .before .before .before .before .before .before .before .before .before .before .before .before .weight-at .ensures) (c .before .before .before .before .before .before .before .before .before .before .before .place-at .ensures) (c .before .before .before .before .before .before .before .before .before .before .if2 .left) (c .before .before .before .before .before .before .before .before .before .if3 .left) k (c .before .before .before .before .if6 .left) e (not-true _ _ (c .before .repeated .ensures) (c .if8 .taken))
-
-add-n : tie.Need-add-n
-add-n c =
-    let s = c .before .before .before .before .before .before .before .before .before .before .before .before .before .before .before .before .before in
-    let k : c .before .before .before .before .before .before .before .before .before .before .before .before .before .before .before .before .before .args .run .kind ≡ c .before .before .before .before .before .before .before .before .before .before .before .before .before .before .before .before .before .args .kind = omega (arith, c .before .before .before .before .before .before .before .before .before .before .before .before .before .before .if1 .left, c .before .before .before .before .before .before .before .before .if4 .left) in
-    let d = c .before .before .before .before .before .if6 .left in
-    omega (arith, s .pre .1 .1 .1 (k ∙ d))
-
-returns-9 : tie.Need-returns-9
-returns-9 c =
-    let s = c .before .before .before .before .before .before .before .before .before .before .before .before .before .before .before .before .before in
-    let a = s .args in
-    let k : c .before .before .before .before .before .before .before .before .before .before .before .before .before .before .before .before .before .args .run .kind ≡ c .before .before .before .before .before .before .before .before .before .before .before .before .before .before .before .before .before .args .kind = omega (arith, c .before .before .before .before .before .before .before .before .before .before .before .before .before .before .if1 .left, c .before .before .before .before .before .before .before .before .if4 .left) in
-    let e : c .before .before .before .before .before .before .before .before .before .before .before .before .place-at .result ≡ c .before .before .before .before .before .before .before .before .before .before .before .before .before .before .before .before .before .args .run .spot = omega (arith, c .before .before .before .before .before .before .if5 .left, c .before .before .before .if7 .left) in
-    says-joins (now (a .body)) (a .run) (a .at) (a .kind) (a .start) (s .pre .1 .1 .0) (s .pre .1 .1 .1) _ _ (c .before .before .before .before .before .before .before .before .before .before .before .before .before .weight-at .ensures) (c .before .before .before .before .before .before .before .before .before .before .before .before .place-at .ensures) (c .before .before .before .before .before .before .before .before .before .before .before .if2 .left) (c .before .before .before .before .before .before .before .before .before .before .if3 .left) k (c .before .before .before .before .before .if6 .left) e (not-false _ _ (c .before .before .repeated .ensures) (c .before .if8 .left))
+    let s = c .before .before .before .before .before .before .before .before .before .before .before .before .before in
+    as-178 (now (s .args .body)) (s .args .run) (s .args .start) (s .args .kind) _ (c .before .if6 .left) (c .join .ensures)
 
 pub admit-spec : {M : Type 1} → statement M
 admit-spec =
     tie.close
-    (tie.spec returns (λ c κs. search needs) (λ c κs. search needs) returns-2 returns-3 returns-4 returns-5 returns-6 returns-7 repeated-requires returns-8 add-n returns-9)
+    (tie.spec returns (λ c κs. search needs) (λ c κs. search needs) returns-2 returns-3 returns-4 returns-5 returns-6 join-requires returns-7)
