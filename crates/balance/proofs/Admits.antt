@@ -158,7 +158,7 @@ module _ (run : Run) (r : Ref) where
       let l : leb 1 (r .weight) ≡ true = le-leb 1 (r .weight) (omega arith) in
       let n : run .kind ≡ 172 → ⊥ = (λ e. owner (sym q ∙ e)) in
       let o : place r ≤ run .spot = omega arith in
-          let b : leb (place r) (run .spot) ≡ true = le-leb _ _ o in
+      let b : leb (place r) (run .spot) ≡ true = le-leb _ _ o in
       let u : run .kind ≤ r .kind = omega arith in
       let v : r .kind ≤ run .kind = omega arith in
       (simp (j, le-ltb _ _ v, eq-eqb _ _ q, ne-eqb _ _ n, ne-eqb _ _ owner, lt-ltb _ _ h, b, l) (yes (eqb (run .kind) 178)), kept-alone j)

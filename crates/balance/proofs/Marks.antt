@@ -172,16 +172,17 @@ module _ (s : List ℕ) (g : Group) (at next : ℕ) (key : Key) (rec : T (isReco
           let r : readFrom inner from ≡ accepted (h .refs) = h .reads in
           let f : refsFrom inner from ≡ h .refs = ap refsRead r in
           let n : length inner ≡ next - (at + 21) = length-part (next - (at + 21)) (at + 21) s (omega arith) in
-          let y = taken-by (tallyOf s g) (itemOf s at next key) rec (bodyFrom (key .kind) inner (h .refs)) (read-refs (h .refs) r) m (h .passes) in
-          (y ∙ (λ i. some (record { extent = g .extent; marked = true; refs = sym f i; total = sym q i; weight = sym (h .sums) i })),
-          record {
-            body = λ _. record {
-              order = order;
-              inside = within;
-              begins = opened .inside;
-              reads = record { reads = read-is inner from (h .refs) r };
-              sorted = subst (λ (k : List Ref). T (ordered k)) (sym f) (sound-out 0 (h .refs) (h .passes) .order);
-              spans = λ z. absurd (z refl);
-            };
-            light = omega arith;
-          })
+          let y = taken-by (tallyOf s g) (itemOf s at next key) rec (bodyFrom (key .kind) inner (h .refs)) (read-refs (h .refs) r) m (h .passes) in (
+            y ∙ (λ i. some (record { extent = g .extent; marked = true; refs = sym f i; total = sym q i; weight = sym (h .sums) i })),
+            record {
+              body = λ _. record {
+                order = order;
+                inside = within;
+                begins = opened .inside;
+                reads = record { reads = read-is inner from (h .refs) r };
+                sorted = subst (λ (k : List Ref). T (ordered k)) (sym f) (sound-out 0 (h .refs) (h .passes) .order);
+                spans = λ z. absurd (z refl);
+              };
+              light = omega arith;
+            },
+          )

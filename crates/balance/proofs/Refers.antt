@@ -129,18 +129,19 @@ module _ (s : List ℕ) (g : Group) (at next : ℕ) (key : Key) (isRef : T (isRe
         pub name-good : (weight ≡ 0 → ⊥) → absentIn (bodyOf s g) span w ≡ true → Taking s g it next (Next weighed-group)
         unfolding Taking taken tallyOf
         name-good h a =
-            let z : leb 1 weight ≡ true = le-leb 1 weight (omega arith) in
-            (taken-is ∙ rw (absent-is ∙ a, z) (simp m refl),
-            record {
-              body = λ q.
-                  let b = k .body q in
-                  record {
-                    order = b .order;
-                    inside = b .inside;
-                    begins = b .begins;
-                    reads = b .reads;
-                    sorted = b .sorted;
-                    spans = λ z. sp;
-                  };
-              light = omega (arith, k .light);
-            })
+            let z : leb 1 weight ≡ true = le-leb 1 weight (omega arith) in (
+              taken-is ∙ rw (absent-is ∙ a, z) (simp m refl),
+              record {
+                body = λ q.
+                    let b = k .body q in
+                    record {
+                      order = b .order;
+                      inside = b .inside;
+                      begins = b .begins;
+                      reads = b .reads;
+                      sorted = b .sorted;
+                      spans = λ z. sp;
+                    };
+                light = omega (arith, k .light);
+              },
+            )

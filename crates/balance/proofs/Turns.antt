@@ -69,9 +69,10 @@ pub take-other : (s : List ℕ) (g : Group) (at next : ℕ) (key : Key) → at +
     → (key .kind ≡ 168 → ⊥) → (key .kind ≡ 169 → ⊥) → (key .kind ≡ 176 → ⊥) → (key .kind ≡ 178 → ⊥) → (key .kind ≡ 182 → ⊥) → (key .kind ≡ 184 → ⊥)
     → Taking s g (itemOf s at next key) next (Next g)
 unfolding Taking taken
-take-other s g at next key o k a b c d e f =
-    (ap (taken (tallyOf s g)) (other-view (itemOf s at next key) a b (λ t. go (naming-of (itemOf s at next key) t))),
-    record { body = k .body; light = omega (arith, k .light) })
+take-other s g at next key o k a b c d e f = (
+  ap (taken (tallyOf s g)) (other-view (itemOf s at next key) a b (λ t. go (naming-of (itemOf s at next key) t))),
+  record { body = k .body; light = omega (arith, k .light) },
+)
   where
     go : Kinds (key .kind) → ⊥
     go (is176 q) = c q
@@ -116,8 +117,11 @@ module _ (s : List ℕ) (g : Group) (at next : ℕ) (key : Key) (kis : key ≡ i
   unfolding Taking Turning
   turn-here Bad e h = λ rest. pass-here (tallyOf s g) (itemAt s at) rest (here-yes e)
       ∙ ap (λ (o : Option Tally). onward (pass rest) o) (ap (λ (i : Item). taken (tallyOf s g) (viewOf i)) (sym is-item) ∙ h)
-  turn-here (Next x) e h = ((λ rest. pass-here (tallyOf s g) (itemAt s at) rest (here-yes e)
-      ∙ ap (λ (o : Option Tally). onward (pass rest) o) (ap (λ (i : Item). taken (tallyOf s g) (viewOf i)) (sym is-item) ∙ h .0)), h .1)
+  turn-here (Next x) e h = (
+    (λ rest. pass-here (tallyOf s g) (itemAt s at) rest (here-yes e)
+        ∙ ap (λ (o : Option Tally). onward (pass rest) o) (ap (λ (i : Item). taken (tallyOf s g) (viewOf i)) (sym is-item) ∙ h .0)),
+    h .1,
+  )
 
   fresh-is : (f : Group) → f ≡ empty (key .objectid) → tallyOf s f ≡ fresh (itemAt s at .key .objectid)
   unfolding tallyOf
@@ -132,8 +136,11 @@ module _ (s : List ℕ) (g : Group) (at next : ℕ) (key : Key) (kis : key ≡ i
   unfolding Taking Turning
   turn-new f Bad e n c h = λ rest. pass-new (tallyOf s g) (itemAt s at) rest (here-no n) (closed-yes c)
       ∙ ap (λ (o : Option Tally). onward (pass rest) o) (ap₂ (λ (t : Tally) (i : Item). taken t (viewOf i)) (sym (fresh-is f e)) (sym is-item) ∙ h)
-  turn-new f (Next x) e n c h = ((λ rest. pass-new (tallyOf s g) (itemAt s at) rest (here-no n) (closed-yes c)
-      ∙ ap (λ (o : Option Tally). onward (pass rest) o) (ap₂ (λ (t : Tally) (i : Item). taken t (viewOf i)) (sym (fresh-is f e)) (sym is-item) ∙ h .0)), h .1)
+  turn-new f (Next x) e n c h = (
+    (λ rest. pass-new (tallyOf s g) (itemAt s at) rest (here-no n) (closed-yes c)
+        ∙ ap (λ (o : Option Tally). onward (pass rest) o) (ap₂ (λ (t : Tally) (i : Item). taken t (viewOf i)) (sym (fresh-is f e)) (sym is-item) ∙ h .0)),
+    h .1,
+  )
 
   pub turn-open : (key .objectid ≡ g .extent → ⊥) → (g .total ≡ g .weight → ⊥) → Turning s g (itemAt s at) next Bad
   unfolding Turning closed tallyOf

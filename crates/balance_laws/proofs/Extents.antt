@@ -167,14 +167,17 @@ module _ (t : Tally) (x : ℕ) (rest : List Item) (v : Valid t) (f : Far (t .ext
 
   pub leave : Of t rest → T (closed t) × Of (fresh x) rest
   unfolding closed refEntries
-  leave F = (yes-eqb (go (t .marked) refl), record {
-    goods = F .goods;
-    once = λ y. omega (arith, zero-cond (eqb x y), F .once y);
-    owned = λ y h. own y h (self-or y);
-    names = λ n. omega (arith, F .names n);
-    heavy = F .heavy;
-    totals = λ y h. tot y h (self-or y);
-  })
+  leave F = (
+    yes-eqb (go (t .marked) refl),
+    record {
+      goods = F .goods;
+      once = λ y. omega (arith, zero-cond (eqb x y), F .once y);
+      owned = λ y h. own y h (self-or y);
+      names = λ n. omega (arith, F .names n);
+      heavy = F .heavy;
+      totals = λ y h. tot y h (self-or y);
+    },
+  )
     where
       go : (c : Bool) → t .marked ≡ c → t .total ≡ t .weight
       go true q =

@@ -35,9 +35,10 @@ unfolding kindOf fieldsOf
 loop-again c =
     let s = c .before .before .before .before in
     let a = s .before .before .args in
-    let loop = c .before .before .before .loop in
-    (omega (arith, loop .inv .0, c .before .before .loop-test .taken),
-    clear-miss (now (a .body)) (a .at) (loop .p) (loop .left) _ (s .triple-at .ensures) _ (c .before .before .loop-test .taken) (c .before .names .ensures) (c .if1 .left) ∙ loop .inv .1)
+    let loop = c .before .before .before .loop in (
+      omega (arith, loop .inv .0, c .before .before .loop-test .taken),
+      clear-miss (now (a .body)) (a .at) (loop .p) (loop .left) _ (s .triple-at .ensures) _ (c .before .before .loop-test .taken) (c .before .names .ensures) (c .if1 .left) ∙ loop .inv .1,
+    )
 
 returns-2 : tie.Need-returns-2 Inv-loop μ-loop
 returns-2 c =

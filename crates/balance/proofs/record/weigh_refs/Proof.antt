@@ -26,9 +26,10 @@ loop-holds c = (weigh-start (now (c .before .args .body)) (c .before .args .star
 admit-requires : tie.Need-admit-requires Inv-loop μ-loop
 admit-requires c κs =
     let step = c .before .before .before in
-    let w = seen (now (step .before .before .before .args .body)) (step .before .loop .at) _ (sym (c .before .kind .given .1) ∙ step .step .ensures) in
-    (c .before .before .before .before .before .before .pre .0 .1,
-    ((w .kindKnown, omega (arith, w .start, w .further, w .within, w .long), w .place), (w .start, c .before .before .before .before .loop .inv .1 .0)))
+    let w = seen (now (step .before .before .before .args .body)) (step .before .loop .at) _ (sym (c .before .kind .given .1) ∙ step .step .ensures) in (
+      c .before .before .before .before .before .before .pre .0 .1,
+      ((w .kindKnown, omega (arith, w .start, w .further, w .within, w .long), w .place), (w .start, c .before .before .before .before .loop .inv .1 .0)),
+    )
 
 add-sum : tie.Need-add-sum Inv-loop μ-loop
 add-sum c =
@@ -48,9 +49,10 @@ loop-again c =
     let step = c .before .before .before .before .before .before .before in
     let w = seen (now (step .before .before .before .args .body)) (step .before .loop .at) _ (sym (c .before .before .before .before .before .kind .given .1) ∙ step .step .ensures) in
     let i = c .before .before .before .before .before .before .before .before .loop .inv in
-    let a = admitted-yes _ _ _ _ _ _ _ (c .before .grown .given .1) (c .before .before .before .admit .ensures) in
-    (weigh-step _ _ _ _ _ _ _ w _ _ _ _ (a .0) (a .1 .0) (a .1 .1 .1) ∙ i .0,
-    ((λ e. a .1 .1 .0 e ∙ omega (arith, w .start, w .further, w .long)), (omega (arith, i .1 .1 .0, w .further), w .within)))
+    let a = admitted-yes _ _ _ _ _ _ _ (c .before .grown .given .1) (c .before .before .before .admit .ensures) in (
+      weigh-step _ _ _ _ _ _ _ w _ _ _ _ (a .0) (a .1 .0) (a .1 .1 .1) ∙ i .0,
+      ((λ e. a .1 .1 .0 e ∙ omega (arith, w .start, w .further, w .long)), (omega (arith, i .1 .1 .0, w .further), w .within)),
+    )
 
 returns : tie.Need-returns Inv-loop μ-loop
 returns c =

@@ -34,9 +34,10 @@ turn-requires c κs =
     let i = c .before .before .before .before .before .before .loop .inv in
     let bytes = areBytes-in (now (s .args .sheet)) (λ i. c .before .before .before .before .before .before .before .before .before .before .shared-slice-known .given i .fits) in
     let m = rest-item _ _ _ _ (i .0 .rest) (sym (c .before .before .before .before .before .step-at .ensures) ∙ c .before .before .before .next .given .1) in
-    let w = m .whole in
-    ((c .before .before .before .before .before .before .before .before .before .rows .ensures, c .before .before .before .before .before .before .before .before .table .ensures),
-    ((omega arith, (w .within, (omega arith, omega (arith, sheet-short _ bytes (s .pre))))), (item-whole _ _ _ w, i .1)))
+    let w = m .whole in (
+      (c .before .before .before .before .before .before .before .before .before .rows .ensures, c .before .before .before .before .before .before .before .before .table .ensures),
+      ((omega arith, (w .within, (omega arith, omega (arith, sheet-short _ bytes (s .pre))))), (item-whole _ _ _ w, i .1)),
+    )
 
 loop-less : tie.Need-loop-less Inv-loop μ-loop
 loop-less c =
