@@ -186,6 +186,13 @@ uint32_t leaf_edit_item(
     uint64_t *start,
     uint64_t *len);
 
+uint32_t transaction_keyed_data_ref_names(
+    const uint8_t *item, size_t item_len,
+    uint64_t tree,
+    uint64_t objectid,
+    uint64_t offset,
+    uint64_t *names);
+
 uint32_t transaction_shared_add_item(
     uint8_t kind,
     uint32_t count,
@@ -240,7 +247,6 @@ uint32_t transaction_apply_shared_add(
  *   backref_drop_keyed_data_ref
  *   backref_keyed_data_ref_body
  *   transaction_held_only_by
- *   transaction_keyed_data_ref_names
  *   transaction_apply_shared_drop
  *   transaction_drop_kept_tree_ref
  *   ledger_post

@@ -41,6 +41,7 @@ pub const NAMES: &[&str] = &[
     "leaf_edit_split",
     "leaf_edit_split_to_fit",
     "leaf_edit_item",
+    "transaction_keyed_data_ref_names",
     "transaction_shared_add_item",
     "transaction_shared_add_inline_size",
     "transaction_max_inline_extent_item",
@@ -53,7 +54,6 @@ pub const NAMES: &[&str] = &[
     "backref_drop_keyed_data_ref",
     "backref_keyed_data_ref_body",
     "transaction_held_only_by",
-    "transaction_keyed_data_ref_names",
     "transaction_apply_shared_drop",
     "transaction_drop_kept_tree_ref",
     "ledger_post",
@@ -138,6 +138,9 @@ pub fn call(name: &str, args: &mut [Value<'_>]) -> Option<u64> {
         ("leaf_edit_item", [Bytes(sheet), Number(number), Lent(start), Lent(len)]) => {
             u64::from(lent::leaf_edit_item(sheet, *number, start, len))
         }
+        ("transaction_keyed_data_ref_names", [Bytes(item), Number(tree), Number(objectid), Number(offset), Lent(names)]) => {
+            u64::from(lent::transaction_keyed_data_ref_names(item, *tree, *objectid, *offset, names))
+        }
         ("transaction_shared_add_item", [Number(kind), Number(count), Out(out), Lent(len)]) => {
             u64::from(lent::transaction_shared_add_item(*kind as u8, *count as u32, out, len))
         }
@@ -173,9 +176,6 @@ pub fn call(name: &str, args: &mut [Value<'_>]) -> Option<u64> {
         }
         ("transaction_held_only_by", [Bytes(body), Number(root), Number(ino), Words(offsets), Lent(holds)]) => {
             u64::from(lent::transaction_held_only_by(body, *root, *ino, offsets, holds))
-        }
-        ("transaction_keyed_data_ref_names", [Bytes(item), Number(tree), Number(objectid), Number(offset), Lent(names)]) => {
-            u64::from(lent::transaction_keyed_data_ref_names(item, *tree, *objectid, *offset, names))
         }
         ("transaction_apply_shared_drop", [Bytes(sheet), Number(bytenr), Number(kind), Number(parent), Number(count), Number(as_item), Out(out), Lent(len)]) => {
             u64::from(lent::transaction_apply_shared_drop(sheet, *bytenr, *kind as u8, *parent, *count as u32, *as_item != 0, out, len))

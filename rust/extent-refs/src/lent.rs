@@ -409,6 +409,25 @@ pub fn leaf_edit_item(sheet: &[u8], number: u64, start: &mut u64, len: &mut u64)
     unsafe { raw::leaf_edit_item(sheet.as_ptr(), sheet.len(), number, start, len) }
 }
 
+pub fn transaction_keyed_data_ref_names(
+    item: &[u8],
+    tree: u64,
+    objectid: u64,
+    offset: u64,
+    names: &mut u64,
+) -> u32 {
+    unsafe {
+        raw::transaction_keyed_data_ref_names(
+            item.as_ptr(),
+            item.len(),
+            tree,
+            objectid,
+            offset,
+            names,
+        )
+    }
+}
+
 pub fn transaction_shared_add_item(kind: u8, count: u32, out: &mut [u8], len: &mut u64) -> u32 {
     unsafe { raw::transaction_shared_add_item(kind, count, out.as_mut_ptr(), out.len(), len) }
 }
@@ -610,25 +629,6 @@ pub fn transaction_held_only_by(
             offsets.as_ptr(),
             offsets.len(),
             holds,
-        )
-    }
-}
-
-pub fn transaction_keyed_data_ref_names(
-    item: &[u8],
-    tree: u64,
-    objectid: u64,
-    offset: u64,
-    names: &mut u64,
-) -> u32 {
-    unsafe {
-        raw::transaction_keyed_data_ref_names(
-            item.as_ptr(),
-            item.len(),
-            tree,
-            objectid,
-            offset,
-            names,
         )
     }
 }

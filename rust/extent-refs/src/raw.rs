@@ -210,6 +210,14 @@ extern "C" {
         start: *mut u64,
         len: *mut u64,
     ) -> u32;
+    pub fn transaction_keyed_data_ref_names(
+        item: *const u8,
+        item_len: usize,
+        tree: u64,
+        objectid: u64,
+        offset: u64,
+        names: *mut u64,
+    ) -> u32;
     pub fn transaction_shared_add_item(
         kind: u8,
         count: u32,
@@ -272,7 +280,6 @@ extern "C" {
 // waits: backref_drop_keyed_data_ref item:bytes tree:u64 objectid:u64 offset:u64 out:out len:lent
 // waits: backref_keyed_data_ref_body tree:u64 objectid:u64 offset:u64 count:u32 out:out len:lent
 // waits: transaction_held_only_by body:bytes root:u64 ino:u64 offsets:words holds:lent
-// waits: transaction_keyed_data_ref_names item:bytes tree:u64 objectid:u64 offset:u64 names:lent
 // waits: transaction_apply_shared_drop sheet:bytes bytenr:u64 kind:u8 parent:u64 count:u32 as_item:bool out:out len:lent
 // waits: transaction_drop_kept_tree_ref sheet:bytes bytenr:u64 level:u8 tree:u64 own:bool out:out len:lent
 // waits: ledger_post nodesize:u32 sheet:bytes change:u8 extent:u64 a:u64 b:u64 c:u64 amount:u32 out:out len:lent
@@ -323,14 +330,6 @@ extern "C" {
         offsets: *const u64,
         offsets_len: usize,
         holds: *mut u64,
-    ) -> u32;
-    pub fn transaction_keyed_data_ref_names(
-        item: *const u8,
-        item_len: usize,
-        tree: u64,
-        objectid: u64,
-        offset: u64,
-        names: *mut u64,
     ) -> u32;
     pub fn transaction_apply_shared_drop(
         sheet: *const u8,
