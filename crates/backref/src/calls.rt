@@ -4,10 +4,11 @@ use format::DataRef;
 use format::Edited;
 use format::Keyed;
 use format::SharedRef;
+use format::Taken;
 ghost use mathlib.Core.Path.{_≡_};
 ghost use lib.ListN.{length};
-ghost use Rattle.format.specs.Questions.{Answered};
-ghost use Rattle.format.specs.Bodies.{heldBody, raiseTotal, lowerTotal, reduceTotal, withFlags, dropInlineTreeRef, dropInlineDataRef, addInlineTreeRef, addInlineDataRef, addInlineShared, addInlineKeyed};
+ghost use Rattle.format.specs.Questions.{Answered, AnsweredTaken};
+ghost use Rattle.format.specs.Bodies.{heldBody, raiseTotal, lowerTotal, reduceTotal, withFlags, dropInlineTreeRef, dropInlineDataRef, addInlineTreeRef, addInlineDataRef, addInlineShared, addInlineKeyed, heldTaken, takeInlineShared};
 
 pub fn raise_total(body: &[u8], amount: u64, out: &mut [u8]) -> Edited
     ensures { λ r. ⌜ Answered (heldBody (length (now (out .entry))) (raiseTotal (now (body .entry)) amount)) r (now (out .entry)) (now (out .exit)) ⌝ }
@@ -89,4 +90,11 @@ pub fn add_inline_keyed(
 {
     let plan = crate::plans::plan_add_keyed_name(item_type, body, keyed, count);
     backref_plan::write_plan(body, plan, out)
+}
+
+pub fn take_inline_shared(item_type: u8, body: &[u8], name: SharedRef, out: &mut [u8]) -> Taken
+    ensures { λ r. ⌜ AnsweredTaken (heldTaken (length (now (out .entry))) (takeInlineShared «item_type» (now (body .entry)) name)) r (now (out .entry)) (now (out .exit)) ⌝ }
+{
+    let plan = crate::plans::plan_take_shared(item_type, body, name);
+    backref_plan::write_taken(body, plan, out)
 }

@@ -1,6 +1,7 @@
 // The calls on bodies: each plans its edit and writes it.
 mod asks;
 mod calls;
+mod keyed;
 mod plans;
 
 pub use asks::flags;
@@ -14,10 +15,14 @@ pub use calls::drop_inline_tree_ref;
 pub use calls::lower_total;
 pub use calls::raise_total;
 pub use calls::reduce_total;
+pub use calls::take_inline_shared;
 pub use calls::with_flags;
+pub use keyed::drop_keyed_data_ref;
+pub use keyed::keyed_data_ref_body;
 pub use plans::plan_add_data;
 pub use plans::plan_add_keyed_name;
 pub use plans::plan_add_shared;
 pub use plans::plan_add_tree;
 pub use plans::plan_drop_data;
 pub use plans::plan_drop_tree;
+pub use plans::plan_take_shared;

@@ -6,8 +6,8 @@ use format::Keyed;
 use format::SharedRef;
 use inline_refs::Wanted;
 ghost use mathlib.Core.Path.{_≡_};
-ghost use Rattle.format.specs.Bodies.{dropInlineTreeRef, dropInlineDataRef, addInlineTreeRef, addInlineData, addInlineShared, addInlineKeyed};
-ghost use Rattle.backref_plan.specs.Plans.{Planned};
+ghost use Rattle.format.specs.Bodies.{dropInlineTreeRef, dropInlineDataRef, addInlineTreeRef, addInlineData, addInlineShared, addInlineKeyed, takeInlineShared};
+ghost use Rattle.backref_plan.specs.Plans.{Planned, PlannedTaken};
 
 pub fn plan_drop_tree(item_type: u8, body: &[u8], name: BlockRef) -> Plan
     ensures { λ r. ⌜ Planned r (now (body .entry)) (dropInlineTreeRef «item_type» (now (body .entry)) name) ⌝ }
@@ -59,4 +59,16 @@ pub fn plan_add_keyed_name(item_type: u8, body: &[u8], keyed: Keyed, count: u32)
             backref_plan::plan_add_keyed(item_type, body, Wanted::Data(name), 0, count)
         }
     }
+}
+
+pub fn plan_take_shared(item_type: u8, body: &[u8], name: SharedRef) -> Plan
+    ensures { λ r. ⌜ PlannedTaken r (now (body .entry)) (takeInlineShared «item_type» (now (body .entry)) name) ⌝ }
+{
+    if name.kind == 182 {
+        return backref_plan::plan_take_inline(item_type, body, Wanted::SharedBlock(name.parent));
+    }
+    if name.kind == 184 {
+        return backref_plan::plan_take_inline(item_type, body, Wanted::SharedData(name.parent));
+    }
+    backref_plan::refuse(3)
 }

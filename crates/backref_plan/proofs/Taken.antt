@@ -74,11 +74,14 @@ wrote-taken p body room e r old new w h = record {
 -- ---- the contract of such a plan
 
 module _ (p : Plan) (body : List ℕ) where
-  taken-refused : (answer : Answer TakenOut) (n : ℕ) → p .outcome ≡ Refused n → answer ≡ refused n → PlannedTaken p body answer
+  pub taken-refused : (answer : Answer TakenOut) (n : ℕ) → p .outcome ≡ Refused n → answer ≡ refused n → PlannedTaken p body answer
   unfolding planTaken bind
   taken-refused answer n o e =
       let h = plan-refused p body (refused n) n o refl in
       record { says = ap (λ (a : Answer (List ℕ)). bind a (with-count (p .count))) (h .says) ∙ sym e; inside = h .inside }
+
+  pub taken-same : (answer other : Answer TakenOut) → answer ≡ other → PlannedTaken p body answer → PlannedTaken p body other
+  taken-same answer other e h = record { says = h .says ∙ e; inside = h .inside }
 
   taken-absent : (answer : Answer TakenOut) → p .outcome ≡ Absent → answer ≡ absent → PlannedTaken p body answer
   unfolding planTaken bind
