@@ -2,13 +2,12 @@
 use mathlib.Core.Path.{_≡_, refl, sym, ap, _∙_, subst}
 use mathlib.Core.List.{List, [], _∷_}
 use Prim.Native.Nat.{ℕ, _-_, _/_, _≤_, _<_}
-use lib.ListN.{length}
-use borrow.Author.Tests.{eq-eqb, ne-eqb, le-leb, lt-leb}
+use borrow.Author.Tests.{ne-eqb, le-leb, lt-leb}
 use Rattle.fields.specs.Numbers.{leBytes}
 use Rattle.fields.specs.Parts.{written}
 use Rattle.format.specs.declared.Edited.{Edited}
 use Rattle.format.specs.declared.Told.the-variants.{Value, Refused as Untold}
-use Rattle.format.specs.Questions.{Answer, refused, accepted, ask, bind, held, toldOf, Answered}
+use Rattle.format.specs.Questions.{refused, accepted, ask, bind, held, toldOf, Answered}
 use Rattle.format.specs.Bodies.{heldBody, sharedKind, sharedAddItem, sharedAddInlineSize}
 use Rattle.format.specs.Items.{nodesizeFits}
 use Rattle.format.specs.Apply.{inlineLimit, maxInlineExtentItem}
