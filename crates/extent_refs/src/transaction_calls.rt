@@ -1,6 +1,6 @@
 // References in bodies and in item lists: the calls of `transaction.rs`.
 ghost use lib.ListN.{length};
-ghost use Rattle.format.specs.Bodies.{heldBody, keyedDataRefNames, sharedAddItem, sharedAddInlineSize};
+ghost use Rattle.format.specs.Bodies.{heldBody, heldOnlyBy, keyedDataRefNames, sharedAddItem, sharedAddInlineSize};
 ghost use Rattle.format.specs.Items.{heldSheet};
 ghost use Rattle.format.specs.Apply.{maxInlineExtentItem, recordNumber, applyKeyedAddTo, applySharedAddTo};
 ghost use Rattle.extent_refs.specs.Exports.{Coded, CodedBool, CodedNumber};
@@ -9,6 +9,20 @@ use format::BlockRef;
 use format::DataRef;
 use format::Keyed;
 use format::SharedRef;
+
+#[no_mangle]
+pub extern "C" fn transaction_held_only_by(
+    body: &[u8],
+    root: u64,
+    ino: u64,
+    offsets: &[u64],
+    holds: &mut u64,
+) -> u32
+    ensures { λ r. ⌜ CodedBool (heldOnlyBy (now (body .entry)) root ino (now (offsets .entry))) r (now (holds .exit)) ⌝ }
+{
+    let answer = transaction_bodies::held_only_by(body, root, ino, offsets);
+    codes::put_judged(answer, holds)
+}
 
 #[no_mangle]
 pub extern "C" fn transaction_keyed_data_ref_names(
