@@ -18,6 +18,15 @@ extern "C" {
 
 uint32_t backref_flags(const uint8_t *body, size_t body_len, uint64_t *value);
 
+uint32_t backref_take_inline_shared(
+    uint8_t item_type,
+    const uint8_t *body, size_t body_len,
+    uint8_t kind,
+    uint64_t parent,
+    uint8_t *out, size_t out_len,
+    uint64_t *len,
+    uint64_t *count);
+
 uint32_t backref_add_inline_keyed_block(
     uint8_t item_type,
     const uint8_t *body, size_t body_len,
@@ -39,6 +48,14 @@ uint32_t backref_add_inline_keyed_data(
 uint32_t backref_drop_inline_data_ref(
     uint8_t item_type,
     const uint8_t *body, size_t body_len,
+    uint64_t tree,
+    uint64_t objectid,
+    uint64_t offset,
+    uint8_t *out, size_t out_len,
+    uint64_t *len);
+
+uint32_t backref_drop_keyed_data_ref(
+    const uint8_t *item, size_t item_len,
     uint64_t tree,
     uint64_t objectid,
     uint64_t offset,
@@ -86,6 +103,14 @@ uint32_t backref_add_inline_tree_ref(
     uint8_t item_type,
     const uint8_t *body, size_t body_len,
     uint64_t tree,
+    uint8_t *out, size_t out_len,
+    uint64_t *len);
+
+uint32_t backref_keyed_data_ref_body(
+    uint64_t tree,
+    uint64_t objectid,
+    uint64_t offset,
+    uint32_t count,
     uint8_t *out, size_t out_len,
     uint64_t *len);
 
@@ -186,6 +211,20 @@ uint32_t leaf_edit_item(
     uint64_t *start,
     uint64_t *len);
 
+uint32_t transaction_held_only_by(
+    const uint8_t *body, size_t body_len,
+    uint64_t root,
+    uint64_t ino,
+    const uint64_t *offsets, size_t offsets_len,
+    uint64_t *holds);
+
+uint32_t transaction_keyed_data_ref_names(
+    const uint8_t *item, size_t item_len,
+    uint64_t tree,
+    uint64_t objectid,
+    uint64_t offset,
+    uint64_t *names);
+
 uint32_t transaction_shared_add_item(
     uint8_t kind,
     uint32_t count,
@@ -236,11 +275,6 @@ uint32_t transaction_apply_shared_add(
 
 /* Not exported yet:
  *   backref_inline_refs
- *   backref_take_inline_shared
- *   backref_drop_keyed_data_ref
- *   backref_keyed_data_ref_body
- *   transaction_held_only_by
- *   transaction_keyed_data_ref_names
  *   transaction_apply_shared_drop
  *   transaction_drop_kept_tree_ref
  *   ledger_post

@@ -1,7 +1,8 @@
 // Bodies: the calls of `backref.rs`.
 ghost use lib.ListN.{length};
-ghost use Rattle.format.specs.Bodies.{heldBody, flags, addInlineKeyed, dropInlineDataRef, lowerTotal, reduceTotal, raiseTotal, holdsInlineDataRef, addInlineDataRef, addInlineTreeRef, addInlineShared, dropInlineTreeRef, withFlags};
-ghost use Rattle.extent_refs.specs.Exports.{Coded, CodedBool, CodedNumber};
+ghost use Rattle.format.specs.Questions.{accepted};
+ghost use Rattle.format.specs.Bodies.{heldBody, heldTaken, flags, takeInlineShared, addInlineKeyed, dropInlineDataRef, dropKeyedDataRef, lowerTotal, reduceTotal, raiseTotal, holdsInlineDataRef, addInlineDataRef, addInlineTreeRef, keyedDataRefBody, addInlineShared, dropInlineTreeRef, withFlags};
+ghost use Rattle.extent_refs.specs.Exports.{Coded, CodedBool, CodedNumber, CodedTaken};
 use super::codes;
 use format::BlockRef;
 use format::DataRef;
@@ -14,6 +15,22 @@ pub extern "C" fn backref_flags(body: &[u8], value: &mut u64) -> u32
 {
     let answer = backref::flags(body);
     codes::put_told(answer, value)
+}
+
+#[no_mangle]
+pub extern "C" fn backref_take_inline_shared(
+    item_type: u8,
+    body: &[u8],
+    kind: u8,
+    parent: u64,
+    out: &mut [u8],
+    len: &mut u64,
+    count: &mut u64,
+) -> u32
+    ensures { λ r. ⌜ CodedTaken (heldTaken (length (now (out .entry))) (takeInlineShared «item_type» (now (body .entry)) (record { kind = kind; parent = parent }))) r (now (len .exit)) (now (count .exit)) (now (out .entry)) (now (out .exit)) ⌝ }
+{
+    let answer = backref::take_inline_shared(item_type, body, SharedRef { kind, parent }, out);
+    codes::put_taken(answer, len, count)
 }
 
 #[no_mangle]
@@ -79,6 +96,29 @@ pub extern "C" fn backref_drop_inline_data_ref(
     let answer = backref::drop_inline_data_ref(
         item_type,
         body,
+        DataRef {
+            tree,
+            objectid,
+            offset,
+        },
+        out,
+    );
+    codes::put_edited(answer, len)
+}
+
+#[no_mangle]
+pub extern "C" fn backref_drop_keyed_data_ref(
+    item: &[u8],
+    tree: u64,
+    objectid: u64,
+    offset: u64,
+    out: &mut [u8],
+    len: &mut u64,
+) -> u32
+    ensures { λ r. ⌜ Coded (heldBody (length (now (out .entry))) (dropKeyedDataRef (now (item .entry)) (record { tree = tree; objectid = objectid; offset = offset }))) r (now (len .exit)) (now (out .entry)) (now (out .exit)) ⌝ }
+{
+    let answer = backref::drop_keyed_data_ref(
+        item,
         DataRef {
             tree,
             objectid,
@@ -189,6 +229,29 @@ pub extern "C" fn backref_add_inline_tree_ref(
     ensures { λ r. ⌜ Coded (heldBody (length (now (out .entry))) (addInlineTreeRef «item_type» (now (body .entry)) (record { tree = tree }))) r (now (len .exit)) (now (out .entry)) (now (out .exit)) ⌝ }
 {
     let answer = backref::add_inline_tree_ref(item_type, body, tree, out);
+    codes::put_edited(answer, len)
+}
+
+#[no_mangle]
+pub extern "C" fn backref_keyed_data_ref_body(
+    tree: u64,
+    objectid: u64,
+    offset: u64,
+    count: u32,
+    out: &mut [u8],
+    len: &mut u64,
+) -> u32
+    ensures { λ r. ⌜ Coded (heldBody (length (now (out .entry))) (accepted (keyedDataRefBody (record { tree = tree; objectid = objectid; offset = offset }) count))) r (now (len .exit)) (now (out .entry)) (now (out .exit)) ⌝ }
+{
+    let answer = backref::keyed_data_ref_body(
+        DataRef {
+            tree,
+            objectid,
+            offset,
+        },
+        count,
+        out,
+    );
     codes::put_edited(answer, len)
 }
 

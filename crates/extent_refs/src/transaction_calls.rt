@@ -1,14 +1,49 @@
 // References in bodies and in item lists: the calls of `transaction.rs`.
 ghost use lib.ListN.{length};
-ghost use Rattle.format.specs.Bodies.{heldBody, sharedAddItem, sharedAddInlineSize};
+ghost use Rattle.format.specs.Bodies.{heldBody, heldOnlyBy, keyedDataRefNames, sharedAddItem, sharedAddInlineSize};
 ghost use Rattle.format.specs.Items.{heldSheet};
 ghost use Rattle.format.specs.Apply.{maxInlineExtentItem, recordNumber, applyKeyedAddTo, applySharedAddTo};
-ghost use Rattle.extent_refs.specs.Exports.{Coded, CodedNumber};
+ghost use Rattle.extent_refs.specs.Exports.{Coded, CodedBool, CodedNumber};
 use super::codes;
 use format::BlockRef;
 use format::DataRef;
 use format::Keyed;
 use format::SharedRef;
+
+#[no_mangle]
+pub extern "C" fn transaction_held_only_by(
+    body: &[u8],
+    root: u64,
+    ino: u64,
+    offsets: &[u64],
+    holds: &mut u64,
+) -> u32
+    ensures { λ r. ⌜ CodedBool (heldOnlyBy (now (body .entry)) root ino (now (offsets .entry))) r (now (holds .exit)) ⌝ }
+{
+    let answer = transaction_bodies::held_only_by(body, root, ino, offsets);
+    codes::put_judged(answer, holds)
+}
+
+#[no_mangle]
+pub extern "C" fn transaction_keyed_data_ref_names(
+    item: &[u8],
+    tree: u64,
+    objectid: u64,
+    offset: u64,
+    names: &mut u64,
+) -> u32
+    ensures { λ r. ⌜ CodedBool (keyedDataRefNames (now (item .entry)) (record { tree = tree; objectid = objectid; offset = offset })) r (now (names .exit)) ⌝ }
+{
+    let answer = transaction_bodies::keyed_data_ref_names(
+        item,
+        DataRef {
+            tree,
+            objectid,
+            offset,
+        },
+    );
+    codes::put_judged(answer, names)
+}
 
 #[no_mangle]
 pub extern "C" fn transaction_shared_add_item(

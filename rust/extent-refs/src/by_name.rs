@@ -17,15 +17,18 @@ pub enum Value<'a> {
 /// Every declared call.
 pub const NAMES: &[&str] = &[
     "backref_flags",
+    "backref_take_inline_shared",
     "backref_add_inline_keyed_block",
     "backref_add_inline_keyed_data",
     "backref_drop_inline_data_ref",
+    "backref_drop_keyed_data_ref",
     "backref_lower_total",
     "backref_reduce_total",
     "backref_raise_total",
     "backref_holds_inline_data_ref",
     "backref_add_inline_data_ref",
     "backref_add_inline_tree_ref",
+    "backref_keyed_data_ref_body",
     "backref_add_inline_shared",
     "backref_drop_inline_tree_ref",
     "backref_with_flags",
@@ -41,6 +44,8 @@ pub const NAMES: &[&str] = &[
     "leaf_edit_split",
     "leaf_edit_split_to_fit",
     "leaf_edit_item",
+    "transaction_held_only_by",
+    "transaction_keyed_data_ref_names",
     "transaction_shared_add_item",
     "transaction_shared_add_inline_size",
     "transaction_max_inline_extent_item",
@@ -49,11 +54,6 @@ pub const NAMES: &[&str] = &[
     "transaction_apply_keyed_add_data",
     "transaction_apply_shared_add",
     "backref_inline_refs",
-    "backref_take_inline_shared",
-    "backref_drop_keyed_data_ref",
-    "backref_keyed_data_ref_body",
-    "transaction_held_only_by",
-    "transaction_keyed_data_ref_names",
     "transaction_apply_shared_drop",
     "transaction_drop_kept_tree_ref",
     "ledger_post",
@@ -66,6 +66,9 @@ pub fn call(name: &str, args: &mut [Value<'_>]) -> Option<u64> {
         ("backref_flags", [Bytes(body), Lent(value)]) => {
             u64::from(lent::backref_flags(body, value))
         }
+        ("backref_take_inline_shared", [Number(item_type), Bytes(body), Number(kind), Number(parent), Out(out), Lent(len), Lent(count)]) => {
+            u64::from(lent::backref_take_inline_shared(*item_type as u8, body, *kind as u8, *parent, out, len, count))
+        }
         ("backref_add_inline_keyed_block", [Number(item_type), Bytes(body), Number(tree), Number(count), Out(out), Lent(len)]) => {
             u64::from(lent::backref_add_inline_keyed_block(*item_type as u8, body, *tree, *count as u32, out, len))
         }
@@ -74,6 +77,9 @@ pub fn call(name: &str, args: &mut [Value<'_>]) -> Option<u64> {
         }
         ("backref_drop_inline_data_ref", [Number(item_type), Bytes(body), Number(tree), Number(objectid), Number(offset), Out(out), Lent(len)]) => {
             u64::from(lent::backref_drop_inline_data_ref(*item_type as u8, body, *tree, *objectid, *offset, out, len))
+        }
+        ("backref_drop_keyed_data_ref", [Bytes(item), Number(tree), Number(objectid), Number(offset), Out(out), Lent(len)]) => {
+            u64::from(lent::backref_drop_keyed_data_ref(item, *tree, *objectid, *offset, out, len))
         }
         ("backref_lower_total", [Number(item_type), Bytes(body), Out(out), Lent(len)]) => {
             u64::from(lent::backref_lower_total(*item_type as u8, body, out, len))
@@ -92,6 +98,9 @@ pub fn call(name: &str, args: &mut [Value<'_>]) -> Option<u64> {
         }
         ("backref_add_inline_tree_ref", [Number(item_type), Bytes(body), Number(tree), Out(out), Lent(len)]) => {
             u64::from(lent::backref_add_inline_tree_ref(*item_type as u8, body, *tree, out, len))
+        }
+        ("backref_keyed_data_ref_body", [Number(tree), Number(objectid), Number(offset), Number(count), Out(out), Lent(len)]) => {
+            u64::from(lent::backref_keyed_data_ref_body(*tree, *objectid, *offset, *count as u32, out, len))
         }
         ("backref_add_inline_shared", [Number(item_type), Bytes(body), Number(kind), Number(parent), Number(count), Out(out), Lent(len)]) => {
             u64::from(lent::backref_add_inline_shared(*item_type as u8, body, *kind as u8, *parent, *count as u32, out, len))
@@ -138,6 +147,12 @@ pub fn call(name: &str, args: &mut [Value<'_>]) -> Option<u64> {
         ("leaf_edit_item", [Bytes(sheet), Number(number), Lent(start), Lent(len)]) => {
             u64::from(lent::leaf_edit_item(sheet, *number, start, len))
         }
+        ("transaction_held_only_by", [Bytes(body), Number(root), Number(ino), Words(offsets), Lent(holds)]) => {
+            u64::from(lent::transaction_held_only_by(body, *root, *ino, offsets, holds))
+        }
+        ("transaction_keyed_data_ref_names", [Bytes(item), Number(tree), Number(objectid), Number(offset), Lent(names)]) => {
+            u64::from(lent::transaction_keyed_data_ref_names(item, *tree, *objectid, *offset, names))
+        }
         ("transaction_shared_add_item", [Number(kind), Number(count), Out(out), Lent(len)]) => {
             u64::from(lent::transaction_shared_add_item(*kind as u8, *count as u32, out, len))
         }
@@ -161,21 +176,6 @@ pub fn call(name: &str, args: &mut [Value<'_>]) -> Option<u64> {
         }
         ("backref_inline_refs", [Number(item_type), Bytes(body), Cuts(positions), Lent(count)]) => {
             u64::from(lent::backref_inline_refs(*item_type as u8, body, positions, count))
-        }
-        ("backref_take_inline_shared", [Number(item_type), Bytes(body), Number(kind), Number(parent), Out(out), Lent(len), Lent(count)]) => {
-            u64::from(lent::backref_take_inline_shared(*item_type as u8, body, *kind as u8, *parent, out, len, count))
-        }
-        ("backref_drop_keyed_data_ref", [Bytes(item), Number(tree), Number(objectid), Number(offset), Out(out), Lent(len)]) => {
-            u64::from(lent::backref_drop_keyed_data_ref(item, *tree, *objectid, *offset, out, len))
-        }
-        ("backref_keyed_data_ref_body", [Number(tree), Number(objectid), Number(offset), Number(count), Out(out), Lent(len)]) => {
-            u64::from(lent::backref_keyed_data_ref_body(*tree, *objectid, *offset, *count as u32, out, len))
-        }
-        ("transaction_held_only_by", [Bytes(body), Number(root), Number(ino), Words(offsets), Lent(holds)]) => {
-            u64::from(lent::transaction_held_only_by(body, *root, *ino, offsets, holds))
-        }
-        ("transaction_keyed_data_ref_names", [Bytes(item), Number(tree), Number(objectid), Number(offset), Lent(names)]) => {
-            u64::from(lent::transaction_keyed_data_ref_names(item, *tree, *objectid, *offset, names))
         }
         ("transaction_apply_shared_drop", [Bytes(sheet), Number(bytenr), Number(kind), Number(parent), Number(count), Number(as_item), Out(out), Lent(len)]) => {
             u64::from(lent::transaction_apply_shared_drop(sheet, *bytenr, *kind as u8, *parent, *count as u32, *as_item != 0, out, len))

@@ -11,6 +11,30 @@ pub fn backref_flags(body: &[u8], value: &mut u64) -> u32 {
     unsafe { raw::backref_flags(body.as_ptr(), body.len(), value) }
 }
 
+pub fn backref_take_inline_shared(
+    item_type: u8,
+    body: &[u8],
+    kind: u8,
+    parent: u64,
+    out: &mut [u8],
+    len: &mut u64,
+    count: &mut u64,
+) -> u32 {
+    unsafe {
+        raw::backref_take_inline_shared(
+            item_type,
+            body.as_ptr(),
+            body.len(),
+            kind,
+            parent,
+            out.as_mut_ptr(),
+            out.len(),
+            len,
+            count,
+        )
+    }
+}
+
 pub fn backref_add_inline_keyed_block(
     item_type: u8,
     body: &[u8],
@@ -73,6 +97,28 @@ pub fn backref_drop_inline_data_ref(
             item_type,
             body.as_ptr(),
             body.len(),
+            tree,
+            objectid,
+            offset,
+            out.as_mut_ptr(),
+            out.len(),
+            len,
+        )
+    }
+}
+
+pub fn backref_drop_keyed_data_ref(
+    item: &[u8],
+    tree: u64,
+    objectid: u64,
+    offset: u64,
+    out: &mut [u8],
+    len: &mut u64,
+) -> u32 {
+    unsafe {
+        raw::backref_drop_keyed_data_ref(
+            item.as_ptr(),
+            item.len(),
             tree,
             objectid,
             offset,
@@ -194,6 +240,27 @@ pub fn backref_add_inline_tree_ref(
             body.as_ptr(),
             body.len(),
             tree,
+            out.as_mut_ptr(),
+            out.len(),
+            len,
+        )
+    }
+}
+
+pub fn backref_keyed_data_ref_body(
+    tree: u64,
+    objectid: u64,
+    offset: u64,
+    count: u32,
+    out: &mut [u8],
+    len: &mut u64,
+) -> u32 {
+    unsafe {
+        raw::backref_keyed_data_ref_body(
+            tree,
+            objectid,
+            offset,
+            count,
             out.as_mut_ptr(),
             out.len(),
             len,
@@ -409,6 +476,45 @@ pub fn leaf_edit_item(sheet: &[u8], number: u64, start: &mut u64, len: &mut u64)
     unsafe { raw::leaf_edit_item(sheet.as_ptr(), sheet.len(), number, start, len) }
 }
 
+pub fn transaction_held_only_by(
+    body: &[u8],
+    root: u64,
+    ino: u64,
+    offsets: &[u64],
+    holds: &mut u64,
+) -> u32 {
+    unsafe {
+        raw::transaction_held_only_by(
+            body.as_ptr(),
+            body.len(),
+            root,
+            ino,
+            offsets.as_ptr(),
+            offsets.len(),
+            holds,
+        )
+    }
+}
+
+pub fn transaction_keyed_data_ref_names(
+    item: &[u8],
+    tree: u64,
+    objectid: u64,
+    offset: u64,
+    names: &mut u64,
+) -> u32 {
+    unsafe {
+        raw::transaction_keyed_data_ref_names(
+            item.as_ptr(),
+            item.len(),
+            tree,
+            objectid,
+            offset,
+            names,
+        )
+    }
+}
+
 pub fn transaction_shared_add_item(kind: u8, count: u32, out: &mut [u8], len: &mut u64) -> u32 {
     unsafe { raw::transaction_shared_add_item(kind, count, out.as_mut_ptr(), out.len(), len) }
 }
@@ -523,112 +629,6 @@ pub fn backref_inline_refs(
             positions.as_mut_ptr(),
             positions.len(),
             count,
-        )
-    }
-}
-
-pub fn backref_take_inline_shared(
-    item_type: u8,
-    body: &[u8],
-    kind: u8,
-    parent: u64,
-    out: &mut [u8],
-    len: &mut u64,
-    count: &mut u64,
-) -> u32 {
-    unsafe {
-        raw::backref_take_inline_shared(
-            item_type,
-            body.as_ptr(),
-            body.len(),
-            kind,
-            parent,
-            out.as_mut_ptr(),
-            out.len(),
-            len,
-            count,
-        )
-    }
-}
-
-pub fn backref_drop_keyed_data_ref(
-    item: &[u8],
-    tree: u64,
-    objectid: u64,
-    offset: u64,
-    out: &mut [u8],
-    len: &mut u64,
-) -> u32 {
-    unsafe {
-        raw::backref_drop_keyed_data_ref(
-            item.as_ptr(),
-            item.len(),
-            tree,
-            objectid,
-            offset,
-            out.as_mut_ptr(),
-            out.len(),
-            len,
-        )
-    }
-}
-
-pub fn backref_keyed_data_ref_body(
-    tree: u64,
-    objectid: u64,
-    offset: u64,
-    count: u32,
-    out: &mut [u8],
-    len: &mut u64,
-) -> u32 {
-    unsafe {
-        raw::backref_keyed_data_ref_body(
-            tree,
-            objectid,
-            offset,
-            count,
-            out.as_mut_ptr(),
-            out.len(),
-            len,
-        )
-    }
-}
-
-pub fn transaction_held_only_by(
-    body: &[u8],
-    root: u64,
-    ino: u64,
-    offsets: &[u64],
-    holds: &mut u64,
-) -> u32 {
-    unsafe {
-        raw::transaction_held_only_by(
-            body.as_ptr(),
-            body.len(),
-            root,
-            ino,
-            offsets.as_ptr(),
-            offsets.len(),
-            holds,
-        )
-    }
-}
-
-pub fn transaction_keyed_data_ref_names(
-    item: &[u8],
-    tree: u64,
-    objectid: u64,
-    offset: u64,
-    names: &mut u64,
-) -> u32 {
-    unsafe {
-        raw::transaction_keyed_data_ref_names(
-            item.as_ptr(),
-            item.len(),
-            tree,
-            objectid,
-            offset,
-            names,
         )
     }
 }

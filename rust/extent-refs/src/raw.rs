@@ -4,6 +4,17 @@
 
 extern "C" {
     pub fn backref_flags(body: *const u8, body_len: usize, value: *mut u64) -> u32;
+    pub fn backref_take_inline_shared(
+        item_type: u8,
+        body: *const u8,
+        body_len: usize,
+        kind: u8,
+        parent: u64,
+        out: *mut u8,
+        out_len: usize,
+        len: *mut u64,
+        count: *mut u64,
+    ) -> u32;
     pub fn backref_add_inline_keyed_block(
         item_type: u8,
         body: *const u8,
@@ -30,6 +41,16 @@ extern "C" {
         item_type: u8,
         body: *const u8,
         body_len: usize,
+        tree: u64,
+        objectid: u64,
+        offset: u64,
+        out: *mut u8,
+        out_len: usize,
+        len: *mut u64,
+    ) -> u32;
+    pub fn backref_drop_keyed_data_ref(
+        item: *const u8,
+        item_len: usize,
         tree: u64,
         objectid: u64,
         offset: u64,
@@ -88,6 +109,15 @@ extern "C" {
         body: *const u8,
         body_len: usize,
         tree: u64,
+        out: *mut u8,
+        out_len: usize,
+        len: *mut u64,
+    ) -> u32;
+    pub fn backref_keyed_data_ref_body(
+        tree: u64,
+        objectid: u64,
+        offset: u64,
+        count: u32,
         out: *mut u8,
         out_len: usize,
         len: *mut u64,
@@ -210,6 +240,23 @@ extern "C" {
         start: *mut u64,
         len: *mut u64,
     ) -> u32;
+    pub fn transaction_held_only_by(
+        body: *const u8,
+        body_len: usize,
+        root: u64,
+        ino: u64,
+        offsets: *const u64,
+        offsets_len: usize,
+        holds: *mut u64,
+    ) -> u32;
+    pub fn transaction_keyed_data_ref_names(
+        item: *const u8,
+        item_len: usize,
+        tree: u64,
+        objectid: u64,
+        offset: u64,
+        names: *mut u64,
+    ) -> u32;
     pub fn transaction_shared_add_item(
         kind: u8,
         count: u32,
@@ -268,11 +315,6 @@ extern "C" {
 
 // Declared, but not exported by the source yet. build.rs gives each a stand-in.
 // waits: backref_inline_refs item_type:u8 body:bytes positions:cuts count:lent
-// waits: backref_take_inline_shared item_type:u8 body:bytes kind:u8 parent:u64 out:out len:lent count:lent
-// waits: backref_drop_keyed_data_ref item:bytes tree:u64 objectid:u64 offset:u64 out:out len:lent
-// waits: backref_keyed_data_ref_body tree:u64 objectid:u64 offset:u64 count:u32 out:out len:lent
-// waits: transaction_held_only_by body:bytes root:u64 ino:u64 offsets:words holds:lent
-// waits: transaction_keyed_data_ref_names item:bytes tree:u64 objectid:u64 offset:u64 names:lent
 // waits: transaction_apply_shared_drop sheet:bytes bytenr:u64 kind:u8 parent:u64 count:u32 as_item:bool out:out len:lent
 // waits: transaction_drop_kept_tree_ref sheet:bytes bytenr:u64 level:u8 tree:u64 own:bool out:out len:lent
 // waits: ledger_post nodesize:u32 sheet:bytes change:u8 extent:u64 a:u64 b:u64 c:u64 amount:u32 out:out len:lent
@@ -284,53 +326,6 @@ extern "C" {
         positions: *mut u16,
         positions_len: usize,
         count: *mut u64,
-    ) -> u32;
-    pub fn backref_take_inline_shared(
-        item_type: u8,
-        body: *const u8,
-        body_len: usize,
-        kind: u8,
-        parent: u64,
-        out: *mut u8,
-        out_len: usize,
-        len: *mut u64,
-        count: *mut u64,
-    ) -> u32;
-    pub fn backref_drop_keyed_data_ref(
-        item: *const u8,
-        item_len: usize,
-        tree: u64,
-        objectid: u64,
-        offset: u64,
-        out: *mut u8,
-        out_len: usize,
-        len: *mut u64,
-    ) -> u32;
-    pub fn backref_keyed_data_ref_body(
-        tree: u64,
-        objectid: u64,
-        offset: u64,
-        count: u32,
-        out: *mut u8,
-        out_len: usize,
-        len: *mut u64,
-    ) -> u32;
-    pub fn transaction_held_only_by(
-        body: *const u8,
-        body_len: usize,
-        root: u64,
-        ino: u64,
-        offsets: *const u64,
-        offsets_len: usize,
-        holds: *mut u64,
-    ) -> u32;
-    pub fn transaction_keyed_data_ref_names(
-        item: *const u8,
-        item_len: usize,
-        tree: u64,
-        objectid: u64,
-        offset: u64,
-        names: *mut u64,
     ) -> u32;
     pub fn transaction_apply_shared_drop(
         sheet: *const u8,
