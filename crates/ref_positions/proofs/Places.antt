@@ -1,0 +1,239 @@
+-- Laws of the two passes, and of the call's ways out. Assumes nothing.
+use mathlib.Core.Path.{_≡_, refl, sym, ap, subst, _∙_}
+use mathlib.Core.Bool.{Bool, true, false, cond}
+use mathlib.Core.List.{List, [], _∷_, _++_, append-assoc, append-nil}
+use Prim.Native.Nat.{ℕ, suc, _+_, _-_, _*_, _≤_, _<_}
+use native.Mathlib.Omega.{arith}
+use lib.Dec.{T}
+use lib.ListN.{length, drop, set, length-append}
+use borrow.Author.Tests.{le-leb, lt-leb}
+use Rattle.fields.specs.Parts.{written}
+use Rattle.fields.proofs.Numbers.{length-words}
+use Rattle.fields.proofs.Parts.{stores-one, written-next, length-written}
+use Rattle.format.specs.declared.Edited.the-variants.{Written, Refused as Denied}
+use Rattle.format.specs.Questions.{Answer, refused, absent, remove, accepted, ask, bind, held, lent, editedOf, Answered}
+use Rattle.format.specs.References.{known, payloadLength, counted, fieldCount, Ref, refAt, Body, startOf, readBody}
+use Rattle.format.specs.Bodies.{bodyFits, onBody, positions, inlineRefs}
+use Rattle.format.specs.Sheets.{heldCuts}
+use Rattle.format.proofs.Answers.{accepted-inj, refused-not, absent-not, remove-not, bind-ok}
+use Rattle.format.proofs.Outputs.{answered-refused, answered-written}
+use Rattle.format.proofs.Refs.{Reads as Decided, read, strange, cutOff, readRefs-decides}
+use Rattle.format.proofs.Rows.{payload-fields}
+use Rattle.inline_refs.specs.Steps.{readFrom}
+use Rattle.inline_refs.specs.Scans.{refsIn}
+use Rattle.inline_refs.proofs.Steps.{At}
+use Rattle.inline_refs.proofs.Notes.{Opens}
+use Rattle.ref_positions.specs.declared.Counted.{Counted}
+use Rattle.ref_positions.specs.declared.Counted.the-variants.{Count, Refused}
+use Rattle.ref_positions.specs.Counts.{countOf, placesIn}
+
+-- ---- one reference further
+
+module _ (s : List ℕ) (at k p n q next : ℕ) (h : At s at k p n q next) where
+  next-is : at + (1 + 8 * length (refAt k (drop p s) .fields) + cond (counted k) 4 0) ≡ next
+  unfolding refAt
+  next-is = omega (arith, h .further, h .long, payload-fields k (h .kindKnown), length-words (fieldCount k) (drop p s))
+
+  -- what is left to read, behind a reference
+  pub record Further (rest : List Ref) : Type 0 where
+    pub others : List Ref
+    pub reads : readFrom s next ≡ accepted others
+    pub places : positions at rest ≡ at ∷ positions next others
+
+  pub further : (rest : List Ref) → readFrom s at ≡ accepted rest → Further rest
+  unfolding positions refAt
+  further rest e =
+      let w = bind-ok (readFrom s next) _ (sym (h .reads) ∙ e) in
+      record {
+        others = w .0;
+        reads = w .1;
+        places = ap (positions at) (sym (accepted-inj (w .2))) ∙ ap (λ (m : ℕ). at ∷ positions m (w .0)) next-is;
+      }
+
+-- ---- the first pass
+
+abbrev pub plus : ℕ → Counted → Counted
+plus n (Count m) = Count (n + m)
+plus n (Refused number) = Refused number
+
+plus-zero : (c : Counted) → plus 0 c ≡ c
+plus-zero (Count m) = ap Count (omega arith)
+plus-zero (Refused number) = refl
+
+pub counts-none : (x : Answer (List Ref)) → plus 0 (countOf x) ≡ countOf x
+counts-none x = plus-zero (countOf x)
+
+counts-cons : (n : ℕ) (r : Ref) (x : Answer (List Ref)) → plus (n + 1) (countOf x) ≡ plus n (countOf (bind x (λ refs. accepted (r ∷ refs))))
+unfolding countOf bind
+counts-cons n r (refused number) = refl
+counts-cons n r absent = refl
+counts-cons n r remove = refl
+counts-cons n r (accepted refs) = ap Count (omega arith)
+
+pub counts-step : (s : List ℕ) (at k p n q next m : ℕ) → At s at k p n q next
+    → plus (m + 1) (countOf (readFrom s next)) ≡ plus m (countOf (readFrom s at))
+counts-step s at k p n q next m h =
+    counts-cons m (refAt k (drop p s)) (readFrom s next) ∙ ap (λ (x : Answer (List Ref)). plus m (countOf x)) (sym (h .reads))
+
+pub counts-end : (x : Answer (List Ref)) (n : ℕ) → x ≡ accepted [] → Count n ≡ plus n (countOf x)
+unfolding countOf
+counts-end x n e = ap Count (omega arith) ∙ ap (λ (y : Answer (List Ref)). plus n (countOf y)) (sym e)
+
+pub counts-fault : (x : Answer (List Ref)) (n number : ℕ) → x ≡ refused number → Refused number ≡ plus n (countOf x)
+unfolding countOf
+counts-fault x n number e = ap (λ (y : Answer (List Ref)). plus n (countOf y)) (sym e)
+
+-- ---- what a count says
+
+pub record Reads (x : Answer (List Ref)) (count : ℕ) : Type 0 where
+  pub refs : List Ref
+  pub is : x ≡ accepted refs
+  pub many : count ≡ length refs
+
+count-inj : {m n : ℕ} → Count m ≡ Count n → m ≡ n
+count-inj e = cc
+
+count-not : {X : Type 0} {m n : ℕ} → Count m ≡ Refused n → X
+count-not e = let z : _≡_ {A = ℕ} 0 1 = cc in absurd (omega arith)
+
+refused-inj : {m n : ℕ} → Refused m ≡ Refused n → n ≡ m
+refused-inj e = cc
+
+pub count-reads : (x : Answer (List Ref)) (count : ℕ) → Count count ≡ countOf x → Reads x count
+unfolding countOf
+count-reads (refused number) count e = count-not e
+count-reads absent count e = count-not e
+count-reads remove count e = count-not e
+count-reads (accepted refs) count e = record { refs = refs; is = refl; many = count-inj e }
+
+fault-reads : (x : Answer (List Ref)) (n : ℕ) → Decided x → Refused n ≡ countOf x → x ≡ refused n
+unfolding countOf
+fault-reads x n (read l q) e = count-not (sym (e ∙ ap countOf q))
+fault-reads x n (strange q) e = q ∙ ap refused (refused-inj (e ∙ ap countOf q))
+fault-reads x n (cutOff q) e = q ∙ ap refused (refused-inj (e ∙ ap countOf q))
+
+length-positions : (at : ℕ) (refs : List Ref) → length (positions at refs) ≡ length refs
+unfolding positions
+length-positions at [] = refl
+length-positions at (r ∷ refs) = ap suc (length-positions _ refs)
+
+-- ---- the second pass
+
+pub record Placing (s lent₀ now : List ℕ) (start at i : ℕ) : Type 0 where
+  pub rest : List Ref
+  pub done : List ℕ
+  pub reads : readFrom s at ≡ accepted rest
+  pub all : placesIn start (readFrom s start) ≡ done ++ positions at rest
+  pub wrote : now ≡ written 0 done lent₀
+  pub many : length done ≡ i
+  pub long : length now ≡ length lent₀
+  pub room : i + length (positions at rest) ≤ length lent₀
+
+module _ (s lent₀ : List ℕ) (start : ℕ) where
+  pub placing-none : (count : ℕ) → Count count ≡ countOf (readFrom s start) → count ≤ length lent₀ → Placing s lent₀ lent₀ start start 0
+  unfolding placesIn
+  placing-none count e h =
+      let w = count-reads (readFrom s start) count e in
+      record {
+        rest = w .refs;
+        done = [];
+        reads = w .is;
+        all = ap (placesIn start) (w .is);
+        wrote = refl;
+        many = refl;
+        long = refl;
+        room = omega (arith, w .many, length-positions start (w .refs));
+      }
+
+  module _ (now : List ℕ) (at i : ℕ) (w : Placing s lent₀ now start at i) where
+    pub placing-all : readFrom s at ≡ accepted [] → now ≡ written 0 (placesIn start (readFrom s start)) lent₀
+    unfolding positions
+    placing-all e =
+        let z : [] ≡ w .rest = accepted-inj (sym e ∙ w .reads) in
+        let d : placesIn start (readFrom s start) ≡ w .done =
+        w .all ∙ ap (λ (l : List Ref). w .done ++ positions at l) (sym z) ∙ append-nil (w .done) in
+        w .wrote ∙ ap (λ (l : List ℕ). written 0 l lent₀) (sym d)
+
+    pub placing-fault : {X : Type 0} (n : ℕ) → readFrom s at ≡ refused n → X
+    placing-fault n e = refused-not (sym e ∙ w .reads)
+
+    module _ (k p n q next : ℕ) (h : At s at k p n q next) where
+      abbrev more : Further s at k p n q next h (w .rest)
+      more = further s at k p n q next h (w .rest) (w .reads)
+
+      pub place-left : i < length now
+      place-left = omega (arith, w .room, w .long, ap length (more .places))
+
+      pub placing-next : Placing s lent₀ (set now i at) start next (i + 1)
+      placing-next =
+          let m = more in
+          let l : length (positions at (w .rest)) ≡ 1 + length (positions next (m .others)) = omega (arith, ap length (m .places)) in
+          let r : i + 1 ≤ length now = omega (arith, w .room, w .long) in
+          let z : i + length (at ∷ []) ≤ length lent₀ = omega (arith, w .room) in
+          let both : length (w .done ++ at ∷ []) ≡ i + 1 = omega (arith, length-append (w .done) (at ∷ []), w .many) in
+          let new : set now i at ≡ written 0 (w .done ++ at ∷ []) lent₀ =
+          stores-one now i at r ∙ ap (written i (at ∷ [])) (w .wrote) ∙ written-next (w .done) (at ∷ []) lent₀ i (w .many) z in
+          let y : 0 + length (w .done ++ at ∷ []) ≤ length lent₀ = omega arith in
+          record {
+            rest = m .others;
+            done = w .done ++ at ∷ [];
+            reads = m .reads;
+            all = w .all ∙ ap (λ (x : List ℕ). w .done ++ x) (m .places) ∙ sym (append-assoc (w .done) (at ∷ []) (positions next (m .others)));
+            wrote = new;
+            many = both;
+            long = ap length new ∙ length-written 0 (w .done ++ at ∷ []) lent₀ y;
+            room = omega (arith, w .room);
+          }
+
+-- ---- the call
+
+refs-then : (t : Bool) (x : Answer Body) (f : List Ref → Answer (List ℕ))
+    → ask t 3 (bind x (λ b. f (b .refs))) ≡ bind (ask t 3 (bind x (λ b. accepted (b .refs)))) f
+unfolding ask bind
+refs-then false x f = refl
+refs-then true (refused number) f = refl
+refs-then true absent f = refl
+refs-then true remove f = refl
+refs-then true (accepted b) f = refl
+
+module _ (type : ℕ) (s : List ℕ) where
+  calls : inlineRefs type s ≡ bind (refsIn type s) (λ refs. accepted (positions (startOf type s) refs))
+  unfolding inlineRefs refsIn onBody
+  calls = refs-then (bodyFits s) (readBody type s) (λ refs. accepted (positions (startOf type s) refs))
+
+  pub call-shut : (n : ℕ) (old : List ℕ) → refsIn type s ≡ refused n → Answered (heldCuts (length old) (inlineRefs type s)) (Denied n) old old
+  unfolding heldCuts held bind
+  call-shut n old e =
+      answered-refused old (ap (heldCuts (length old)) (calls ∙ ap (λ (x : Answer (List Ref)). bind x (λ refs. accepted (positions (startOf type s) refs))) e))
+
+  module _ (start : ℕ) (o : Opens type s start) where
+    pub call-fault : (n : ℕ) (old : List ℕ) → Refused n ≡ countOf (readFrom s start)
+        → Answered (heldCuts (length old) (inlineRefs type s)) (Denied n) old old
+    unfolding readFrom
+    call-fault n old e = call-shut n old (o .reads ∙ fault-reads (readFrom s start) n (readRefs-decides (length (drop start s)) (drop start s)) e)
+
+    module _ (count : ℕ) (e : Count count ≡ countOf (readFrom s start)) where
+      call-is : (inlineRefs type s ≡ accepted (placesIn start (readFrom s start))) × (count ≡ length (placesIn start (readFrom s start)))
+      unfolding placesIn bind
+      call-is =
+          let w = count-reads (readFrom s start) count e in
+          let z : placesIn start (readFrom s start) ≡ positions start (w .refs) = ap (placesIn start) (w .is) in (
+            calls ∙ ap (λ (x : Answer (List Ref)). bind x (λ refs. accepted (positions (startOf type s) refs))) (o .reads ∙ w .is)
+                ∙ ap (λ (m : ℕ). accepted (positions m (w .refs))) (sym (o .at)) ∙ ap accepted (sym z),
+            w .many ∙ sym (ap length z ∙ length-positions start (w .refs)),
+          )
+
+      pub call-short : (old : List ℕ) → length old < count → Answered (heldCuts (length old) (inlineRefs type s)) (Denied 21) old old
+      unfolding heldCuts held bind ask
+      call-short old h =
+          let l : length old < length (placesIn start (readFrom s start)) = omega (arith, call-is .1) in
+          answered-refused old (ap (heldCuts (length old)) (call-is .0) ∙ simp (lt-leb _ _ l))
+
+      pub call-writes : (old new : List ℕ) → count ≤ length old → new ≡ written 0 (placesIn start (readFrom s start)) old
+          → Answered (heldCuts (length old) (inlineRefs type s)) (Written count) old new
+      unfolding heldCuts held bind ask
+      call-writes old new h w =
+          let l : length (placesIn start (readFrom s start)) ≤ length old = omega (arith, call-is .1) in
+          let fits : heldCuts (length old) (accepted (placesIn start (readFrom s start))) ≡ accepted (placesIn start (readFrom s start)) = simp (le-leb _ _ l) in
+          subst (λ (m : ℕ). Answered (heldCuts (length old) (inlineRefs type s)) (Written m) old new) (sym (call-is .1))
+          (answered-written (ap (heldCuts (length old)) (call-is .0) ∙ fits) w)
