@@ -29,3 +29,4 @@ pub use wanted::Wanted;
 pub use wanted::kind_of;
 pub use wanted::names;
 pub use wanted::names_triple;
+pub use wanted::place_at;

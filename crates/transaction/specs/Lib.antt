@@ -1,2 +1,3 @@
 pub mod Spots
 pub mod Keyed
+pub mod Takes

@@ -1,0 +1,103 @@
+-- What code keeps of the extent at hand, as the tally of the pass; and what its functions say of an item. Assumes nothing.
+use mathlib.Core.Path.{_≡_}
+use mathlib.Core.Bool.{Bool, true, false, not, cond}
+use mathlib.Core.Option.{Option, none, some}
+use mathlib.Core.List.{List, [], _∷_}
+use Prim.Native.Nat.{ℕ, _+_, _-_, _*_, _≤_}
+use lib.Dec.{T}
+use lib.ListN.{length}
+use Rattle.fields.specs.Parts.{part}
+use Rattle.format.specs.declared.Key.{Key}
+use Rattle.format.specs.References.{Ref, ref, placeOf, ordered}
+use Rattle.format.specs.Items.{Item}
+use Rattle.format.specs.Names.{reference, malformed, viewRefItem, viewOf}
+use Rattle.inline_refs.specs.declared.wanted.Wanted.{Wanted}
+use Rattle.inline_refs.specs.Scans.{kindOf, fieldsOf}
+use Rattle.balance_laws.specs.Tally.{Tally, taken, pass}
+use Rattle.balance.specs.declared.group.Group.{Group}
+use Rattle.balance.specs.declared.group.Turn.{Turn}
+use Rattle.balance.specs.declared.group.Turn.the-variants.{Next, Bad}
+use Rattle.balance.specs.declared.reference.Named.{Named}
+use Rattle.balance.specs.declared.reference.Named.the-variants.{Of, Bad as NoForm}
+use Rattle.balance.specs.Places.{refsFrom, Readable, Spanned}
+
+-- the item that stands from `at` up to `next`, with its key
+abbrev pub itemOf : List ℕ → ℕ → ℕ → Key → Item
+itemOf s at next key = record { key = key; bytes = part (at + 21) (next - (at + 21)) s }
+
+-- ---- a reference as an item
+
+pub record NameOf (i : Item) (weight : ℕ) (wanted : Wanted) : Type 0 where
+  pub says : viewRefItem i ≡ reference (ref (kindOf wanted) (fieldsOf wanted) weight)
+  pub kind : kindOf wanted ≡ i .key .kind
+  pub place : i .key .offset ≡ placeOf (kindOf wanted) (fieldsOf wanted)
+
+unfoldable pub Naming : Item → Named → Type 0
+Naming i NoForm = viewRefItem i ≡ malformed
+Naming i (Of weight wanted) = NameOf i weight wanted
+
+-- ---- the extent at hand
+
+abbrev pub bodyOf : List ℕ → Group → List ℕ
+bodyOf s g = part (g .from) (g .to - g .from) s
+
+unfoldable pub tallyOf : List ℕ → Group → Tally
+tallyOf s g =
+    record {
+      extent = g .extent;
+      marked = g .marked;
+      refs = cond (g .marked) (refsFrom (bodyOf s g) (g .start)) [];
+      total = g .total;
+      weight = g .weight;
+    }
+
+-- the record's references are read and in order, and those of the last type looked for are known
+pub record Body (s : List ℕ) (g : Group) : Type 0 where
+  pub order : g .from ≤ g .to
+  pub inside : g .to ≤ length s
+  pub begins : g .start ≤ length (bodyOf s g)
+  pub reads : Readable (bodyOf s g) (g .start)
+  pub sorted : T (ordered (refsFrom (bodyOf s g) (g .start)))
+  pub spans : (g .span .kind ≡ 0 → ⊥) → Spanned (bodyOf s g) (g .start) (g .span)
+
+pub record Kept (s : List ℕ) (g : Group) (at : ℕ) : Type 0 where
+  pub body : g .marked ≡ true → Body s g
+  pub light : g .weight ≤ 4294967296 * at
+
+-- an extent whose record was read
+abbrev pub afterRecord : ℕ → ℕ → ℕ → ℕ → ℕ → ℕ → Group
+afterRecord extent from to start total weight =
+    record {
+      extent = extent;
+      marked = true;
+      from = from;
+      to = to;
+      start = start;
+      total = total;
+      weight = weight;
+      span = record { kind = 0; from = 0; n = 0 };
+    }
+
+-- an extent of which no item was read
+abbrev pub empty : ℕ → Group
+empty extent =
+    record {
+      extent = extent;
+      marked = false;
+      from = 0;
+      to = 0;
+      start = 0;
+      total = 0;
+      weight = 0;
+      span = record { kind = 0; from = 0; n = 0 };
+    }
+
+-- an item of the extent at hand, up to `next`
+unfoldable pub Taking : List ℕ → Group → Item → ℕ → Turn → Type 0
+Taking s g i next Bad = taken (tallyOf s g) (viewOf i) ≡ none
+Taking s g i next (Next h) = (taken (tallyOf s g) (viewOf i) ≡ some (tallyOf s h)) × Kept s h next
+
+-- an item of any extent
+unfoldable pub Turning : List ℕ → Group → Item → ℕ → Turn → Type 0
+Turning s g i next Bad = (rest : List Item) → pass (i ∷ rest) (tallyOf s g) ≡ false
+Turning s g i next (Next h) = ((rest : List Item) → pass (i ∷ rest) (tallyOf s g) ≡ pass rest (tallyOf s h)) × Kept s h next

@@ -1,0 +1,6 @@
+pub mod Sorted
+pub mod Parts
+pub mod Says
+pub mod Extents
+pub mod Taking
+pub mod Passing
