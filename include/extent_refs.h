@@ -18,6 +18,12 @@ extern "C" {
 
 uint32_t backref_flags(const uint8_t *body, size_t body_len, uint64_t *value);
 
+uint32_t backref_inline_refs(
+    uint8_t item_type,
+    const uint8_t *body, size_t body_len,
+    uint16_t *positions, size_t positions_len,
+    uint64_t *count);
+
 uint32_t backref_take_inline_shared(
     uint8_t item_type,
     const uint8_t *body, size_t body_len,
@@ -274,7 +280,6 @@ uint32_t transaction_apply_shared_add(
     uint64_t *len);
 
 /* Not exported yet:
- *   backref_inline_refs
  *   transaction_apply_shared_drop
  *   transaction_drop_kept_tree_ref
  *   ledger_post

@@ -1,7 +1,8 @@
 // Bodies: the calls of `backref.rs`.
 ghost use lib.ListN.{length};
 ghost use Rattle.format.specs.Questions.{accepted};
-ghost use Rattle.format.specs.Bodies.{heldBody, heldTaken, flags, takeInlineShared, addInlineKeyed, dropInlineDataRef, dropKeyedDataRef, lowerTotal, reduceTotal, raiseTotal, holdsInlineDataRef, addInlineDataRef, addInlineTreeRef, keyedDataRefBody, addInlineShared, dropInlineTreeRef, withFlags};
+ghost use Rattle.format.specs.Bodies.{heldBody, heldTaken, flags, inlineRefs, takeInlineShared, addInlineKeyed, dropInlineDataRef, dropKeyedDataRef, lowerTotal, reduceTotal, raiseTotal, holdsInlineDataRef, addInlineDataRef, addInlineTreeRef, keyedDataRefBody, addInlineShared, dropInlineTreeRef, withFlags};
+ghost use Rattle.format.specs.Sheets.{heldCuts};
 ghost use Rattle.extent_refs.specs.Exports.{Coded, CodedBool, CodedNumber, CodedTaken};
 use super::codes;
 use format::BlockRef;
@@ -15,6 +16,19 @@ pub extern "C" fn backref_flags(body: &[u8], value: &mut u64) -> u32
 {
     let answer = backref::flags(body);
     codes::put_told(answer, value)
+}
+
+#[no_mangle]
+pub extern "C" fn backref_inline_refs(
+    item_type: u8,
+    body: &[u8],
+    positions: &mut [u16],
+    count: &mut u64,
+) -> u32
+    ensures { λ r. ⌜ Coded (heldCuts (length (now (positions .entry))) (inlineRefs «item_type» (now (body .entry)))) r (now (count .exit)) (now (positions .entry)) (now (positions .exit)) ⌝ }
+{
+    let answer = ref_positions::inline_refs(item_type, body, positions);
+    codes::put_edited(answer, count)
 }
 
 #[no_mangle]

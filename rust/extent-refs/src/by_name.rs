@@ -17,6 +17,7 @@ pub enum Value<'a> {
 /// Every declared call.
 pub const NAMES: &[&str] = &[
     "backref_flags",
+    "backref_inline_refs",
     "backref_take_inline_shared",
     "backref_add_inline_keyed_block",
     "backref_add_inline_keyed_data",
@@ -53,7 +54,6 @@ pub const NAMES: &[&str] = &[
     "transaction_apply_keyed_add_block",
     "transaction_apply_keyed_add_data",
     "transaction_apply_shared_add",
-    "backref_inline_refs",
     "transaction_apply_shared_drop",
     "transaction_drop_kept_tree_ref",
     "ledger_post",
@@ -65,6 +65,9 @@ pub fn call(name: &str, args: &mut [Value<'_>]) -> Option<u64> {
     Some(match (name, args) {
         ("backref_flags", [Bytes(body), Lent(value)]) => {
             u64::from(lent::backref_flags(body, value))
+        }
+        ("backref_inline_refs", [Number(item_type), Bytes(body), Cuts(positions), Lent(count)]) => {
+            u64::from(lent::backref_inline_refs(*item_type as u8, body, positions, count))
         }
         ("backref_take_inline_shared", [Number(item_type), Bytes(body), Number(kind), Number(parent), Out(out), Lent(len), Lent(count)]) => {
             u64::from(lent::backref_take_inline_shared(*item_type as u8, body, *kind as u8, *parent, out, len, count))
@@ -173,9 +176,6 @@ pub fn call(name: &str, args: &mut [Value<'_>]) -> Option<u64> {
         }
         ("transaction_apply_shared_add", [Number(nodesize), Bytes(sheet), Number(bytenr), Number(kind), Number(parent), Number(count), Number(as_item), Out(out), Lent(len)]) => {
             u64::from(lent::transaction_apply_shared_add(*nodesize as u32, sheet, *bytenr, *kind as u8, *parent, *count as u32, *as_item != 0, out, len))
-        }
-        ("backref_inline_refs", [Number(item_type), Bytes(body), Cuts(positions), Lent(count)]) => {
-            u64::from(lent::backref_inline_refs(*item_type as u8, body, positions, count))
         }
         ("transaction_apply_shared_drop", [Bytes(sheet), Number(bytenr), Number(kind), Number(parent), Number(count), Number(as_item), Out(out), Lent(len)]) => {
             u64::from(lent::transaction_apply_shared_drop(sheet, *bytenr, *kind as u8, *parent, *count as u32, *as_item != 0, out, len))

@@ -11,6 +11,24 @@ pub fn backref_flags(body: &[u8], value: &mut u64) -> u32 {
     unsafe { raw::backref_flags(body.as_ptr(), body.len(), value) }
 }
 
+pub fn backref_inline_refs(
+    item_type: u8,
+    body: &[u8],
+    positions: &mut [u16],
+    count: &mut u64,
+) -> u32 {
+    unsafe {
+        raw::backref_inline_refs(
+            item_type,
+            body.as_ptr(),
+            body.len(),
+            positions.as_mut_ptr(),
+            positions.len(),
+            count,
+        )
+    }
+}
+
 pub fn backref_take_inline_shared(
     item_type: u8,
     body: &[u8],
@@ -611,24 +629,6 @@ pub fn transaction_apply_shared_add(
             out.as_mut_ptr(),
             out.len(),
             len,
-        )
-    }
-}
-
-pub fn backref_inline_refs(
-    item_type: u8,
-    body: &[u8],
-    positions: &mut [u16],
-    count: &mut u64,
-) -> u32 {
-    unsafe {
-        raw::backref_inline_refs(
-            item_type,
-            body.as_ptr(),
-            body.len(),
-            positions.as_mut_ptr(),
-            positions.len(),
-            count,
         )
     }
 }

@@ -4,6 +4,14 @@
 
 extern "C" {
     pub fn backref_flags(body: *const u8, body_len: usize, value: *mut u64) -> u32;
+    pub fn backref_inline_refs(
+        item_type: u8,
+        body: *const u8,
+        body_len: usize,
+        positions: *mut u16,
+        positions_len: usize,
+        count: *mut u64,
+    ) -> u32;
     pub fn backref_take_inline_shared(
         item_type: u8,
         body: *const u8,
@@ -314,19 +322,10 @@ extern "C" {
 }
 
 // Declared, but not exported by the source yet. build.rs gives each a stand-in.
-// waits: backref_inline_refs item_type:u8 body:bytes positions:cuts count:lent
 // waits: transaction_apply_shared_drop sheet:bytes bytenr:u64 kind:u8 parent:u64 count:u32 as_item:bool out:out len:lent
 // waits: transaction_drop_kept_tree_ref sheet:bytes bytenr:u64 level:u8 tree:u64 own:bool out:out len:lent
 // waits: ledger_post nodesize:u32 sheet:bytes change:u8 extent:u64 a:u64 b:u64 c:u64 amount:u32 out:out len:lent
 extern "C" {
-    pub fn backref_inline_refs(
-        item_type: u8,
-        body: *const u8,
-        body_len: usize,
-        positions: *mut u16,
-        positions_len: usize,
-        count: *mut u64,
-    ) -> u32;
     pub fn transaction_apply_shared_drop(
         sheet: *const u8,
         sheet_len: usize,
