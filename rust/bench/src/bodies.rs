@@ -14,10 +14,10 @@ fn data_body(count: u64) -> Vec<u8> {
     })
 }
 
-/// Shared data references of parents 4,096 on.
+/// A data reference, then shared data references of parents 4,096 on.
 fn shared_body(count: u64) -> Vec<u8> {
     let first = door::data_extent_body(7, 5, 257, 0);
-    (1..count).fold(first, |body, n| {
+    (1..=count).fold(first, |body, n| {
         backref::add_inline_shared(168, &body, 184, 4096 * n, 2).expect("one more")
     })
 }
