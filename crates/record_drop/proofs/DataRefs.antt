@@ -118,9 +118,6 @@ unfolding bind planned
 total-refused s start end items room next p r old new total tag w =
     subst (λ (a : Answer (List ℕ)). Answered a r old new) (go (p .outcome) refl tag ∙ ap (λ (a : Answer (List ℕ)). bind a next) (total .says)) w
   where
-    body : List ℕ
-    body = dataOf s start end
-
     go : (o : Outcome) → p .outcome ≡ o → (tagOf the-type o ≡ 1) ⊎ ((tagOf the-type o ≡ 2) ⊎ (tagOf the-type o ≡ 3))
         → heldPlan room items s start end p (nothing (length s)) ≡ bind (planAnswer p (dataOf s start end)) next
     go Edit e (inl z) = absurd (let y : _≡_ {A = ℕ} 0 1 = z in omega arith)
