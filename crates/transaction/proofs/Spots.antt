@@ -120,7 +120,7 @@ module _ (s : List ℕ) (extent : ℕ) where
       let key-is : hit .key ≡ firstItem (drop start s) .key = ap (λ (i : Item). i .key) (sym there) in
       λ j. record { key = key-is j; bytes = bytes-is j }
 
-  standing : (n : ℕ) → Counted s n → (number start end : ℕ) → placeIn (recorded extent) 0 1 (itemsOf s) ≡ Placed-at number start end
+  pub standing : (n : ℕ) → Counted s n → (number start end : ℕ) → placeIn (recorded extent) 0 1 (itemsOf s) ≡ Placed-at number start end
       → Standing s extent true number start end n
   standing n c number start end e =
       let t : Placed (recordOf extent) (itemsOf s) 0 1 number start end = placed (recordOf extent) 0 1 (itemsOf s) number start end e in
