@@ -1,2 +1,3 @@
 pub mod Moves
 pub mod Lent
+pub mod Counts

@@ -1,4 +1,12 @@
-// A reader that borrows a body: the body's bytes and a position, and one step over the cursor of `inline_refs`.
+// A reader that borrows a body: its bytes and a position. `Reader::step` reads the reference at the position by the cursor of
+// `inline_refs`, says what the cursor says, and moves behind it. Where the references of a body start, `open_body` says.
+//
+// The borrow checker covers no function over a struct that holds a reference, so `new`, `step` and `step_from` are proved by
+// hand, and the work is left to `step_at`, which it covers. Every other caller goes through `step_from`, whose parameters are
+// plain, and needs no such proof.
+mod count;
+
+pub use count::count_refs;
 use inline_refs::Cursor;
 use inline_refs::Step;
 ghost use mathlib.Core.Path.{_≡_};
@@ -16,6 +24,7 @@ pub struct Stepped {
     pub at: usize,
 }
 
+// The work of a step, on the reader's two fields.
 fn step_at(body: &[u8], at: usize) -> Stepped
     ensures { λ r. ⌜ (r .step ≡ stepAt (now (body .entry)) at) × (r .at ≡ moved (stepAt (now (body .entry)) at) at) ⌝ }
 {
@@ -38,13 +47,14 @@ fn step_at(body: &[u8], at: usize) -> Stepped
     }
 }
 
-pub fn new<'a>(body: &'a [u8], at: usize) -> Reader<'a>
-    ensures { λ r. ⌜ (r .body ≡ body .entry) × (r .at ≡ at) ⌝ }
-{
-    Reader { body, at }
-}
-
 impl<'a> Reader<'a> {
+    pub fn new(body: &'a [u8], at: usize) -> Reader<'a>
+        ensures { λ r. ⌜ (r .body ≡ body .entry) × (r .at ≡ at) ⌝ }
+    {
+        Reader { body, at }
+    }
+
+    // The body stays; the position is behind a whole reference, and as it was at the end and at a fault.
     pub fn step(&mut self) -> Step
         ensures { λ r. ⌜ (r ≡ stepAt (now (now (self .entry) .body)) (now (self .entry) .at)) × (now (self .exit) .body ≡ now (self .entry) .body) × (now (self .exit) .at ≡ moved (stepAt (now (now (self .entry) .body)) (now (self .entry) .at)) (now (self .entry) .at)) ⌝ }
     {
@@ -54,11 +64,11 @@ impl<'a> Reader<'a> {
     }
 }
 
-// What the reader at a position says, and where it then stands.
+// One step of a reader that stands at `at`: what it says, and where it then stands.
 pub fn step_from(body: &[u8], at: usize) -> Stepped
     ensures { λ r. ⌜ (r .step ≡ stepAt (now (body .entry)) at) × (r .at ≡ moved (stepAt (now (body .entry)) at) at) ⌝ }
 {
-    let mut reader = new(body, at);
+    let mut reader = Reader::new(body, at);
     let step = reader.step();
     Stepped {
         step,

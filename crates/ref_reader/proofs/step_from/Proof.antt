@@ -1,4 +1,4 @@
--- `ref_reader::step_from` meets its contract: a walk of its MIR, by hand. A reader is made in a local and lent to `Reader::step` for a lifetime that is made for the call (`Lent.antt`); then the number in it is where it stands. All that the proof knows of `new` and of `Reader::step` is that each meets its contract.
+-- `ref_reader::step_from` meets its contract: a walk of its MIR, by hand. A reader is made in a local and lent to `Reader::step` for a lifetime that is made for the call (`Lent.antt`); then the number in it is where it stands. All that the proof knows of `Reader::new` and of `Reader::step` is that each meets its contract.
 -- In a local of a body MIR erases the lifetime of the struct's type, so the value is shown to have the type at `erased`: what the struct owns does not say the lifetime's name.
 -- Assumes nothing.
 use mathlib.Core.Path.{_≡_, refl, ap, ap₂, _∙_}
@@ -56,10 +56,10 @@ use Rattle.ref_reader.proofs.Reader as T
 use Rattle.ref_reader.proofs.Reader.Laws as T′
 use Rattle.ref_reader.proofs.Stepped as P
 use Rattle.ref_reader.proofs.Stepped.Laws as P′
-use Rattle.ref_reader.proofs.new as new
-use Rattle.ref_reader.proofs.new.Symbol as new-def
-use Rattle.ref_reader.proofs.new.Symbol.{name as #ref-reader·new}
-use Rattle.ref_reader.proofs.new.Met as new-thm
+use Rattle.ref_reader.proofs.Reader.new as new
+use Rattle.ref_reader.proofs.Reader.new.Symbol as new-def
+use Rattle.ref_reader.proofs.Reader.new.Symbol.{name as #ref-reader·new}
+use Rattle.ref_reader.proofs.Reader.new.Met as new-thm
 use Rattle.ref_reader.proofs.Reader.step as step
 use Rattle.ref_reader.proofs.Reader.step.Symbol as step-def
 use Rattle.ref_reader.proofs.Reader.step.Symbol.{name as #ref-reader·step}
@@ -232,5 +232,5 @@ step-from-spec 𝓤 H 𝓜 𝓖 𝓡 =
     entered 𝓤 H (tripleOf 𝓤 H (𝓖 .A) from′.signature (from′.spec 𝓤 H (𝓖 .A) (𝓜 .mem) (𝓡 .run)))
     (tables 𝓤 H 𝓜 𝓡 code.env .C) (tables 𝓤 H 𝓜 𝓡 code.env .Λ) #ref-reader·step-from code.function (code.unfolded 𝓤 H 𝓜 𝓡)
     (from-meets 𝓤 H (𝓖 .A) (givenOf 𝓤 H 𝓜 𝓖) (𝓜 .mem) (𝓡 .run) (tablesOf 𝓤 H 𝓜 (tables 𝓤 H 𝓜 𝓡 code.env))
-    (cited 𝓤 H (New 𝓤 H (𝓖 .A) (𝓜 .mem) (𝓡 .run)) 𝓜 𝓡 code.env #ref-reader·new new-def.routine code.calls-ref-reader·new (new-thm.met 𝓤 H 𝓜 𝓖 𝓡))
+    (cited 𝓤 H (New 𝓤 H (𝓖 .A) (𝓜 .mem) (𝓡 .run)) 𝓜 𝓡 code.env #ref-reader·new new-def.routine code.calls-ref-reader·Reader·new (new-thm.met 𝓤 H 𝓜 𝓖 𝓡))
     (cited 𝓤 H (OneStep 𝓤 H (𝓖 .A) (𝓜 .mem) (𝓡 .run)) 𝓜 𝓡 code.env #ref-reader·step step-def.routine code.calls-ref-reader·Reader·step (step-thm.met 𝓤 H 𝓜 𝓖 𝓡)))

@@ -1,4 +1,4 @@
--- `ref_reader::new` meets its contract: a walk of its MIR, by hand. A `Reader` is made of the slice and the number passed, in the result's local.
+-- `ref_reader::Reader::new` meets its contract: a walk of its MIR, by hand. A `Reader` is made of the slice and the number passed, in the result's local.
 -- A `&[u8]` is Copy, so what it owns is had twice: once for body at exit, and once inside the result, beside the facts of at.
 -- Assumes nothing.
 use mathlib.Core.Path.{refl}
@@ -37,10 +37,10 @@ use denote.Exit.{yes}
 use Rattle.ref_reader.specs.declared.Reader.{Reader}
 use Rattle.ref_reader.proofs.Reader as T
 use Rattle.ref_reader.proofs.Reader.Laws as T′
-use Rattle.ref_reader.proofs.new.Key.{name as #ref-reader·new}
-use Rattle.ref_reader.proofs.new as new
-use Rattle.ref_reader.proofs.new.Statement as stated
-use Rattle.ref_reader.proofs.new.Code as code
+use Rattle.ref_reader.proofs.Reader.new.Key.{name as #ref-reader·new}
+use Rattle.ref_reader.proofs.Reader.new as new
+use Rattle.ref_reader.proofs.Reader.new.Statement as stated
+use Rattle.ref_reader.proofs.Reader.new.Code as code
 
 abbrev stayed : Stays (new.ended .signature .params) (new.ended .kept)
 stayed = (stay-none-slice (0 ∷ []) tt (plain (λ _. u8)) yes, (stay-none (λ _. usize) yes, tt))
