@@ -11,7 +11,7 @@ use base.Logic.{SProp, ent, sep, ex}
 use base.Fml.{Lft, Share, GName, Fml, ftrue, fsep, flft, fdead, flent, fres}
 use prog.Wp.{Heap}
 use ghost.Atoms.{Atoms, sem}
-use types.Kit.{Item, Given, ‵, raw, _⊛_, some, later, mean, _$_, _∵_, !, qed, move, drop, use1, use2, use3, split, group, pick, fsplit, fjoin, fpick, fpack, frame, await, updating, now, show, done}
+use types.Kit.{Item, Given, ‵, raw, _⊛_, some, later, mean, _$_, _∵_, !, qed, move, keep, use1, use2, use3, split, group, pick, fsplit, fjoin, fpick, fpack, frame, await, updating, now, show, done}
 use types.SemTy.{Body}
 use borrow.Within.Token.{Rest, within-token, within-end}
 use denote.RattleType.{RattleType}
@@ -58,4 +58,4 @@ module _ {M : Type 1} (𝓤 : URA M) (H : Heap 𝓤) (A : Atoms 𝓤) (W : Given
       -- [ν ∷ κ is ended; κ's left half; what is lent; κ's right half; …; the last value]
       move ! (0 ∷ 2 ∷ 5 ∷ []) $ use3 W (later (‵ (mem R .lies h b o))) (ref-back 𝓤 H A W R (ν ∷ κ) γ h b o) $ await ! tt $
       move ! (1 ∷ 2 ∷ []) $ use2 W (‵ (flft κ q)) (W .lfts .lft-join κ q) $ now ! $ frame ! $
-      fpick ! (λ vs. fsplit ! $ show ! (λ (us : List Val). sep 𝓤 (sem 𝓤 H A (cellAt fullShare (R .mir) us b o)) (sem 𝓤 H A (R .own h us))) vs $ move ! (0 ∷ 1 ∷ []) $ move ! (2 ∷ []) $ drop ! $ done !)
+      fpick ! (λ vs. fsplit ! $ show ! (λ (us : List Val). sep 𝓤 (sem 𝓤 H A (cellAt fullShare (R .mir) us b o)) (sem 𝓤 H A (R .own h us))) vs $ keep ! (0 ∷ 1 ∷ []) $ done !)
