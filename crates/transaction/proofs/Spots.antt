@@ -106,7 +106,7 @@ pub record Standing (s : List ℕ) (extent : ℕ) (three : Bool) (number start e
   pub fit : T (all (λ i. dataFits (i .bytes)) (itemsOf s))
 
 module _ (s : List ℕ) (extent : ℕ) where
-  standing : (n : ℕ) → Counted s n → (number start end : ℕ) → placeIn (recorded extent) 0 1 (itemsOf s) ≡ Placed-at number start end
+  pub standing : (n : ℕ) → Counted s n → (number start end : ℕ) → placeIn (recorded extent) 0 1 (itemsOf s) ≡ Placed-at number start end
       → Standing s extent true number start end n
   standing n c number start end e =
       let t : Placed (recordOf extent) (itemsOf s) 0 1 number start end = placed (recordOf extent) 0 1 (itemsOf s) number start end e in

@@ -36,7 +36,7 @@ fn larger_of(a: usize, b: usize) -> usize
 }
 
 // What question 17 asks of a body that had `size` bytes. Asked only if it grew, the body may stay as long as it was.
-fn limit_for(nodesize: u32, size: usize, grown_only: bool) -> usize
+pub fn limit_for(nodesize: u32, size: usize, grown_only: bool) -> usize
     ensures { λ r. ⌜ r ≡ limitFor nodesize size «grown_only» ⌝ }
 {
     let limit = inline_limit(nodesize);
@@ -66,7 +66,7 @@ fn shared_fits(nodesize: u32, kind: u8) -> bool
 }
 
 // The record's new body. With the item flag only the total moves.
-fn plan_shared(key: Key, body: &[u8], name: SharedRef, count: u32, as_item: bool) -> Plan
+pub fn plan_shared(key: Key, body: &[u8], name: SharedRef, count: u32, as_item: bool) -> Plan
     ensures { λ r. ⌜ Planned r (now (body .entry)) (sharedBody (record { key = key; bytes = now (body .entry) }) name count «as_item») ⌝ }
 {
     if as_item {
@@ -105,7 +105,7 @@ pub fn apply_shared_add(
 }
 
 // The body is left as it is, read or not.
-fn is_unread(keyed: Keyed, count: u32, as_item: bool) -> bool
+pub fn is_unread(keyed: Keyed, count: u32, as_item: bool) -> bool
     ensures { λ r. ⌜ r ≡ unread keyed count «as_item» ⌝ }
 {
     if as_item {
@@ -118,7 +118,7 @@ fn is_unread(keyed: Keyed, count: u32, as_item: bool) -> bool
 }
 
 // The record's new body. With the item flag only the total moves.
-fn plan_keyed(key: Key, body: &[u8], keyed: Keyed, count: u32, as_item: bool) -> Plan
+pub fn plan_keyed(key: Key, body: &[u8], keyed: Keyed, count: u32, as_item: bool) -> Plan
     ensures { λ r. ⌜ Planned r (now (body .entry)) (keyedPlan (record { key = key; bytes = now (body .entry) }) keyed count «as_item») ⌝ }
 {
     if as_item {
