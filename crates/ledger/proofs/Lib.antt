@@ -1,0 +1,3 @@
+pub mod Own
+pub mod OwnItems
+pub mod Alsos

@@ -1,0 +1,3 @@
+// Document 01's books: one change posted to a balanced sheet.
+mod also;
+mod owned;
