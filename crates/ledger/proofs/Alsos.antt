@@ -41,9 +41,9 @@ module _ (p : Plan) (yes : Bool) (number : ℕ) where
     inside = λ body t. rw o tt;
   }
 
-pub asked-add : (p q r : Plan) (own : Bool) (amount : ℕ) → Asked p (leb 1 amount) 10 q → Asked q own 9 r → AskedAdd p own amount r
-asked-add p q r own amount a b = record {
-  says = λ body. b .says body ∙ ap (also own 9) (a .says body);
+pub asked-add : (p q r : Plan) (none own : Bool) (amount : ℕ) → none ≡ own → Asked p (leb 1 amount) 10 q → Asked q none 9 r → AskedAdd p own amount r
+asked-add p q r none own amount e a b = record {
+  says = λ body. b .says body ∙ (λ j. also (e j) 9 (a .says body j));
   inside = λ body t. b .inside body (a .inside body t);
 }
 

@@ -1,3 +1,4 @@
 pub mod Own
 pub mod OwnItems
 pub mod Alsos
+pub mod Adding
