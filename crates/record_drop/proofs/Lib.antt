@@ -1,5 +1,7 @@
 pub mod Plans
+pub mod Turns
+pub mod Rewrites
 pub mod Behind
 pub mod Puts
-pub mod Turns
-pub mod Trees
+pub mod TreeRefs
+pub mod DataRefs

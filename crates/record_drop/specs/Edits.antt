@@ -4,8 +4,9 @@ use mathlib.Core.List.{List}
 use Prim.Native.Nat.{ℕ, _-_}
 use lib.Dec.{ltb}
 use lib.ListN.{length, replicate}
-use Rattle.fields.specs.Numbers.{leBytes}
-use Rattle.format.specs.Questions.{Answer, bind}
+use Rattle.fields.specs.Numbers.{le, leBytes}
+use Rattle.fields.specs.Parts.{part}
+use Rattle.format.specs.Questions.{Answer, refused, absent, remove, accepted, bind}
 use Rattle.item_list.specs.declared.Sought.{Sought}
 use Rattle.item_list.specs.declared.Sought.the-variants.{Present, Absent}
 use Rattle.item_list.specs.Steps.{itemAt}
@@ -38,3 +39,12 @@ heldPlan room count s start end plan b =
 unfoldable pub behindOf : ℕ → Sought → Sought
 behindOf end (Present from to) = cond (ltb from end) (Absent from) (Present from to)
 behindOf end (Absent at) = Absent at
+
+-- the same by the answer of an item's own drop: the item goes, or counts one less
+unfoldable pub heldAt : ℕ → ℕ → List ℕ → ℕ → ℕ → ℕ → ℕ → Answer (List ℕ) → List ℕ → Answer (List ℕ)
+heldAt room items s start end from to (refused number) body = refused number
+heldAt room items s start end from to absent body = absent
+heldAt room items s start end from to remove body =
+    heldRecord room (items - 1) (length body) (editedSheet s (recordAt s start end) (gone from to) body)
+heldAt room items s start end from to (accepted item) body =
+    heldRecord room items (length body) (editedSheet s (recordAt s start end) (counts to (le (part (to - 4) 4 s) - 1)) body)

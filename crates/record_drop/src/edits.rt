@@ -8,6 +8,7 @@ use record_edit::Record;
 ghost use mathlib.Core.Path.{_≡_};
 ghost use Prim.Native.Nat.{_+_, _-_, _≤_};
 ghost use lib.ListN.{length};
+ghost use Rattle.fields.specs.Numbers.{leBytes};
 ghost use Rattle.format.specs.Questions.{Answered};
 ghost use Rattle.item_list.specs.Steps.{Listed, itemsOf};
 ghost use Rattle.item_list.specs.Seeks.{seekIn};
@@ -109,4 +110,37 @@ pub fn put_without(
         size: 0,
     };
     put(sheet, start, end, plan, behind, one_less(items), out)
+}
+
+// A number of four bytes.
+fn count_bytes(count: u32) -> [u8; 4]
+    ensures { λ r. ⌜ r ≡ leBytes 4 count ⌝ }
+{
+    let mut new = [0; 4];
+    fields::put_u32_le(&mut new, 0, count);
+    new
+}
+
+// With it the item that ends at `to` gets another count in its last four bytes.
+pub fn put_count(
+    sheet: &[u8],
+    start: usize,
+    end: usize,
+    plan: Plan,
+    to: usize,
+    count: u32,
+    items: usize,
+    out: &mut [u8],
+) -> Edited
+    requires { ⌜ PlanIn plan (dataOf (now sheet) start end) ⌝ }
+    requires { ⌜ (start + 21 ≤ end) × (end + 4 ≤ to) × (to ≤ length (now sheet)) × (length (now sheet) ≤ 262144) ⌝ }
+    ensures { λ r. ⌜ Answered (heldPlan (length (now (out .entry))) items (now (sheet .entry)) start end plan (counts to count)) r (now (out .entry)) (now (out .exit)) ⌝ }
+{
+    let behind = Behind {
+        from: to - 4,
+        to,
+        new: count_bytes(count),
+        size: 4,
+    };
+    put(sheet, start, end, plan, behind, items, out)
 }

@@ -3,4 +3,5 @@
 mod drops;
 mod edits;
 
+pub use drops::drop_data_ref;
 pub use drops::drop_tree_ref;

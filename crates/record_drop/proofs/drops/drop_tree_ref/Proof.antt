@@ -5,7 +5,7 @@ use lib.ListN.{length}
 use Rattle.fields.proofs.Numbers.{areBytes-in}
 use Rattle.record_drop.proofs.Behind.{place-fits}
 use Rattle.record_drop.proofs.Turns.{other-outcome}
-use Rattle.record_drop.proofs.Trees.{tree-inline, tree-none, tree-item}
+use Rattle.record_drop.proofs.TreeRefs.{tree-inline, tree-none, tree-item}
 use borrow.Author.Needs.{needs}
 use Rattle.record_drop.proofs.drops.drop_tree_ref.Statement.{statement}
 use Rattle.record_drop.proofs.drops.drop_tree_ref.Tie as tie

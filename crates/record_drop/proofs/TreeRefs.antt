@@ -13,7 +13,7 @@ use Rattle.format.specs.declared.Edited.{Edited}
 use Rattle.format.specs.declared.Edited.the-variants.{Refused as Denied}
 use Rattle.format.specs.Questions.{Answer, accepted, bind, needed, Answered}
 use Rattle.format.specs.Bodies.{lowerTotal, dropInlineTreeRef}
-use Rattle.format.specs.Items.{Item, keyOf, heldSheet, putBack, without}
+use Rattle.format.specs.Items.{Item, keyOf, heldSheet, without}
 use Rattle.format.specs.Sheets.{hasKey, deleted}
 use Rattle.format.specs.Apply.{replaced, flagged, dropTreeRef}
 use Rattle.item_list.specs.declared.Sought.the-variants.{Present, Absent as Missing}
@@ -27,8 +27,8 @@ use Rattle.record_edit.specs.Records.{dataOf}
 use Rattle.record_drop.specs.Stands.{Stands}
 use Rattle.record_drop.specs.Edits.{nothing, gone, heldPlan, behindOf}
 use Rattle.record_drop.proofs.Behind.{BehindAt, behind-at, behind-none}
-use Rattle.record_drop.proofs.Puts.{put-answered, as-it-was, without-it, replaced-without}
-use Rattle.record_drop.proofs.Turns.{not-absent, is-absent, stays, turns}
+use Rattle.record_drop.proofs.Puts.{put-answered, inline-answered, without-it, replaced-without}
+use Rattle.record_drop.proofs.Turns.{is-absent, turns}
 
 module _ (s : List ℕ) (start end n : ℕ) (name : BlockRef) (key : Key) (key-is : key ≡ itemAt s start .key) (p : Plan)
     (planned : Planned p (dataOf s start end) (dropInlineTreeRef (key .kind) (dataOf s start end) name)) (room : ℕ) where
@@ -50,10 +50,7 @@ module _ (s : List ℕ) (start end n : ℕ) (name : BlockRef) (key : Key) (key-i
         → Answered (heldSheet room (dropTreeRef name false (itemsOf s) c)) r old new
     unfolding dropTreeRef flagged bind
     tree-inline there r old new w =
-        put-answered st (as-it-was st) room p (dropInlineTreeRef (c .hit .key .kind) (c .hit .bytes) name) _ r old new
-        (stays (dropInlineTreeRef (c .hit .key .kind) (c .hit .bytes) name) (putBack c) other
-        (λ e. not-absent p (dataOf s start end) there (says ∙ e)))
-        says w
+        inline-answered st p (dropInlineTreeRef (c .hit .key .kind) (c .hit .bytes) name) other room r old new there says w
 
     module _ (out : p .outcome ≡ Absent) where
       turned : dropTreeRef name false (itemsOf s) c ≡ other
