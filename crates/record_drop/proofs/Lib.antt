@@ -5,3 +5,4 @@ pub mod Behind
 pub mod Puts
 pub mod TreeRefs
 pub mod DataRefs
+pub mod SharedRefs

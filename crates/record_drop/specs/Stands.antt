@@ -5,10 +5,13 @@ use Prim.Native.Nat.{ℕ, _+_, _≤_}
 use lib.Dec.{T}
 use lib.ListN.{length}
 use Rattle.fields.specs.Lists.{all, Cut}
+use Rattle.format.specs.declared.SharedRef.{SharedRef}
 use Rattle.format.specs.declared.Edited.{Edited}
 use Rattle.format.specs.Questions.{Answer, accepted, Answered}
 use Rattle.format.specs.Items.{Item, readSheet, sheetBytes, dataFits, heldSheet}
 use Rattle.format.specs.Apply.{isRecord}
+use Rattle.format.specs.Names.{good}
+use Rattle.format.specs.Ledger.{dropSharedRef}
 use Rattle.item_list.specs.Steps.{itemsOf, itemAt}
 use Rattle.record_edit.specs.Records.{dataOf}
 
@@ -31,3 +34,9 @@ pub record Stands (s : List ℕ) (c : Cut Item) (start end n : ℕ) : Type 0 whe
 abbrev pub Dropped : (List Item → Cut Item → Answer (List Item)) → List ℕ → ℕ → ℕ → ℕ → Edited → List ℕ → List ℕ → Type 0
 Dropped call s start end n r old new =
     (c : Cut Item) → Stands s c start end n → Answered (heldSheet (length old) (call (itemsOf s) c)) r old new
+
+-- a shared reference, in a list whose reference items are in their form: a 184 item then has four bytes
+abbrev pub DroppedShared : SharedRef → List ℕ → ℕ → ℕ → ℕ → Edited → List ℕ → List ℕ → Type 0
+DroppedShared name s start end n r old new =
+    (c : Cut Item) → Stands s c start end n → T (all good (itemsOf s))
+    → Answered (heldSheet (length old) (dropSharedRef name (itemsOf s) c)) r old new

@@ -1,4 +1,4 @@
-// The three drops: inline, or else at the reference's own item.
+// References that name a tree: one count off inline, or else at the reference's own item.
 use super::edits;
 use backref_plan::Outcome;
 use format::BlockRef;

@@ -2,6 +2,8 @@
 // item, which stands behind the record.
 mod drops;
 mod edits;
+mod shared;
 
 pub use drops::drop_data_ref;
 pub use drops::drop_tree_ref;
+pub use shared::drop_shared_ref;
