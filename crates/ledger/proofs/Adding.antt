@@ -26,7 +26,6 @@ use Rattle.inline_refs.specs.declared.wanted.Wanted.{Wanted}
 use Rattle.inline_refs.specs.declared.wanted.Wanted.the-variants.{Block, Data, SharedBlock, SharedData}
 use Rattle.inline_refs.specs.Scans.{kindOf, fieldsOf}
 use Rattle.item_list.specs.Steps.{itemAt, itemsOf}
-use Rattle.item_list.proofs.Reading.{counted}
 use Rattle.backref_plan.specs.declared.plan.Plan.{Plan}
 use Rattle.backref_plan.specs.declared.plan.Outcome.the-variants.{Refused}
 use Rattle.backref_plan.specs.Plans.{planAnswer, Planned}
@@ -34,13 +33,14 @@ use Rattle.backref_plan.proofs.Outcomes.{plan-refused}
 use Rattle.record_edit.specs.Records.{dataOf, heldEdit}
 use Rattle.transaction.specs.Spots.{withBody}
 use Rattle.transaction.specs.Keyed.{larger, limitFor}
-use Rattle.transaction.proofs.Spots.{Standing, standing}
+use Rattle.transaction.proofs.Spots.{Standing}
 use Rattle.transaction.proofs.Records.{put-answered}
 use Rattle.transaction.proofs.KeyedAdditions.{either}
-use Rattle.ledger.specs.Books.{Books, Entered, nameIn}
+use Rattle.ledger.specs.Books.{nameIn}
 use Rattle.ledger.specs.Asked.{AskedAdd}
 use Rattle.ledger.specs.Adding.{sharedRef, addChange, addedBody, grownOnly}
 use Rattle.ledger.proofs.Alsos.{also-bind}
+use Rattle.ledger.proofs.Standings.{on-record}
 
 -- ---- the body
 
@@ -75,15 +75,7 @@ module _ (i : Item) (w : Wanted) (amount : ℕ) (plan : Plan) where
 
 -- ---- the record
 
--- the record is found
-pub stood : (s : List ℕ) (n extent start end : ℕ) → T (areBytes s) → Books s n → (e : Entered s extent start end) → Standing s extent true (e .number) start end n
-stood s n extent start end t b e = standing s extent n (counted s n t (b .checked)) (e .number) start end (e .finds)
-
 module _ {s : List ℕ} {extent number start end n : ℕ} (st : Standing s extent true number start end n) where
-  on-record : {A : Type 0} (next : Cut Item → Answer A) → onRecord extent (itemsOf s) next ≡ next (st .at-cut)
-  unfolding onRecord bind needed
-  on-record next = ap (λ (o : Option (Cut Item)). bind (needed 5 o) next) (st .finds)
-
   abbrev hit : Item
   hit = st .at-cut .hit
 
@@ -110,7 +102,7 @@ module _ {s : List ℕ} {extent number start end n : ℕ} (st : Standing s exten
       (λ d. ask (leb (length d) (length (hit .bytes)) || leb (length d) (inlineLimit nodesize)) 17 (accepted (putBack (st .at-cut) d)))
   unfolding applyKeyedAdd
   keyed-is nodesize amount m keyed =
-      ap (added m amount (itemsOf s)) (on-record (λ c.
+      ap (added m amount (itemsOf s)) (on-record st (λ c.
       bind (keyedBody (c .hit) keyed amount false) (λ body.
       ask (leb (length body) (length (c .hit .bytes)) || leb (length body) (inlineLimit nodesize)) 17 (accepted (putBack c body)))))
       ∙ asked-first m amount (keyedBody hit keyed amount false) (λ d. leb (length d) (length (hit .bytes)) || leb (length d) (inlineLimit nodesize))
@@ -121,7 +113,7 @@ module _ {s : List ℕ} {extent number start end n : ℕ} (st : Standing s exten
       (λ d. ask (leb (length d) (inlineLimit nodesize)) 17 (accepted (putBack (st .at-cut) d)))
   unfolding applySharedAdd
   shared-is nodesize amount m name =
-      ap (added m amount (itemsOf s)) (on-record (λ c.
+      ap (added m amount (itemsOf s)) (on-record st (λ c.
       bind (sharedBody (c .hit) name amount false) (λ body. ask (leb (length body) (inlineLimit nodesize)) 17 (accepted (putBack c body)))))
       ∙ asked-first m amount (sharedBody hit name amount false) (λ d. leb (length d) (inlineLimit nodesize))
 

@@ -9,7 +9,6 @@ use lib.Dec.{T}
 use lib.ListN.{length}
 use Rattle.fields.specs.Lists.{all, Cut, cut}
 use Rattle.fields.specs.Numbers.{areBytes}
-use Rattle.fields.specs.Parts.{part}
 use Rattle.fields.proofs.Lists.{all-mid, Found, cut-some}
 use Rattle.format.specs.declared.Key.{Key}
 use Rattle.format.specs.References.{placeOf}
@@ -17,7 +16,7 @@ use Rattle.format.specs.Items.{Item, keyOf}
 use Rattle.format.specs.Sheets.{hasKey}
 use Rattle.format.specs.Names.{good}
 use Rattle.format.specs.Ledger.{notItsOwn}
-use Rattle.format.proofs.Splices.{sheet-data}
+use Rattle.format.proofs.Items.{sane}
 use Rattle.history.proofs.Edit.{balanced-out}
 use Rattle.inline_refs.specs.declared.wanted.Wanted.{Wanted}
 use Rattle.inline_refs.specs.Scans.{kindOf, fieldsOf}
@@ -28,6 +27,7 @@ use Rattle.item_list.specs.Seeks.{seekIn}
 use Rattle.item_list.proofs.Reading.{Counted, counted, listed}
 use Rattle.item_list.proofs.Places.{Sits, sits, Inside, inside}
 use Rattle.record_edit.specs.Records.{dataOf}
+use Rattle.record_edit.proofs.Places.{item-there}
 use Rattle.ledger.specs.Books.{Books, nameIn, ownAt}
 use Rattle.ledger.proofs.Own.{ownKey, own-absent, own-found, data-long}
 
@@ -55,9 +55,10 @@ module _ (s : List ℕ) (n : ℕ) (t : T (areBytes s)) (books : Books s n) (exte
       let f : Found (hasKey (ownKey (nameIn extent w))) (itemsOf s) d = cut-some (hasKey (ownKey (nameIn extent w))) (itemsOf s) (t .is) in
       let i : Inside s (d .front) (d .hit) start end =
       inside s (itemsOf s) (d .front) (d .hit) (d .back) start end (count .bytes-are) (f .same) (t .stands) in
-      let size : length (d .hit .bytes) ≡ end - (start + 21) = let a = i .starts in let b = i .ends in omega arith in
+      let sane-hit : T (sane (d .hit)) =
+      all-mid sane (d .front) (d .hit) (d .back) (subst (λ (l : List Item). T (all sane l)) (f .same) (count .sane-all)) in
       let bytes-is : d .hit .bytes ≡ dataOf s start end =
-      sym (sheet-data (itemsOf s) (d .front) (d .hit) (d .back) (f .same)) ∙ (λ j. part (i .starts j + 21) (size j) (count .bytes-are j)) in
+      ap (λ (x : Item). x .bytes) (item-there s (d .front) (d .hit) (d .back) start end (count .bytes-are) (f .same) sane-hit i) in
       let g : T (good (d .hit)) =
       all-mid good (d .front) (d .hit) (d .back) (subst (λ (l : List Item). T (all good l)) (f .same) (balanced-out (itemsOf s) (books .balance) .goods)) in
       record {

@@ -1,4 +1,5 @@
 -- The three changes that add a reference, by the wanted name. Assumes nothing.
+use mathlib.Core.Path.{_≡_}
 use mathlib.Core.Bool.{Bool, true, false}
 use mathlib.Core.List.{List}
 use Prim.Native.Nat.{ℕ, zero, suc}
@@ -10,6 +11,7 @@ use Rattle.format.specs.Bodies.{addInlineTreeRef, addInlineData, addInlineShare
 use Rattle.format.specs.Items.{Item}
 use Rattle.inline_refs.specs.declared.wanted.Wanted.{Wanted}
 use Rattle.inline_refs.specs.declared.wanted.Wanted.the-variants.{Block, Data, SharedBlock, SharedData}
+use Rattle.inline_refs.specs.Scans.{kindOf}
 
 abbrev pub sharedRef : ℕ → ℕ → SharedRef
 sharedRef kind parent = record { kind = kind; parent = parent }
@@ -34,3 +36,8 @@ grownOnly (Block name) = true
 grownOnly (Data name) = true
 grownOnly (SharedBlock parent) = false
 grownOnly (SharedData parent) = false
+
+-- the name that a shared reference wants
+pub record SharedWanted (name : SharedRef) (w : Wanted) : Type 0 where
+  pub change : (extent amount : ℕ) → AddShared extent name amount ≡ addChange extent w amount
+  pub kind : kindOf w ≡ name .kind

@@ -1,4 +1,5 @@
 // A reference added to the record of an extent.
+use crate::Stand;
 use crate::also;
 use crate::owned;
 use backref_plan::Plan;
@@ -62,26 +63,26 @@ fn grown_only(wanted: Wanted) -> bool
     }
 }
 
-// The reference added to the record that stands from `start` up to `end`. A block reference has amount 1.
+// The reference added to the record that stands there. A block reference has amount 1.
 pub fn add(
     sheet: &[u8],
-    start: usize,
-    end: usize,
-    items: usize,
+    stand: Stand,
     nodesize: u32,
     extent: u64,
     wanted: Wanted,
     amount: u32,
     out: &mut [u8],
 ) -> Edited
-    requires { ⌜ Books (now sheet) items ⌝ }
-    requires { ⌜ Entered (now sheet) extent start end ⌝ }
+    requires { ⌜ Books (now sheet) (stand .items) ⌝ }
+    requires { ⌜ Entered (now sheet) extent (stand .start) (stand .end) ⌝ }
     requires { ⌜ (kindOf wanted ≡ 176 → amount ≡ 1) ⌝ }
     ensures { λ r. ⌜ Answered (heldSheet (length (now (out .entry))) (changed nodesize (addChange extent wanted amount) (itemsOf (now (sheet .entry))))) r (now (out .entry)) (now (out .exit)) ⌝ }
 {
+    let start = stand.start;
+    let end = stand.end;
     let key = item_list::key_at(sheet, start);
     let plan = plan_add(key, &sheet[start + 21..end], wanted, amount);
-    let asked = ask_add(plan, sheet, items, extent, wanted, amount);
+    let asked = ask_add(plan, sheet, stand.items, extent, wanted, amount);
     let limit = transaction::limit_for(nodesize, end - (start + 21), grown_only(wanted));
-    transaction::put_back(sheet, start, end, asked, limit, items, out)
+    transaction::put_back(sheet, start, end, asked, limit, stand.items, out)
 }

@@ -4,13 +4,14 @@ use lib.ListN.{length}
 use denote.Ref.{now}
 use Rattle.fields.proofs.Numbers.{areBytes-in}
 use Rattle.transaction.proofs.Spots.{Standing}
-use Rattle.ledger.proofs.Adding.{stood, add-answered}
+use Rattle.ledger.proofs.Standings.{stood}
+use Rattle.ledger.proofs.Adding.{add-answered}
 use borrow.Author.Needs.{needs}
 use Rattle.ledger.proofs.adds.add.Statement.{statement}
 use Rattle.ledger.proofs.adds.add.Tie as tie
 
 -- the record stands
-found : (c : tie.After-slice-known) → Standing (now (c .before .before .args .sheet)) (c .before .before .args .extent) true (c .before .before .pre .1 .0 .number) (c .before .before .args .start) (c .before .before .args .end) (c .before .before .args .items)
+found : (c : tie.After-slice-known) → Standing (now (c .before .before .args .sheet)) (c .before .before .args .extent) true (c .before .before .pre .1 .0 .number) (c .before .before .args .stand .start) (c .before .before .args .stand .end) (c .before .before .args .stand .items)
 found c =
     let a = c .before .before .args in
     stood _ _ _ _ _ (areBytes-in (now (a .sheet)) (λ i. c .before .shared-slice-known .given i .fits)) (c .before .before .pre .0) (c .before .before .pre .1 .0)
