@@ -4,14 +4,14 @@ use mathlib.Core.Logic.{_⊎_, inl, inr}
 use mathlib.Core.Bool.{Bool, true, false, not, cond}
 use mathlib.Core.Option.{Option, none, some, Option·map}
 use mathlib.Core.List.{List, [], _∷_, _++_}
-use Prim.Native.Nat.{ℕ, zero, suc, _+_, _-_, _≤_}
+use Prim.Native.Nat.{ℕ, zero, suc, _+_, _≤_}
 use native.Mathlib.Omega.{arith}
 use lib.Dec.{T, eqb}
 use lib.ListN.{length, take, getElem?, length-append}
 use mir.Facts.{yes-and, and-yes}
 use borrow.Author.Tests.{eqb-true, eqb-false}
 use Rattle.fields.specs.Lists.{all, Cut, later, cut}
-use Rattle.fields.proofs.Lists.{T-eq, all-map}
+use Rattle.fields.proofs.Lists.{T-eq, cond-no, all-map}
 use Rattle.format.specs.declared.Key.{Key}
 use Rattle.format.specs.Items.{Item, sameKey, keyBelow, above, rising, itemBytes, itemsBytes, sheetBytes}
 use Rattle.format.specs.Sheets.{hasKey, putBefore}
@@ -251,6 +251,17 @@ gap key at (i ∷ items) start r e =
         }
     go false true h k f ih = gap-first key at start i items r k cc
     go false false h k f ih = let z : _≡_ {A = ℕ} 0 1 = cc in absurd (omega arith)
+
+-- so no cut finds it
+
+cut-nowhere : {A : Type 0} (p : A → Bool) (l : List A) → T (all (λ x. not (p x)) l) → cut p l ≡ none
+cut-nowhere p [] t = refl
+cut-nowhere p (x ∷ l) t =
+    let h = and-yes (not (p x)) _ t in
+    cond-no (p x) _ _ (h .0) ∙ ap (Option·map (later x)) (cut-nowhere p l (h .1))
+
+pub no-cut : (key : Key) (at : ℕ) (items : List Item) (start : ℕ) → T (rising items) → seekIn key at items ≡ Absent start → cut (hasKey key) items ≡ none
+no-cut key at items start r e = cut-nowhere (hasKey key) items (gap key at items start r e .free)
 
 -- ---- places in the bytes
 

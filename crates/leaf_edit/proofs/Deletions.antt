@@ -1,16 +1,15 @@
 -- An item taken out of an item list, from the answers of the pass and of the search. Assumes nothing.
-use mathlib.Core.Path.{_≡_, refl, sym, ap, _∙_, subst}
-use mathlib.Core.Bool.{Bool, true, not}
-use mathlib.Core.Option.{Option, none, some, Option·map}
+use mathlib.Core.Path.{_≡_, sym, ap, _∙_, subst}
+use mathlib.Core.Bool.{true}
+use mathlib.Core.Option.{Option, none, some}
 use mathlib.Core.List.{List, [], _∷_}
 use Prim.Native.Nat.{ℕ, _-_, _≤_}
 use native.Mathlib.Omega.{arith}
 use lib.Dec.{T}
 use lib.ListN.{length, length-append}
-use mir.Facts.{and-yes}
-use Rattle.fields.specs.Lists.{all, Cut, later, cut}
+use Rattle.fields.specs.Lists.{all, Cut, cut}
 use Rattle.fields.specs.Parts.{spliced}
-use Rattle.fields.proofs.Lists.{cond-no, all-rest, Found, cut-some}
+use Rattle.fields.proofs.Lists.{all-rest, Found, cut-some}
 use Rattle.format.specs.declared.Key.{Key}
 use Rattle.format.specs.Questions.{Answer, refused, accepted, ask, bind, needed}
 use Rattle.format.specs.Items.{Item, readSheet, sheetBytes, onSheet, dataFits, without}
@@ -20,14 +19,8 @@ use Rattle.item_list.specs.declared.Sought.the-variants.{Present, Absent}
 use Rattle.item_list.specs.Steps.{itemsOf}
 use Rattle.item_list.specs.Seeks.{seekIn}
 use Rattle.item_list.proofs.Reading.{Counted}
-use Rattle.item_list.proofs.Places.{Sits, sits, gap, Inside, inside}
+use Rattle.item_list.proofs.Places.{Sits, sits, no-cut, Inside, inside}
 use Rattle.item_write.proofs.Writes.{sane-fit}
-
-cut-nowhere : {A : Type 0} (p : A → Bool) (l : List A) → T (all (λ x. not (p x)) l) → cut p l ≡ none
-cut-nowhere p [] t = refl
-cut-nowhere p (x ∷ l) t =
-    let h = and-yes (not (p x)) _ t in
-    cond-no (p x) _ _ (h .0) ∙ ap (Option·map (later x)) (cut-nowhere p l (h .1))
 
 pub delete-refused : (s : List ℕ) (key : Key) (k : ℕ) → readSheet s ≡ refused k → delete s key ≡ refused k
 unfolding delete onSheet bind
@@ -42,7 +35,7 @@ module _ (s : List ℕ) (n : ℕ) (c : Counted s n) (key : Key) where
 
   pub delete-absent : (at : ℕ) → seekIn key 1 (itemsOf s) ≡ Absent at → delete s key ≡ refused 5
   unfolding bind needed
-  delete-absent at e = delete-is none (cut-nowhere (hasKey key) (itemsOf s) (gap key 1 (itemsOf s) at (c .rises) e .free))
+  delete-absent at e = delete-is none (no-cut key 1 (itemsOf s) at (c .rises) e)
 
   pub record Deletion (start end : ℕ) : Type 0 where
     pub items : List Item

@@ -1,1 +1,3 @@
 pub mod Writes
+pub mod Held
+pub mod Places

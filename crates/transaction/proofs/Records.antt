@@ -1,40 +1,27 @@
 -- A planned body put into an extent's record: from the bytes to the items. Assumes nothing.
 use mathlib.Core.Path.{_≡_, refl, sym, ap, ap₂, _∙_, subst}
-use mathlib.Core.Bool.{Bool, true, false, _&&_}
+use mathlib.Core.Bool.{Bool, true, false}
 use mathlib.Core.List.{List, [], _++_, append-nil}
 use Prim.Native.Nat.{ℕ}
 use lib.Dec.{leb}
 use lib.ListN.{length, take, drop, take-append-drop}
-use Rattle.fields.specs.Lists.{all, Cut}
 use Rattle.fields.specs.Parts.{spliced}
 use Rattle.format.specs.declared.Key.{Key}
 use Rattle.format.specs.declared.Told.the-variants.{Value, Refused as Untold}
 use Rattle.format.specs.declared.Edited.{Edited}
 use Rattle.format.specs.Questions.{Answer, refused, absent, remove, accepted, ask, bind, held, toldOf, Answered}
-use Rattle.format.specs.Items.{Item, readSheet, itemBytes, sheetBytes, dataFits, sheetHolds, heldSheet, putBack}
+use Rattle.format.specs.Items.{Item, readSheet, itemBytes, heldSheet, putBack}
 use Rattle.format.specs.Apply.{recordNumber}
 use Rattle.item_list.specs.Steps.{itemAt}
-use Rattle.item_write.specs.Writes.{roomFor}
 use Rattle.backref_plan.specs.declared.plan.Plan.{Plan}
-use Rattle.backref_plan.specs.Plans.{planAnswer, Planned}
+use Rattle.backref_plan.specs.Plans.{planAnswer}
 use Rattle.record_edit.specs.declared.Behind.{Behind}
 use Rattle.record_edit.specs.declared.Record.{Record}
 use Rattle.record_edit.specs.Records.{dataOf, editedSheet, heldRecord, heldEdit}
+use Rattle.record_edit.proofs.Held.{held-items, held-bind}
 use Rattle.transaction.specs.declared.Spot.the-variants.{Refused as Spot-refused}
 use Rattle.transaction.specs.Spots.{spotOf, withBody}
 use Rattle.transaction.proofs.Spots.{Standing, spot-refused, stands-answer, put-bytes, put-count, put-fit}
-
-held-items : (room count size : ℕ) (items : List Item) (bytes : List ℕ) → sheetBytes items ≡ bytes → length items ≡ count
-    → all (λ i. dataFits (i .bytes)) items ≡ leb size 65535
-    → heldSheet room (accepted items) ≡ heldRecord room count size bytes
-unfolding heldSheet held sheetHolds heldRecord roomFor bind ask
-held-items room count size items bytes e n f =
-    rw (← e, ← n, f)
-    (go (leb (length (sheetBytes items)) room && leb (length (sheetBytes items)) 262144 && leb (length items) 4096 && leb size 65535))
-  where
-    go : (b : Bool) → bind (ask b 21 (accepted items)) (λ (l : List Item). accepted (sheetBytes l)) ≡ ask b 21 (accepted (sheetBytes items))
-    go true = refl
-    go false = refl
 
 -- ---- record_of
 
@@ -78,16 +65,6 @@ module _ (s : List ℕ) (start end : ℕ) (key : Key) (is : key ≡ itemAt s sta
       subst (λ (x : Answer (List ℕ)). Answered x r old now) (same-sheets room count limit _ _ (plain new) a) w
 
 -- ---- another body
-
--- after the body's answer, the items are held as their bytes are
-held-bind : (room : ℕ) (a : Answer (List ℕ)) (next : List ℕ → Answer (List Item)) (put : List ℕ → Answer (List ℕ))
-    → ((d : List ℕ) → a ≡ accepted d → heldSheet room (next d) ≡ put d)
-    → heldSheet room (bind a next) ≡ bind a put
-unfolding heldSheet held bind
-held-bind room (refused k) next put h = refl
-held-bind room absent next put h = refl
-held-bind room remove next put h = refl
-held-bind room (accepted d) next put h = h d refl
 
 module _ {s : List ℕ} {extent : ℕ} {three : Bool} {number start end n : ℕ} (st : Standing s extent three number start end n) (room limit : ℕ) where
   -- question 17 as the call puts it

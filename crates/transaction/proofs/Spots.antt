@@ -1,23 +1,22 @@
 -- An extent's record in an item list, from the answers of the pass and of the search. Assumes nothing.
-use mathlib.Core.Path.{_≡_, refl, sym, ap, ap₂, _∙_, subst}
-use mathlib.Core.Bool.{Bool, true, false, _&&_, cond}
-use mathlib.Core.Option.{Option, none, some}
-use mathlib.Core.List.{List, [], _∷_, _++_}
-use Prim.Native.Nat.{ℕ, _+_, _-_, _≤_}
+use mathlib.Core.Path.{_≡_, refl, sym, ap, _∙_, subst}
+use mathlib.Core.Bool.{Bool, true, false, cond}
+use mathlib.Core.Option.{Option, some}
+use mathlib.Core.List.{List, _∷_, _++_}
+use Prim.Native.Nat.{ℕ, _+_, _≤_}
 use native.Mathlib.Omega.{arith}
 use native.Mathlib.Nat.{zero-add}
 use lib.Dec.{T, leb}
-use lib.ListN.{length, drop, length-append}
-use mir.Facts.{and-yes}
+use lib.ListN.{length, length-append}
 use Rattle.fields.specs.Lists.{all, Cut, cut}
 use Rattle.fields.specs.Numbers.{areBytes}
-use Rattle.fields.specs.Parts.{part, spliced}
-use Rattle.fields.proofs.Lists.{T-eq, all-mid, all-rest, Found, cut-some}
+use Rattle.fields.specs.Parts.{spliced}
+use Rattle.fields.proofs.Lists.{all-mid, all-rest, Found, cut-some}
 use Rattle.format.specs.Questions.{Answer, refused, absent, remove, accepted, ask, bind, needed}
-use Rattle.format.specs.Items.{Item, readSheet, firstItem, itemBytes, itemsBytes, sheetBytes, onSheet, dataFits, withBytes, putBack}
+use Rattle.format.specs.Items.{Item, readSheet, itemBytes, sheetBytes, onSheet, dataFits, withBytes, putBack}
 use Rattle.format.specs.Apply.{recordOf, onRecord}
-use Rattle.format.proofs.Items.{ReadsSheet, sheet, broken, unsorted, readSheet-decides, sane, sane-out, firstItem-back}
-use Rattle.format.proofs.Splices.{sheet-replace, sheet-from, sheet-data}
+use Rattle.format.proofs.Items.{ReadsSheet, sheet, broken, unsorted, readSheet-decides, sane}
+use Rattle.format.proofs.Splices.{sheet-replace}
 use Rattle.item_list.specs.declared.Place.{Place}
 use Rattle.item_list.specs.declared.Place.the-variants.{At as Placed-at, Missing}
 use Rattle.item_list.specs.declared.Checked.the-variants.{Count}
@@ -27,7 +26,8 @@ use Rattle.item_list.proofs.Reading.{Counted, counted}
 use Rattle.item_list.proofs.Places.{Placed, placed, missing, Inside, inside}
 use Rattle.item_write.proofs.Writes.{sane-fit}
 use Rattle.record_edit.specs.Records.{dataOf}
-use Rattle.transaction.specs.declared.Spot.{Spot}
+use Rattle.record_edit.proofs.Held.{all-but}
+use Rattle.record_edit.proofs.Places.{item-there}
 use Rattle.transaction.specs.declared.Spot.the-variants.{At, Refused}
 use Rattle.transaction.specs.Spots.{spotAt, spotOf, withBody}
 
@@ -106,20 +106,6 @@ pub record Standing (s : List ℕ) (extent : ℕ) (three : Bool) (number start e
   pub fit : T (all (λ i. dataFits (i .bytes)) (itemsOf s))
 
 module _ (s : List ℕ) (extent : ℕ) where
-  -- the item read at its place is the record
-  item-there : (front : List Item) (hit : Item) (back : List Item) (start end : ℕ) → sheetBytes (itemsOf s) ≡ s → itemsOf s ≡ front ++ hit ∷ back
-      → T (sane hit) → Inside s front hit start end → hit ≡ record { key = itemAt s start .key; bytes = dataOf s start end }
-  unfolding itemAt itemsBytes
-  item-there front hit back start end are same t i =
-      let there : firstItem (drop start s) ≡ hit =
-      ap₂ (λ (n : ℕ) (l : List ℕ). firstItem (drop n l)) (sym (i .starts)) (sym are ∙ ap sheetBytes same)
-      ∙ ap firstItem (sheet-from front (hit ∷ back)) ∙ firstItem-back hit (itemsBytes back) (sane-out hit t) in
-      let size : length (hit .bytes) ≡ end - (start + 21) = let a = i .starts in let b = i .ends in omega arith in
-      let bytes-is : hit .bytes ≡ dataOf s start end =
-      sym (sheet-data (itemsOf s) front hit back same) ∙ (λ j. part (i .starts j + 21) (size j) (are j)) in
-      let key-is : hit .key ≡ firstItem (drop start s) .key = ap (λ (i : Item). i .key) (sym there) in
-      λ j. record { key = key-is j; bytes = bytes-is j }
-
   pub standing : (n : ℕ) → Counted s n → (number start end : ℕ) → placeIn (recorded extent) 0 1 (itemsOf s) ≡ Placed-at number start end
       → Standing s extent true number start end n
   standing n c number start end e =
@@ -135,7 +121,7 @@ module _ (s : List ℕ) (extent : ℕ) where
         finds = t .is;
         same = f .same;
         number-is = t .number-is ∙ zero-add (length (d .front));
-        hit-is = item-there (d .front) (d .hit) (d .back) start end (c .bytes-are) (f .same)
+        hit-is = item-there s (d .front) (d .hit) (d .back) start end (c .bytes-are) (f .same)
             (all-mid sane (d .front) (d .hit) (d .back) (subst (λ (l : List Item). T (all sane l)) (f .same) (c .sane-all))) i;
         ordered = i .ordered;
         within = i .within;
@@ -192,14 +178,6 @@ module _ {s : List ℕ} {extent : ℕ} {three : Bool} {number start end n : ℕ}
   put-count d =
       let c : Cut Item = st .at-cut in
       length-append (c .front) (withBytes (c .hit) d ∷ c .back) ∙ sym (length-append (c .front) (c .hit ∷ c .back)) ∙ sym (ap length (st .same)) ∙ st .count
-
-  and-true : (a : Bool) → (a && true) ≡ a
-  and-true true = refl
-  and-true false = refl
-
-  all-but : (p : Item → Bool) (a : List Item) (x : Item) (b : List Item) → T (all p (a ++ b)) → all p (a ++ x ∷ b) ≡ p x
-  all-but p [] x b t = rw (T-eq (all p b) t) (and-true (p x))
-  all-but p (w ∷ a) x b t = let h = and-yes (p w) _ t in rw (T-eq (p w) (h .0)) (all-but p a x b (h .1))
 
   pub put-fit : (d : List ℕ) → all (λ i. dataFits (i .bytes)) (putBack (st .at-cut) d) ≡ leb (length d) 65535
   unfolding dataFits
