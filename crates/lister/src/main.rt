@@ -3,7 +3,7 @@ use libc::STDIN_FILENO;
 use libc::STDOUT_FILENO;
 
 fn main() {
-    // One byte more than the longest body that is not refused: whatever follows it, the text is the same.
+    // A type byte, and one byte more than the longest body: whatever follows, the text is the same (law `listed-cut`).
     let mut input = [0u8; 65537];
     let n = io::read_full(STDIN_FILENO, &mut input);
     let mut text = [0u8; 327775];
