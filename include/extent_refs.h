@@ -279,8 +279,17 @@ uint32_t transaction_apply_shared_add(
     uint8_t *out, size_t out_len,
     uint64_t *len);
 
+uint32_t transaction_apply_shared_drop(
+    const uint8_t *sheet, size_t sheet_len,
+    uint64_t bytenr,
+    uint8_t kind,
+    uint64_t parent,
+    uint32_t count,
+    bool as_item,
+    uint8_t *out, size_t out_len,
+    uint64_t *len);
+
 /* Not exported yet:
- *   transaction_apply_shared_drop
  *   transaction_drop_kept_tree_ref
  *   ledger_post
  */

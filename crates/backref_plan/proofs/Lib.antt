@@ -6,3 +6,4 @@ pub mod Takes
 pub mod Gives
 pub mod KeyedDrops
 pub mod Taken
+pub mod Reductions

@@ -2,3 +2,4 @@ pub mod Plans
 pub mod Heads
 pub mod Adds
 pub mod Takes
+pub mod Steps

@@ -2,6 +2,7 @@
 mod adds;
 mod bytes;
 mod drops;
+mod further;
 mod keyed;
 mod plan;
 mod totals;
@@ -11,6 +12,8 @@ pub use adds::plan_add_inline;
 pub use adds::plan_add_keyed;
 pub use drops::plan_drop_inline;
 pub use drops::plan_take_inline;
+pub use further::plan_needed;
+pub use further::plan_reduced;
 pub use keyed::plan_drop_keyed;
 pub use plan::Outcome;
 pub use plan::Plan;

@@ -2,7 +2,7 @@
 ghost use lib.ListN.{length};
 ghost use Rattle.format.specs.Bodies.{heldBody, heldOnlyBy, keyedDataRefNames, sharedAddItem, sharedAddInlineSize};
 ghost use Rattle.format.specs.Items.{heldSheet};
-ghost use Rattle.format.specs.Apply.{maxInlineExtentItem, recordNumber, applyKeyedAddTo, applySharedAddTo};
+ghost use Rattle.format.specs.Apply.{maxInlineExtentItem, recordNumber, applyKeyedAddTo, applySharedAddTo, applySharedDropTo};
 ghost use Rattle.extent_refs.specs.Exports.{Coded, CodedBool, CodedNumber};
 use super::codes;
 use format::BlockRef;
@@ -161,5 +161,23 @@ pub extern "C" fn transaction_apply_shared_add(
         as_item,
         out,
     );
+    codes::put_edited(answer, len)
+}
+
+#[no_mangle]
+pub extern "C" fn transaction_apply_shared_drop(
+    sheet: &[u8],
+    bytenr: u64,
+    kind: u8,
+    parent: u64,
+    count: u32,
+    as_item: bool,
+    out: &mut [u8],
+    len: &mut u64,
+) -> u32
+    ensures { λ r. ⌜ Coded (heldSheet (length (now (out .entry))) (applySharedDropTo (now (sheet .entry)) bytenr (record { kind = kind; parent = parent }) count «as_item»)) r (now (len .exit)) (now (out .entry)) (now (out .exit)) ⌝ }
+{
+    let name = SharedRef { kind, parent };
+    let answer = transaction::apply_shared_drop(sheet, bytenr, name, count, as_item, out);
     codes::put_edited(answer, len)
 }

@@ -3,3 +3,4 @@ pub mod Records
 pub mod Additions
 pub mod KeyedAdditions
 pub mod Takings
+pub mod SharedDrops

@@ -1,5 +1,6 @@
 // `record_of` and the calls of `transaction.rs` that change an extent's record in an item list (document 01's sheet).
 mod adds;
+mod drops;
 mod stand;
 
 pub use adds::apply_keyed_add;
@@ -10,6 +11,7 @@ pub use adds::limit_for;
 pub use adds::plan_keyed;
 pub use adds::plan_shared;
 pub use adds::shared_kind;
+pub use drops::apply_shared_drop;
 pub use stand::find;
 pub use stand::put_back;
 pub use stand::record_of;

@@ -1,0 +1,3 @@
+pub mod Moves
+pub mod Lent
+pub mod Counts

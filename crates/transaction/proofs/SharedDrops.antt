@@ -1,0 +1,109 @@
+-- apply_shared_drop, from the record's place and the planned body. Assumes nothing.
+use mathlib.Core.Path.{_≡_, refl, sym, ap, _∙_}
+use mathlib.Core.Bool.{Bool, true, false}
+use mathlib.Core.List.{List}
+use Prim.Native.Nat.{ℕ, _+_, _≤_}
+use native.Mathlib.Omega.{arith}
+use lib.Dec.{T, leb, leb→le}
+use lib.ListN.{length}
+use borrow.Author.Tests.{le-leb}
+use Rattle.fields.specs.Lists.{Cut}
+use Rattle.fields.specs.Numbers.{leBytes, areBytes}
+use Rattle.fields.proofs.Numbers.{length-leBytes}
+use Rattle.fields.proofs.Parts.{length-written}
+use Rattle.format.specs.declared.Key.{Key}
+use Rattle.format.specs.declared.SharedRef.{SharedRef}
+use Rattle.format.specs.declared.Edited.{Edited}
+use Rattle.format.specs.declared.Edited.the-variants.{Refused as Denied}
+use Rattle.format.specs.Questions.{Answer, refused, absent, remove, accepted, ask, bind, ifAbsent, bytesOf, Answered}
+use Rattle.format.specs.References.{totalOf}
+use Rattle.format.specs.Bodies.{bodyFits, onHead, sharedKind, reducedBy, onTotal, reduceTotal, takeInlineShared}
+use Rattle.format.specs.Items.{Item, readSheet, heldSheet, putBack}
+use Rattle.format.specs.Apply.{sharedRest, applySharedDrop, applySharedDropTo}
+use Rattle.format.proofs.Answers.{ask-ok, bind-ok, accepted-inj}
+use Rattle.item_list.specs.Steps.{itemAt}
+use Rattle.item_write.proofs.Writes.{answered-no}
+use Rattle.backref_plan.specs.declared.plan.Plan.{Plan}
+use Rattle.backref_plan.specs.Plans.{planAnswer, Planned, PlannedTaken}
+use Rattle.backref_plan.specs.Steps.{Reduces, Needs}
+use Rattle.backref_plan.proofs.Reductions.{needs-whole}
+use Rattle.record_edit.specs.Records.{dataOf, heldEdit}
+use Rattle.transaction.specs.declared.Spot.the-variants.{Refused}
+use Rattle.transaction.specs.Spots.{spotOf, withBody}
+use Rattle.transaction.proofs.Spots.{Standing, spot-refused, stands-answer}
+use Rattle.transaction.proofs.Records.{put-answered}
+use Rattle.transaction.proofs.Takings.{taken-says, taken-whole}
+
+-- ---- the planned body
+
+abbrev pub dropped : Item → SharedRef → ℕ → Bool → Answer (List ℕ)
+dropped i s count asItem = bind (sharedRest i s asItem) (λ rest. reduceTotal rest count)
+
+module _ (i : Item) (s : SharedRef) (count : ℕ) (asItem : Bool) (r : Plan) where
+  pub drop-item : asItem ≡ true → Planned r (i .bytes) (reduceTotal (i .bytes) count) → Planned r (i .bytes) (dropped i s count asItem)
+  unfolding sharedRest bind
+  drop-item e h = rw e h
+
+  -- a missing reference is 5, and then the total falls
+  pub drop-inline : asItem ≡ false → T (areBytes (i .bytes)) → (taken present : Plan)
+      → PlannedTaken taken (i .bytes) (takeInlineShared (i .key .kind) (i .bytes) s) → Needs taken present → Reduces present count r
+      → Planned r (i .bytes) (dropped i s count asItem)
+  unfolding sharedRest
+  drop-inline e bytes taken present p n d =
+      let body : List ℕ = i .bytes in
+      let q : Planned present body (ifAbsent (planAnswer taken body) (refused 5)) = n .plans body (p .inside) in
+      let rest-is : planAnswer present body ≡ ifAbsent (bytesOf (takeInlineShared (i .key .kind) body s)) (refused 5) =
+      q .says ∙ ap (λ (x : Answer (List ℕ)). ifAbsent x (refused 5)) (taken-says (i .key .kind) body s taken p) in
+      let done = d .plans body (q .inside) (needs-whole taken present body n (p .inside) (taken-whole (i .key .kind) body s taken p bytes)) in
+      rw e (record { says = done .says ∙ ap (λ (x : Answer (List ℕ)). bind x (λ rest. reduceTotal rest count)) rest-is; inside = done .inside })
+
+-- ---- the call
+
+-- question 17 is not asked, and no body is longer than the limit that is passed
+reduced-fits : (rest : List ℕ) (amount : ℕ) (d : List ℕ) → reduceTotal rest amount ≡ accepted d → length d ≤ 65535
+unfolding reduceTotal onTotal onHead bodyFits
+reduced-fits rest amount d e =
+    let q₁ = ask-ok (leb (length rest) 65535) 3 _ e in
+    let q₂ = ask-ok (leb 24 (length rest)) 6 _ (q₁ .1) in
+    let t = bind-ok (reducedBy amount (totalOf rest)) _ (q₂ .1) in
+    let short = leb→le (length rest) 65535 (q₁ .0) in
+    let long = leb→le 24 (length rest) (q₂ .0) in
+    let room : 0 + length (leBytes 8 (t .0)) ≤ length rest = omega (arith, length-leBytes 8 (t .0), long) in
+    omega (arith, ap length (accepted-inj (t .2)), length-written 0 (leBytes 8 (t .0)) rest room, short)
+
+dropped-fits : (a : Answer (List ℕ)) (amount : ℕ) (d : List ℕ) → bind a (λ rest. reduceTotal rest amount) ≡ accepted d → true ≡ leb (length d) 65535
+dropped-fits a amount d e =
+    let r = bind-ok a _ e in
+    sym (le-leb _ _ (reduced-fits (r .0) amount d (r .2)))
+
+-- one after the other, from the left or from the right
+bind-next : {A B C : Type 0} (a : Answer A) (f : A → Answer B) (g : B → Answer C) → bind a (λ x. bind (f x) g) ≡ bind (bind a f) g
+unfolding bind
+bind-next (refused n) f g = refl
+bind-next absent f g = refl
+bind-next remove f g = refl
+bind-next (accepted x) f g = refl
+
+pub shared-drop-refused : (s : List ℕ) (extent : ℕ) (name : SharedRef) (count : ℕ) (asItem : Bool) (room k : ℕ) (old : List ℕ)
+    → spotOf extent (sharedKind (name .kind)) (readSheet s) ≡ Refused k
+    → Answered (heldSheet room (applySharedDropTo s extent name count asItem)) (Denied k) old old
+unfolding applySharedDropTo applySharedDrop
+shared-drop-refused s extent name count asItem room k old e = answered-no _ room k old (spot-refused s extent (sharedKind (name .kind)) k _ e)
+
+pub shared-drop-answered : {s : List ℕ} {extent : ℕ} {number start end n : ℕ} (name : SharedRef)
+    → Standing s extent (sharedKind (name .kind)) number start end n
+    → (room count : ℕ) (asItem : Bool) (key : Key) (plan : Plan) (r : Edited) (old new : List ℕ)
+    → key ≡ itemAt s start .key
+    → Planned plan (dataOf s start end) (dropped (record { key = key; bytes = dataOf s start end }) name count asItem)
+    → Answered (bind (planAnswer plan (dataOf s start end)) (heldEdit room n 65535 (withBody s start end))) r old new
+    → Answered (heldSheet room (applySharedDropTo s extent name count asItem)) r old new
+unfolding applySharedDropTo applySharedDrop ask
+shared-drop-answered {s} {extent} {number} {start} {end} {n} name st room count asItem key plan r old new key-is p w =
+    let hit : Item = st .at-cut .hit in
+    let next : Cut Item → Answer (List Item) =
+    λ c. bind (sharedRest (c .hit) name asItem) (λ rest. bind (reduceTotal rest count) (λ body. accepted (putBack c body))) in
+    let same : record { key = key; bytes = dataOf s start end } ≡ hit = (λ j. record { key = key-is j; bytes = dataOf s start end }) ∙ sym (st .hit-is) in
+    put-answered st room 65535 plan (dropped hit name count asItem) (λ d. true) _ r old new
+    (dropped-fits (sharedRest hit name asItem) count)
+    (stands-answer st next ∙ bind-next (sharedRest hit name asItem) (λ rest. reduceTotal rest count) (λ body. accepted (putBack (st .at-cut) body)))
+    (p .says ∙ ap (λ (i : Item). dropped i name count asItem) same) w

@@ -1,0 +1,54 @@
+// apply_shared_drop.
+use super::Spot;
+use super::adds;
+use super::stand;
+use backref_plan::Plan;
+use format::Edited;
+use format::Key;
+use format::SharedRef;
+ghost use lib.ListN.{length};
+ghost use Rattle.format.specs.Questions.{Answered, bind};
+ghost use Rattle.format.specs.Bodies.{reduceTotal};
+ghost use Rattle.format.specs.Items.{heldSheet};
+ghost use Rattle.format.specs.Apply.{sharedRest, applySharedDropTo};
+ghost use Rattle.backref_plan.specs.Plans.{Planned};
+
+// The record's new body. A missing reference is refusal 5; with the item flag only the total moves.
+fn plan_drop_shared(key: Key, body: &[u8], name: SharedRef, count: u32, as_item: bool) -> Plan
+    ensures { λ r. ⌜ Planned r (now (body .entry)) (bind (sharedRest (record { key = key; bytes = now (body .entry) }) name «as_item») (λ rest. reduceTotal rest count)) ⌝ }
+{
+    if as_item {
+        return backref_plan::plan_reduce_total(body, count as u64);
+    }
+    let taken = backref::plan_take_shared(key.kind, body, name);
+    let present = backref_plan::plan_needed(taken);
+    backref_plan::plan_reduced(present, count as u64)
+}
+
+// A shared reference out of an extent's record, whole, and the count that was passed off the total.
+pub fn apply_shared_drop(
+    sheet: &[u8],
+    bytenr: u64,
+    name: SharedRef,
+    count: u32,
+    as_item: bool,
+    out: &mut [u8],
+) -> Edited
+    ensures { λ r. ⌜ Answered (heldSheet (length (now (out .entry))) (applySharedDropTo (now (sheet .entry)) bytenr name count «as_item»)) r (now (out .entry)) (now (out .exit)) ⌝ }
+{
+    let spot = stand::find(sheet, bytenr, adds::shared_kind(name.kind));
+    match spot {
+        Spot::Refused(number) => return Edited::Refused(number),
+        Spot::At {
+            number: _,
+            start,
+            end,
+            count: items,
+        } => {
+            let key = item_list::key_at(sheet, start);
+            let plan = plan_drop_shared(key, &sheet[start + 21..end], name, count, as_item);
+            // Question 17 is not asked: no body is longer than this limit.
+            return stand::put_back(sheet, start, end, plan, 65535, items, out);
+        }
+    }
+}
