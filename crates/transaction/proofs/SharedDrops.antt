@@ -27,12 +27,12 @@ use Rattle.backref_plan.specs.declared.plan.Plan.{Plan}
 use Rattle.backref_plan.specs.Plans.{planAnswer, Planned, PlannedTaken}
 use Rattle.backref_plan.specs.Steps.{Reduces, Needs}
 use Rattle.backref_plan.proofs.Reductions.{needs-whole}
+use Rattle.backref.proofs.Takings.{taken-says, taken-whole}
 use Rattle.record_edit.specs.Records.{dataOf, heldEdit}
 use Rattle.transaction.specs.declared.Spot.the-variants.{Refused}
 use Rattle.transaction.specs.Spots.{spotOf, withBody}
 use Rattle.transaction.proofs.Spots.{Standing, spot-refused, stands-answer}
 use Rattle.transaction.proofs.Records.{put-answered}
-use Rattle.transaction.proofs.Takings.{taken-says, taken-whole}
 
 -- ---- the planned body
 
