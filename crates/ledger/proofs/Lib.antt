@@ -5,3 +5,4 @@ pub mod Standings
 pub mod Adding
 pub mod Dropping
 pub mod Postings
+pub mod Calls
