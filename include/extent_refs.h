@@ -217,6 +217,18 @@ uint32_t leaf_edit_item(
     uint64_t *start,
     uint64_t *len);
 
+uint32_t ledger_post(
+    uint32_t nodesize,
+    const uint8_t *sheet, size_t sheet_len,
+    uint8_t change,
+    uint64_t extent,
+    uint64_t a,
+    uint64_t b,
+    uint64_t c,
+    uint32_t amount,
+    uint8_t *out, size_t out_len,
+    uint64_t *len);
+
 uint32_t transaction_held_only_by(
     const uint8_t *body, size_t body_len,
     uint64_t root,
@@ -297,10 +309,6 @@ uint32_t transaction_drop_kept_tree_ref(
     bool own,
     uint8_t *out, size_t out_len,
     uint64_t *len);
-
-/* Not exported yet:
- *   ledger_post
- */
 
 #ifdef __cplusplus
 }

@@ -5,4 +5,5 @@ mod changes;
 mod codes;
 mod extent_write_calls;
 mod leaf_edit_calls;
+mod ledger_calls;
 mod transaction_calls;

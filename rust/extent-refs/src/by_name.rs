@@ -45,6 +45,7 @@ pub const NAMES: &[&str] = &[
     "leaf_edit_split",
     "leaf_edit_split_to_fit",
     "leaf_edit_item",
+    "ledger_post",
     "transaction_held_only_by",
     "transaction_keyed_data_ref_names",
     "transaction_shared_add_item",
@@ -56,7 +57,6 @@ pub const NAMES: &[&str] = &[
     "transaction_apply_shared_add",
     "transaction_apply_shared_drop",
     "transaction_drop_kept_tree_ref",
-    "ledger_post",
 ];
 
 /// What the call returns; `None` where there is no such call or its parameters are others.
@@ -150,6 +150,9 @@ pub fn call(name: &str, args: &mut [Value<'_>]) -> Option<u64> {
         ("leaf_edit_item", [Bytes(sheet), Number(number), Lent(start), Lent(len)]) => {
             u64::from(lent::leaf_edit_item(sheet, *number, start, len))
         }
+        ("ledger_post", [Number(nodesize), Bytes(sheet), Number(change), Number(extent), Number(a), Number(b), Number(c), Number(amount), Out(out), Lent(len)]) => {
+            u64::from(lent::ledger_post(*nodesize as u32, sheet, *change as u8, *extent, *a, *b, *c, *amount as u32, out, len))
+        }
         ("transaction_held_only_by", [Bytes(body), Number(root), Number(ino), Words(offsets), Lent(holds)]) => {
             u64::from(lent::transaction_held_only_by(body, *root, *ino, offsets, holds))
         }
@@ -182,9 +185,6 @@ pub fn call(name: &str, args: &mut [Value<'_>]) -> Option<u64> {
         }
         ("transaction_drop_kept_tree_ref", [Bytes(sheet), Number(bytenr), Number(level), Number(tree), Number(own), Out(out), Lent(len)]) => {
             u64::from(lent::transaction_drop_kept_tree_ref(sheet, *bytenr, *level as u8, *tree, *own != 0, out, len))
-        }
-        ("ledger_post", [Number(nodesize), Bytes(sheet), Number(change), Number(extent), Number(a), Number(b), Number(c), Number(amount), Out(out), Lent(len)]) => {
-            u64::from(lent::ledger_post(*nodesize as u32, sheet, *change as u8, *extent, *a, *b, *c, *amount as u32, out, len))
         }
         _ => return None,
     })

@@ -494,6 +494,36 @@ pub fn leaf_edit_item(sheet: &[u8], number: u64, start: &mut u64, len: &mut u64)
     unsafe { raw::leaf_edit_item(sheet.as_ptr(), sheet.len(), number, start, len) }
 }
 
+pub fn ledger_post(
+    nodesize: u32,
+    sheet: &[u8],
+    change: u8,
+    extent: u64,
+    a: u64,
+    b: u64,
+    c: u64,
+    amount: u32,
+    out: &mut [u8],
+    len: &mut u64,
+) -> u32 {
+    unsafe {
+        raw::ledger_post(
+            nodesize,
+            sheet.as_ptr(),
+            sheet.len(),
+            change,
+            extent,
+            a,
+            b,
+            c,
+            amount,
+            out.as_mut_ptr(),
+            out.len(),
+            len,
+        )
+    }
+}
+
 pub fn transaction_held_only_by(
     body: &[u8],
     root: u64,
@@ -676,36 +706,6 @@ pub fn transaction_drop_kept_tree_ref(
             level,
             tree,
             own,
-            out.as_mut_ptr(),
-            out.len(),
-            len,
-        )
-    }
-}
-
-pub fn ledger_post(
-    nodesize: u32,
-    sheet: &[u8],
-    change: u8,
-    extent: u64,
-    a: u64,
-    b: u64,
-    c: u64,
-    amount: u32,
-    out: &mut [u8],
-    len: &mut u64,
-) -> u32 {
-    unsafe {
-        raw::ledger_post(
-            nodesize,
-            sheet.as_ptr(),
-            sheet.len(),
-            change,
-            extent,
-            a,
-            b,
-            c,
-            amount,
             out.as_mut_ptr(),
             out.len(),
             len,

@@ -248,6 +248,20 @@ extern "C" {
         start: *mut u64,
         len: *mut u64,
     ) -> u32;
+    pub fn ledger_post(
+        nodesize: u32,
+        sheet: *const u8,
+        sheet_len: usize,
+        change: u8,
+        extent: u64,
+        a: u64,
+        b: u64,
+        c: u64,
+        amount: u32,
+        out: *mut u8,
+        out_len: usize,
+        len: *mut u64,
+    ) -> u32;
     pub fn transaction_held_only_by(
         body: *const u8,
         body_len: usize,
@@ -338,25 +352,6 @@ extern "C" {
         level: u8,
         tree: u64,
         own: bool,
-        out: *mut u8,
-        out_len: usize,
-        len: *mut u64,
-    ) -> u32;
-}
-
-// Declared, but not exported by the source yet. build.rs gives each a stand-in.
-// waits: ledger_post nodesize:u32 sheet:bytes change:u8 extent:u64 a:u64 b:u64 c:u64 amount:u32 out:out len:lent
-extern "C" {
-    pub fn ledger_post(
-        nodesize: u32,
-        sheet: *const u8,
-        sheet_len: usize,
-        change: u8,
-        extent: u64,
-        a: u64,
-        b: u64,
-        c: u64,
-        amount: u32,
         out: *mut u8,
         out_len: usize,
         len: *mut u64,
