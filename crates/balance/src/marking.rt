@@ -10,7 +10,6 @@ ghost use mathlib.Core.Path.{_≡_};
 ghost use Prim.Native.Nat.{_+_, _≤_};
 ghost use lib.Dec.{T};
 ghost use lib.ListN.{length};
-ghost use Rattle.crc32c.specs.Register.{crc32c, tableOf};
 ghost use Rattle.format.specs.References.{kinds};
 ghost use Rattle.format.specs.Apply.{isRecord};
 ghost use Rattle.balance.specs.Groups.{itemOf, afterRecord, Taking};
@@ -37,14 +36,13 @@ fn marked(extent: u64, from: usize, to: usize, start: usize, total: u64, weight:
 
 pub fn take_record(
     rows: &[[u8; 3]; 5],
-    table: &[u32; 256],
     s: &[u8],
     at: usize,
     next: usize,
     key: Key,
     g: Group,
 ) -> Turn
-    requires { ⌜ (now rows ≡ kinds) × (now table ≡ tableOf crc32c) ⌝ }
+    requires { ⌜ now rows ≡ kinds ⌝ }
     requires { ⌜ (at + 21 ≤ next) × ((next ≤ length (now s)) × (next ≤ at + 65556)) ⌝ }
     requires { ⌜ T (isRecord (itemOf (now s) at next key)) ⌝ }
     ensures { λ r. ⌜ Taking (now (s .entry)) g (itemOf (now (s .entry)) at next key) next r ⌝ }
@@ -55,7 +53,7 @@ pub fn take_record(
     let from = at + 21;
     let body = &s[from..next];
     match inline_refs::open_body(key.kind, body) {
-        Start::From(start) => match record::weigh_refs(rows, table, body, start) {
+        Start::From(start) => match record::weigh_refs(rows, body, start) {
             Weighed::Of(weight) => {
                 let total = fields::get_u64_le(body, 0);
                 Turn::Next(marked(g.extent, from, next, start, total, weight))

@@ -12,7 +12,6 @@ ghost use mathlib.Core.Bool.{true};
 ghost use Prim.Native.Nat.{_+_, _≤_};
 ghost use lib.Dec.{T};
 ghost use lib.ListN.{length};
-ghost use Rattle.crc32c.specs.Register.{crc32c, tableOf};
 ghost use Rattle.format.specs.References.{kinds};
 ghost use Rattle.format.specs.Names.{isRefItem};
 ghost use Rattle.balance.specs.Groups.{itemOf, NameOf, Kept, Taking};
@@ -20,7 +19,6 @@ ghost use Rattle.balance.specs.Groups.{itemOf, NameOf, Kept, Taking};
 // Its name does not stand inline, and it counts.
 fn take_name(
     rows: &[[u8; 3]; 5],
-    table: &[u32; 256],
     s: &[u8],
     at: usize,
     next: usize,
@@ -29,7 +27,7 @@ fn take_name(
     weight: u32,
     wanted: Wanted,
 ) -> Turn
-    requires { ⌜ (now rows ≡ kinds) × (now table ≡ tableOf crc32c) ⌝ }
+    requires { ⌜ now rows ≡ kinds ⌝ }
     requires { ⌜ (at + 21 ≤ next) × (next ≤ 262144) ⌝ }
     requires { ⌜ T (isRefItem (itemOf (now s) at next key)) × ((g .marked ≡ true) × Kept (now s) g at) ⌝ }
     requires { ⌜ NameOf (itemOf (now s) at next key) weight wanted ⌝ }
@@ -43,7 +41,7 @@ fn take_name(
     let body = &s[from..to];
     let span = span::span_for(rows, body, g.start, g.span, key.kind);
     let size = span::stride(rows, key.kind);
-    if search::stands(table, body, size, span, wanted, key.offset) {
+    if search::stands(body, size, span, wanted, key.offset) {
         return Turn::Bad;
     }
     Turn::Next(Group {
@@ -58,25 +56,17 @@ fn take_name(
     })
 }
 
-pub fn take_ref(
-    rows: &[[u8; 3]; 5],
-    table: &[u32; 256],
-    s: &[u8],
-    at: usize,
-    next: usize,
-    key: Key,
-    g: Group,
-) -> Turn
-    requires { ⌜ (now rows ≡ kinds) × (now table ≡ tableOf crc32c) ⌝ }
+pub fn take_ref(rows: &[[u8; 3]; 5], s: &[u8], at: usize, next: usize, key: Key, g: Group) -> Turn
+    requires { ⌜ now rows ≡ kinds ⌝ }
     requires { ⌜ (at + 21 ≤ next) × ((next ≤ length (now s)) × (next ≤ 262144)) ⌝ }
     requires { ⌜ T (isRefItem (itemOf (now s) at next key)) × Kept (now s) g at ⌝ }
     ensures { λ r. ⌜ Taking (now (s .entry)) g (itemOf (now (s .entry)) at next key) next r ⌝ }
 {
     let from = at + 21;
-    match reference::name_of(table, key, &s[from..next]) {
+    match reference::name_of(key, &s[from..next]) {
         Named::Of { weight, wanted } => {
             if g.marked {
-                return take_name(rows, table, s, at, next, key, g, weight, wanted);
+                return take_name(rows, s, at, next, key, g, weight, wanted);
             }
             Turn::Bad
         }

@@ -8,7 +8,6 @@ ghost use mathlib.Core.Bool.{not};
 ghost use Prim.Native.Nat.{_+_, _*_, _≤_};
 ghost use lib.Dec.{T};
 ghost use lib.ListN.{length, drop};
-ghost use Rattle.crc32c.specs.Register.{crc32c, tableOf};
 ghost use Rattle.fields.specs.Numbers.{words};
 ghost use Rattle.format.specs.Bodies.{triple};
 ghost use Rattle.format.specs.References.{kinds, known, payloadLength, countPosition, refAt, place};
@@ -91,16 +90,7 @@ fn join(body: &[u8], run: Run, at: usize, start: usize, spot: u64, weight: u32) 
 }
 
 // Whether the reference of this kind that stands at `at`, with its payload at `start`, may follow those passed.
-fn admit(
-    table: &[u32; 256],
-    body: &[u8],
-    run: Run,
-    at: usize,
-    kind: u8,
-    start: usize,
-    count: usize,
-) -> Admitted
-    requires { ⌜ now table ≡ tableOf crc32c ⌝ }
+fn admit(body: &[u8], run: Run, at: usize, kind: u8, start: usize, count: usize) -> Admitted
     requires { ⌜ T (known kind) × (start + payloadLength kind ≤ length (now body)) × (count ≡ countPosition kind) ⌝ }
     requires { ⌜ (start ≡ at + 1) × Reaches run at ⌝ }
     ensures { λ r. ⌜ Admitting (now (body .entry)) run (refAt kind (drop start (now (body .entry)))) (start + payloadLength kind) r ⌝ }
@@ -109,7 +99,7 @@ fn admit(
         return Admitted::No;
     }
     let weight = inline_refs::weight_at(body, kind, start, count);
-    let spot = inline_refs::place_at(table, body, kind, start);
+    let spot = inline_refs::place_at(body, kind, start);
     let alone = Run {
         kind,
         spot,
@@ -135,8 +125,8 @@ fn admit(
 }
 
 // The weight of the references from `start` to the end of a body.
-pub fn weigh_refs(rows: &[[u8; 3]; 5], table: &[u32; 256], body: &[u8], start: usize) -> Weighed
-    requires { ⌜ (now rows ≡ kinds) × (now table ≡ tableOf crc32c) ⌝ }
+pub fn weigh_refs(rows: &[[u8; 3]; 5], body: &[u8], start: usize) -> Weighed
+    requires { ⌜ now rows ≡ kinds ⌝ }
     requires { ⌜ (length (now body) ≤ 262144) × (start ≤ length (now body)) ⌝ }
     ensures { λ r. ⌜ (r ≡ weighedOf (readFrom (now (body .entry)) start)) × Light (length (now (body .entry))) r ⌝ }
 {
@@ -159,7 +149,7 @@ pub fn weigh_refs(rows: &[[u8; 3]; 5], table: &[u32; 256], body: &[u8], start: u
                 next,
             } => {
                 let after = next.at;
-                match admit(table, body, run, at, kind, payload, count) {
+                match admit(body, run, at, kind, payload, count) {
                     Admitted::Yes { run: grown, weight } => {
                         run = grown;
                         sum += weight as u64;

@@ -5,7 +5,6 @@ use format::Key;
 use inline_refs::Wanted;
 ghost use mathlib.Core.Path.{_≡_};
 ghost use lib.Dec.{T};
-ghost use Rattle.crc32c.specs.Register.{crc32c, tableOf};
 ghost use Rattle.format.specs.Names.{isRefItem};
 ghost use Rattle.balance.specs.Groups.{Naming};
 
@@ -15,15 +14,14 @@ pub enum Named {
     Bad,
 }
 
-fn data_name(table: &[u32; 256], key: Key, payload: &[u8]) -> Named
-    requires { ⌜ now table ≡ tableOf crc32c ⌝ }
+fn data_name(key: Key, payload: &[u8]) -> Named
     requires { ⌜ key .kind ≡ 178 ⌝ }
     ensures { λ r. ⌜ Naming (record { key = key; bytes = now (payload .entry) }) r ⌝ }
 {
     if payload.len() != 28 {
         return Named::Bad;
     }
-    if inline_refs::place_at(table, payload, 178, 0) != key.offset {
+    if inline_refs::place_at(payload, 178, 0) != key.offset {
         return Named::Bad;
     }
     Named::Of {
@@ -32,13 +30,12 @@ fn data_name(table: &[u32; 256], key: Key, payload: &[u8]) -> Named
     }
 }
 
-pub fn name_of(table: &[u32; 256], key: Key, payload: &[u8]) -> Named
-    requires { ⌜ now table ≡ tableOf crc32c ⌝ }
+pub fn name_of(key: Key, payload: &[u8]) -> Named
     requires { ⌜ T (isRefItem (record { key = key; bytes = now payload })) ⌝ }
     ensures { λ r. ⌜ Naming (record { key = key; bytes = now (payload .entry) }) r ⌝ }
 {
     if key.kind == 178 {
-        return data_name(table, key, payload);
+        return data_name(key, payload);
     }
     if key.kind == 184 {
         if payload.len() != 4 {

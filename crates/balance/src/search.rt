@@ -5,7 +5,6 @@ ghost use mathlib.Core.Path.{_≡_};
 ghost use mathlib.Core.Bool.{not, cond};
 ghost use Prim.Native.Nat.{_+_, _*_, _≤_};
 ghost use lib.Dec.{ltb};
-ghost use Rattle.crc32c.specs.Register.{crc32c, tableOf};
 ghost use Rattle.format.specs.References.{payloadLength, placeOf};
 ghost use Rattle.inline_refs.specs.Scans.{kindOf, fieldsOf};
 ghost use Rattle.balance.specs.Places.{Falling, Cuts, absentIn};
@@ -33,8 +32,7 @@ fn narrow(bounds: Bounds, mid: usize, place: u64, spot: u64) -> Bounds
 }
 
 // The number of the first reference whose place is not above `place`.
-fn first_below(table: &[u32; 256], body: &[u8], size: usize, span: Span, place: u64) -> usize
-    requires { ⌜ now table ≡ tableOf crc32c ⌝ }
+fn first_below(body: &[u8], size: usize, span: Span, place: u64) -> usize
     requires { ⌜ (size ≡ 1 + payloadLength (span .kind)) × Falling (now body) span ⌝ }
     ensures { λ r. ⌜ Cuts (now (body .entry)) span place r ⌝ }
 {
@@ -44,30 +42,22 @@ fn first_below(table: &[u32; 256], body: &[u8], size: usize, span: Span, place: 
     };
     while bounds.low < bounds.high {
         let mid = bounds.low + (bounds.high - bounds.low) / 2;
-        let spot = inline_refs::place_at(table, body, span.kind, span.from + mid * size + 1);
+        let spot = inline_refs::place_at(body, span.kind, span.from + mid * size + 1);
         bounds = narrow(bounds, mid, place, spot);
     }
     bounds.low
 }
 
 // Whether the wanted name stands among the references of its type.
-pub fn stands(
-    table: &[u32; 256],
-    body: &[u8],
-    size: usize,
-    span: Span,
-    wanted: Wanted,
-    place: u64,
-) -> bool
-    requires { ⌜ now table ≡ tableOf crc32c ⌝ }
+pub fn stands(body: &[u8], size: usize, span: Span, wanted: Wanted, place: u64) -> bool
     requires { ⌜ (size ≡ 1 + payloadLength (span .kind)) × Falling (now body) span ⌝ }
     requires { ⌜ place ≡ placeOf (kindOf wanted) (fieldsOf wanted) ⌝ }
     ensures { λ r. ⌜ r ≡ not (absentIn (now (body .entry)) span wanted) ⌝ }
 {
-    let mut j = first_below(table, body, size, span, place);
+    let mut j = first_below(body, size, span, place);
     while j < span.n {
         let start = span.from + j * size + 1;
-        if inline_refs::place_at(table, body, span.kind, start) != place {
+        if inline_refs::place_at(body, span.kind, start) != place {
             return false;
         }
         if inline_refs::names(wanted, body, span.kind, start) {

@@ -8,7 +8,6 @@ use format::Key;
 ghost use mathlib.Core.Path.{_≡_};
 ghost use Prim.Native.Nat.{_+_, _≤_};
 ghost use lib.ListN.{length};
-ghost use Rattle.crc32c.specs.Register.{crc32c, tableOf};
 ghost use Rattle.format.specs.References.{kinds};
 ghost use Rattle.item_list.specs.Steps.{itemAt};
 ghost use Rattle.balance.specs.Groups.{itemOf, empty, Kept, Taking, Turning};
@@ -34,63 +33,48 @@ pub fn begin(extent: u64) -> Group
 }
 
 // An item of the extent at hand.
-fn take(
-    rows: &[[u8; 3]; 5],
-    table: &[u32; 256],
-    s: &[u8],
-    at: usize,
-    next: usize,
-    key: Key,
-    g: Group,
-) -> Turn
-    requires { ⌜ (now rows ≡ kinds) × (now table ≡ tableOf crc32c) ⌝ }
+fn take(rows: &[[u8; 3]; 5], s: &[u8], at: usize, next: usize, key: Key, g: Group) -> Turn
+    requires { ⌜ now rows ≡ kinds ⌝ }
     requires { ⌜ (at + 21 ≤ next) × ((next ≤ length (now s)) × ((next ≤ at + 65556) × (next ≤ 262144))) ⌝ }
     requires { ⌜ Kept (now s) g at ⌝ }
     ensures { λ r. ⌜ Taking (now (s .entry)) g (itemOf (now (s .entry)) at next key) next r ⌝ }
 {
     let kind = key.kind;
     if kind == 168 {
-        return marking::take_record(rows, table, s, at, next, key, g);
+        return marking::take_record(rows, s, at, next, key, g);
     }
     if kind == 169 {
-        return marking::take_record(rows, table, s, at, next, key, g);
+        return marking::take_record(rows, s, at, next, key, g);
     }
     if kind == 176 {
-        return naming::take_ref(rows, table, s, at, next, key, g);
+        return naming::take_ref(rows, s, at, next, key, g);
     }
     if kind == 178 {
-        return naming::take_ref(rows, table, s, at, next, key, g);
+        return naming::take_ref(rows, s, at, next, key, g);
     }
     if kind == 182 {
-        return naming::take_ref(rows, table, s, at, next, key, g);
+        return naming::take_ref(rows, s, at, next, key, g);
     }
     if kind == 184 {
-        return naming::take_ref(rows, table, s, at, next, key, g);
+        return naming::take_ref(rows, s, at, next, key, g);
     }
     Turn::Next(g)
 }
 
 // The item from `at` up to `next`: a new extent begins where the last one is closed.
-pub fn turn(
-    rows: &[[u8; 3]; 5],
-    table: &[u32; 256],
-    s: &[u8],
-    at: usize,
-    next: usize,
-    g: Group,
-) -> Turn
-    requires { ⌜ (now rows ≡ kinds) × (now table ≡ tableOf crc32c) ⌝ }
+pub fn turn(rows: &[[u8; 3]; 5], s: &[u8], at: usize, next: usize, g: Group) -> Turn
+    requires { ⌜ now rows ≡ kinds ⌝ }
     requires { ⌜ (at + 21 ≤ next) × ((next ≤ length (now s)) × ((next ≤ at + 65556) × (next ≤ 262144))) ⌝ }
     requires { ⌜ (itemAt (now s) at ≡ itemOf (now s) at next (itemAt (now s) at .key)) × Kept (now s) g at ⌝ }
     ensures { λ r. ⌜ Turning (now (s .entry)) g (itemAt (now (s .entry)) at) next r ⌝ }
 {
     let key = item_list::key_at(s, at);
     if key.objectid == g.extent {
-        return take(rows, table, s, at, next, key, g);
+        return take(rows, s, at, next, key, g);
     }
     if g.total == g.weight {
         let fresh = begin(key.objectid);
-        return take(rows, table, s, at, next, key, fresh);
+        return take(rows, s, at, next, key, fresh);
     }
     Turn::Bad
 }

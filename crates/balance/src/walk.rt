@@ -12,12 +12,11 @@ pub fn balanced(sheet: &[u8]) -> bool
     ensures { λ r. ⌜ r ≡ isBalanced (itemsOf (now (sheet .entry))) ⌝ }
 {
     let rows = inline_refs::rows();
-    let table = crc32c::table();
     let mut at: usize = 1;
     let mut g = turning::begin(0);
     loop {
         match item_list::step_at(sheet, at) {
-            Step::Whole { next } => match turning::turn(&rows, &table, sheet, at, next, g) {
+            Step::Whole { next } => match turning::turn(&rows, sheet, at, next, g) {
                 Turn::Next(after) => {
                     g = after;
                     at = next;

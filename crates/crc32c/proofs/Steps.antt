@@ -10,8 +10,6 @@ use lib.Seq.{drop-cons}
 use lib.Pow.{pow-pos, split}
 use lib.Bits.{bitXor, xor-zero-r, xor-self, xor-shr, xor-shifted, shifted-half, shifted-even}
 use Rattle.crc32c.specs.Register.{feed, step, steps, byteStep, run}
-use Rattle.fields.specs.Numbers.{leBytes}
-use Rattle.fields.proofs.Numbers.{leBytes-halves}
 use Rattle.crc32c.proofs.Xor.{Bit, b0, b1, bit, xor-half, xor-bit, xor-swap}
 
 module _ (p : ℕ) where
@@ -70,10 +68,6 @@ module _ (p : ℕ) where
   unfolding run
   run-append [] ys r = refl
   run-append (x ∷ xs) ys r = run-append xs ys (byteStep p r x)
-
-  -- a run over eight bytes is one over the low half's and then one over the high half's
-  pub run-halves : (r x : ℕ) → run p r (leBytes 8 x) ≡ run p (run p r (leBytes 4 (x % 4294967296))) (leBytes 4 (x / 4294967296))
-  run-halves r x = ap (run p r) (leBytes-halves x) ∙ run-append (leBytes 4 (x % 4294967296)) (leBytes 4 (x / 4294967296)) r
 
   -- one byte more of a run, and its end
   pub run-more : (r : ℕ) (bs : List ℕ) (i : ℕ) → i < length bs

@@ -1,9 +1,12 @@
 // The CRC32C register of RFC 3720, by a table of 256 constants.
 //
-// A constant array is copied to the stack where it is used, so a public call makes one copy and lends it to each step.
+// A constant array is copied to the stack where it is used. A run over a slice makes one copy and lends it to each step; a run
+// over numbers takes the entries one by one (constants.rt) and makes none.
+mod constants;
+
 ghost use mathlib.Core.Path.{_≡_};
 ghost use mathlib.Core.List.{_++_};
-ghost use Rattle.crc32c.specs.Register.{crc32c, allOnes, tableOf, byteStep, run, inverted};
+ghost use Rattle.crc32c.specs.Register.{crc32c, allOnes, tableOf, steps, byteStep, run, inverted};
 ghost use Rattle.fields.specs.Numbers.{leBytes};
 
 // Entry n is n after eight steps.
@@ -267,7 +270,7 @@ const TABLE: [u32; 256] = [
 ];
 
 // The table. Its rule is computed here, over all entries.
-pub fn table() -> [u32; 256]
+fn table() -> [u32; 256]
     ensures { λ r. ⌜ r ≡ tableOf crc32c ⌝ }
 {
     TABLE
@@ -305,28 +308,26 @@ pub fn update(register: u32, bytes: &[u8]) -> u32
     r
 }
 
-// The register after a run over the four bytes of `w`, lowest first.
-fn u32_in(t: &[u32; 256], register: u32, w: u32) -> u32
-    requires { ⌜ now t ≡ tableOf crc32c ⌝ }
-    ensures { λ r. ⌜ r ≡ run crc32c register (leBytes 4 w) ⌝ }
+// Eight steps of a number of 64 bits.
+fn down(y: u64) -> u64
+    ensures { λ r. ⌜ r ≡ steps crc32c 8 y ⌝ }
 {
-    let w1 = w / 256;
-    let w2 = w1 / 256;
-    let w3 = w2 / 256;
-    let r0 = byte_in(t, register, (w % 256) as u8);
-    let r1 = byte_in(t, r0, (w1 % 256) as u8);
-    let r2 = byte_in(t, r1, (w2 % 256) as u8);
-    byte_in(t, r2, (w3 % 256) as u8)
+    let low = (y % 256) as u8;
+    (y >> 8) ^ (constants::entry(low) as u64)
 }
 
-// The register after a run over the eight bytes of `x`, lowest first. Two halves, so that each proof meets four bytes at most.
-fn u64_in(t: &[u32; 256], register: u32, x: u64) -> u32
-    requires { ⌜ now t ≡ tableOf crc32c ⌝ }
+// The register after a run over the eight bytes of `x`, lowest first. All eight are xored in at once: those that are not yet at
+// the low end move down with the register.
+fn u64_in(register: u32, x: u64) -> u32
     ensures { λ r. ⌜ r ≡ run crc32c register (leBytes 8 x) ⌝ }
 {
-    let low = (x % 4294967296) as u32;
-    let high = (x / 4294967296) as u32;
-    u32_in(t, u32_in(t, register, low), high)
+    let mut y = x ^ (register as u64);
+    let mut i: u32 = 0;
+    while i < 8 {
+        y = down(y);
+        i += 1;
+    }
+    (y % 4294967296) as u32
 }
 
 // Two registers.
@@ -336,25 +337,14 @@ pub struct Registers {
 }
 
 // From all ones: the register after a run over `a`, and after a run over `b` and then `c`, each eight bytes, lowest first.
-// By a lent table, so that a loop over hashes copies it once.
-pub fn runs_with(t: &[u32; 256], a: u64, b: u64, c: u64) -> Registers
-    requires { ⌜ now t ≡ tableOf crc32c ⌝ }
-    ensures { λ r. ⌜ r .one ≡ run crc32c allOnes (leBytes 8 a) ⌝ }
-    ensures { λ r. ⌜ r .two ≡ run crc32c allOnes (leBytes 8 b ++ leBytes 8 c) ⌝ }
-{
-    let one = u64_in(t, 0xffff_ffff, a);
-    let first = u64_in(t, 0xffff_ffff, b);
-    let two = u64_in(t, first, c);
-    Registers { one, two }
-}
-
-// The same, by a copy of the table.
 pub fn runs(a: u64, b: u64, c: u64) -> Registers
     ensures { λ r. ⌜ r .one ≡ run crc32c allOnes (leBytes 8 a) ⌝ }
     ensures { λ r. ⌜ r .two ≡ run crc32c allOnes (leBytes 8 b ++ leBytes 8 c) ⌝ }
 {
-    let t = table();
-    runs_with(&t, a, b, c)
+    let one = u64_in(0xffff_ffff, a);
+    let first = u64_in(0xffff_ffff, b);
+    let two = u64_in(first, c);
+    Registers { one, two }
 }
 
 // The finished checksum: the register inverted.

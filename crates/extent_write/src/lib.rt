@@ -6,7 +6,6 @@ ghost use lib.Bits.{bitXor};
 ghost use lib.ListN.{length};
 ghost use Rattle.fields.specs.Numbers.{leBytes};
 ghost use Rattle.fields.specs.Parts.{written};
-ghost use Rattle.crc32c.specs.Register.{crc32c, tableOf};
 ghost use Rattle.format.specs.Questions.{Answered, accepted};
 ghost use Rattle.format.specs.Hash.{dataRefHash};
 ghost use Rattle.format.specs.Bodies.{heldBody, dataExtentBody, treeBlockBody, treeBlockKey};
@@ -31,21 +30,12 @@ fn joined(one: u32, two: u32) -> u64
     ((one as u64) << 31) ^ (two as u64)
 }
 
-// The hash of a data reference, by a lent table: a loop over references copies the table once.
-pub fn hash_with(table: &[u32; 256], tree: u64, objectid: u64, offset: u64) -> u64
-    requires { ⌜ now table ≡ tableOf crc32c ⌝ }
-    ensures { λ r. ⌜ r ≡ dataRefHash tree objectid offset ⌝ }
-{
-    let r = crc32c::runs_with(table, tree, objectid, offset);
-    joined(r.one, r.two)
-}
-
 // The hash of a data reference.
 pub fn data_ref_hash(tree: u64, objectid: u64, offset: u64) -> u64
     ensures { λ r. ⌜ r ≡ dataRefHash tree objectid offset ⌝ }
 {
-    let table = crc32c::table();
-    hash_with(&table, tree, objectid, offset)
+    let r = crc32c::runs(tree, objectid, offset);
+    joined(r.one, r.two)
 }
 
 // Bytes that are at hand go to the front of a lent output, or are refused.

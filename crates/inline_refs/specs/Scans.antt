@@ -1,15 +1,18 @@
 -- The one scan over the references of a body: what it notes on the way, and what it hands back. Assumes nothing.
 use mathlib.Core.Bool.{Bool, true, false, _||_, cond}
 use mathlib.Core.List.{List, [], _∷_}
-use Prim.Native.Nat.{ℕ, _+_}
-use lib.Dec.{eqb}
+use mathlib.Core.Path.{_≡_}
+use Prim.Native.Nat.{ℕ, _+_, _≤_}
+use lib.Dec.{T, eqb}
+use lib.ListN.{length, drop}
 use Rattle.format.specs.Questions.{Answer, refused, absent, remove, accepted}
-use Rattle.format.specs.References.{payloadLength, Ref}
+use Rattle.format.specs.References.{known, payloadLength, countPosition, Ref, refAt}
 use Rattle.format.specs.Bodies.{onBody, named, one, triple, stops}
 use Rattle.inline_refs.specs.declared.wanted.Wanted.{Wanted}
 use Rattle.inline_refs.specs.declared.wanted.Wanted.the-variants.{Block, Data, SharedBlock, SharedData}
 use Rattle.inline_refs.specs.declared.scan.Seen.{Seen}
 use Rattle.inline_refs.specs.declared.scan.Seen.the-variants.{Open, Gap, Hit, Late}
+use Rattle.inline_refs.specs.declared.scan.Here.{Here}
 use Rattle.inline_refs.specs.declared.scan.Scan.{Scan}
 use Rattle.inline_refs.specs.declared.scan.Scan.the-variants.{Fault, Read}
 
@@ -32,6 +35,15 @@ isWanted wanted r = named (kindOf wanted) (fieldsOf wanted) r
 -- how many bytes a reference takes
 unfoldable pub sizeOf : Ref → ℕ
 sizeOf r = 1 + payloadLength (r .kind)
+
+-- what a scan has come to is a reference of a known kind that ends within the body
+abbrev pub Stands : Here → List ℕ → Type 0
+Stands here body =
+    T (known (here .kind)) × (here .start + payloadLength (here .kind) ≤ length body) × (here .count ≡ countPosition (here .kind))
+
+-- and that reference
+abbrev pub refOf : Here → List ℕ → Ref
+refOf here body = refAt (here .kind) (drop (here .start) body)
 
 -- what is noted at a reference that stands at `at`: the first wanted one; and, while there is none, the first one that a new
 -- reference goes before, and whether any of the wanted kind stands

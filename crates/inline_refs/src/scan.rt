@@ -8,10 +8,9 @@ ghost use mathlib.Core.Bool.{false};
 ghost use Prim.Native.Nat.{_+_, _≤_};
 ghost use lib.Dec.{T};
 ghost use lib.ListN.{length, drop};
-ghost use Rattle.crc32c.specs.Register.{crc32c, tableOf};
 ghost use Rattle.format.specs.References.{kinds, known, payloadLength, countPosition, refAt, startOf};
 ghost use Rattle.inline_refs.specs.Steps.{readFrom};
-ghost use Rattle.inline_refs.specs.Scans.{noted, scanOf, refsIn};
+ghost use Rattle.inline_refs.specs.Scans.{Stands, refOf, noted, scanOf, refsIn};
 
 // What a scan has noted.
 pub enum Seen {
@@ -59,52 +58,73 @@ pub fn weight_at(body: &[u8], kind: u8, start: usize, count: usize) -> u32
     1
 }
 
-// What is noted at one more reference. The wanted one is looked for first: it never stops a new one.
-fn note(
-    table: &[u32; 256],
-    body: &[u8],
-    wanted: Wanted,
-    place: u64,
-    seen: Seen,
-    at: usize,
-    kind: u8,
-    start: usize,
-    count: usize,
-    next: usize,
-) -> Seen
-    requires { ⌜ now table ≡ tableOf crc32c ⌝ }
-    requires { ⌜ T (known kind) × (start + payloadLength kind ≤ length (now body)) × (count ≡ countPosition kind) ⌝ }
-    ensures { λ r. ⌜ r ≡ noted wanted place at next (refAt kind (drop start (now (body .entry)))) seen ⌝ }
+// A reference that a scan has come to: where it stands, its kind, where its payload starts, where in the payload the count
+// stands, and where the next one starts.
+pub struct Here {
+    pub at: usize,
+    pub kind: u8,
+    pub start: usize,
+    pub count: usize,
+    pub next: usize,
+}
+
+// What is noted at one more reference where nothing was noted before. The wanted one is looked for first: it never stops a new one.
+fn note_open(body: &[u8], wanted: Wanted, place: u64, kin: bool, here: Here) -> Seen
+    requires { ⌜ Stands here (now body) ⌝ }
+    ensures { λ r. ⌜ r ≡ noted wanted place (here .at) (here .next) (refOf here (now (body .entry))) (Seen.Open kin) ⌝ }
+{
+    let kind = here.kind;
+    let start = here.start;
+    if crate::wanted::names(wanted, body, kind, start) {
+        let weight = weight_at(body, kind, start, here.count);
+        return Seen::Hit {
+            at: here.at,
+            next: here.next,
+            weight,
+        };
+    }
+    let stood = crate::wanted::akin(kin, wanted, kind);
+    let sought = crate::wanted::kind_of(wanted);
+    if crate::wanted::stops_at(sought, place, body, kind, start) {
+        return Seen::Gap {
+            at: here.at,
+            kin: stood,
+        };
+    }
+    Seen::Open { kin: stood }
+}
+
+// The same behind a gap.
+fn note_gap(body: &[u8], wanted: Wanted, place: u64, gap: usize, kin: bool, here: Here) -> Seen
+    requires { ⌜ Stands here (now body) ⌝ }
+    ensures { λ r. ⌜ r ≡ noted wanted place (here .at) (here .next) (refOf here (now (body .entry))) (Seen.Gap gap kin) ⌝ }
+{
+    let kind = here.kind;
+    let start = here.start;
+    if crate::wanted::names(wanted, body, kind, start) {
+        let weight = weight_at(body, kind, start, here.count);
+        return Seen::Late {
+            gap,
+            at: here.at,
+            next: here.next,
+            weight,
+        };
+    }
+    let stood = crate::wanted::akin(kin, wanted, kind);
+    Seen::Gap {
+        at: gap,
+        kin: stood,
+    }
+}
+
+// What is noted at one more reference.
+fn note(body: &[u8], wanted: Wanted, place: u64, seen: Seen, here: Here) -> Seen
+    requires { ⌜ Stands here (now body) ⌝ }
+    ensures { λ r. ⌜ r ≡ noted wanted place (here .at) (here .next) (refOf here (now (body .entry))) seen ⌝ }
 {
     match seen {
-        Seen::Open { kin } => {
-            if crate::wanted::names(wanted, body, kind, start) {
-                let weight = weight_at(body, kind, start, count);
-                return Seen::Hit { at, next, weight };
-            }
-            let stood = crate::wanted::akin(kin, wanted, kind);
-            let sought = crate::wanted::kind_of(wanted);
-            if crate::wanted::stops_at(table, sought, place, body, kind, start) {
-                return Seen::Gap { at, kin: stood };
-            }
-            Seen::Open { kin: stood }
-        }
-        Seen::Gap { at: gap, kin } => {
-            if crate::wanted::names(wanted, body, kind, start) {
-                let weight = weight_at(body, kind, start, count);
-                return Seen::Late {
-                    gap,
-                    at,
-                    next,
-                    weight,
-                };
-            }
-            let stood = crate::wanted::akin(kin, wanted, kind);
-            Seen::Gap {
-                at: gap,
-                kin: stood,
-            }
-        }
+        Seen::Open { kin } => note_open(body, wanted, place, kin, here),
+        Seen::Gap { at, kin } => note_gap(body, wanted, place, at, kin, here),
         Seen::Hit {
             at: _,
             next: _,
@@ -120,16 +140,8 @@ fn note(
 }
 
 // From `start` to the end of the body.
-pub fn scan_from(
-    rows: &[[u8; 3]; 5],
-    table: &[u32; 256],
-    body: &[u8],
-    start: usize,
-    wanted: Wanted,
-    place: u64,
-) -> Scan
+pub fn scan_from(rows: &[[u8; 3]; 5], body: &[u8], start: usize, wanted: Wanted, place: u64) -> Scan
     requires { ⌜ now rows ≡ kinds ⌝ }
-    requires { ⌜ now table ≡ tableOf crc32c ⌝ }
     ensures { λ r. ⌜ r ≡ scanOf wanted place start (Seen.Open false) (readFrom (now (body .entry)) start) ⌝ }
 {
     let mut at = start;
@@ -144,27 +156,18 @@ pub fn scan_from(
                 count,
                 next,
             } => {
-                let after = next.at;
-                seen = note(
-                    table,
-                    body,
-                    wanted,
-                    place,
-                    seen,
+                let here = Here {
                     at,
                     kind,
-                    payload,
+                    start: payload,
                     count,
-                    after,
-                );
-                at = after;
+                    next: next.at,
+                };
+                seen = note(body, wanted, place, seen, here);
+                at = here.next;
             }
-            Step::End => {
-                return Scan::Read(seen);
-            }
-            Step::Refused(number) => {
-                return Scan::Fault(number);
-            }
+            Step::End => return Scan::Read(seen),
+            Step::Refused(number) => return Scan::Fault(number),
         }
     }
 }
@@ -176,8 +179,7 @@ pub fn scan_body(item_type: u8, body: &[u8], wanted: Wanted, place: u64) -> Scan
     match crate::start::open_body(item_type, body) {
         Start::From(start) => {
             let rows = crate::kinds::rows();
-            let table = crc32c::table();
-            scan_from(&rows, &table, body, start, wanted, place)
+            scan_from(&rows, body, start, wanted, place)
         }
         Start::Refused(number) => Scan::Fault(number),
     }

@@ -6,7 +6,6 @@ ghost use mathlib.Core.Bool.{_||_};
 ghost use Prim.Native.Nat.{_+_, _≤_};
 ghost use lib.Dec.{T, eqb};
 ghost use lib.ListN.{length, drop};
-ghost use Rattle.crc32c.specs.Register.{crc32c, tableOf};
 ghost use Rattle.format.specs.References.{known, payloadLength, refAt, place};
 ghost use Rattle.format.specs.Bodies.{named, stops, triple};
 ghost use Rattle.fields.specs.Lists.{same};
@@ -63,16 +62,14 @@ pub fn names(wanted: Wanted, body: &[u8], kind: u8, start: usize) -> bool
     }
 }
 // What the references of one kind are ordered by: the hash of a triple, else the first field.
-pub fn place_at(table: &[u32; 256], body: &[u8], kind: u8, start: usize) -> u64
-    requires { ⌜ now table ≡ tableOf crc32c ⌝ }
+pub fn place_at(body: &[u8], kind: u8, start: usize) -> u64
     requires { ⌜ T (known kind) × (start + payloadLength kind ≤ length (now body)) ⌝ }
     ensures { λ r. ⌜ r ≡ place (refAt kind (drop start (now (body .entry)))) ⌝ }
 {
     if kind != 178 {
         return fields::get_u64_le(body, start);
     }
-    extent_write::hash_with(
-        table,
+    extent_write::data_ref_hash(
         fields::get_u64_le(body, start),
         fields::get_u64_le(body, start + 8),
         fields::get_u64_le(body, start + 16),
@@ -81,15 +78,7 @@ pub fn place_at(table: &[u32; 256], body: &[u8], kind: u8, start: usize) -> u64
 
 // Whether a new reference of kind `wanted` with a place goes before this one. Nothing has a place below 0, so that place
 // costs no hash.
-pub fn stops_at(
-    table: &[u32; 256],
-    wanted: u8,
-    place: u64,
-    body: &[u8],
-    kind: u8,
-    start: usize,
-) -> bool
-    requires { ⌜ now table ≡ tableOf crc32c ⌝ }
+pub fn stops_at(wanted: u8, place: u64, body: &[u8], kind: u8, start: usize) -> bool
     requires { ⌜ T (known kind) × (start + payloadLength kind ≤ length (now body)) ⌝ }
     ensures { λ r. ⌜ r ≡ stops wanted place (refAt kind (drop start (now (body .entry)))) ⌝ }
 {
@@ -105,7 +94,7 @@ pub fn stops_at(
     if place == 0 {
         return false;
     }
-    place_at(table, body, kind, start) < place
+    place_at(body, kind, start) < place
 }
 
 // Whether one of the wanted kind stands, with one more reference.

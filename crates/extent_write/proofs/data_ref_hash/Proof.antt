@@ -1,9 +1,16 @@
+use mathlib.Core.Path.{ap₂, _∙_}
+use Prim.Native.Nat.{ℕ, _*_, _^_}
+use lib.Bits.{bitXor}
 use borrow.Author.Needs.{needs}
+use Rattle.format.specs.Hash.{dataRefHash}
 use Rattle.extent_write.proofs.data_ref_hash.Statement.{statement}
 use Rattle.extent_write.proofs.data_ref_hash.Tie as tie
 
 returns : tie.Need-returns
-returns c = c .hash-with .ensures
+unfolding dataRefHash
+returns c =
+    let runs = c .before .runs in
+    c .joined .ensures ∙ ap₂ (λ (x y : ℕ). bitXor (x * 2 ^ 31) y) (runs .ensures .0) (runs .ensures .1)
 
 pub data-ref-hash-spec : {M : Type 1} → statement M
-data-ref-hash-spec = tie.close (tie.spec (λ c κs. search needs) (λ c κs. search needs) returns)
+data-ref-hash-spec = tie.close (tie.spec (λ c. search needs) (λ c. search needs) returns)

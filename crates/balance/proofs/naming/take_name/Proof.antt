@@ -26,16 +26,16 @@ span-for-requires c κs =
     let s = c .before .before .before in
     let p = s .pre .1 .1 .0 in
     let b = p .1 .1 .body (p .1 .0) in
-    (s .pre .0 .0, ((b .reads, b .begins), ((ref-known _ (p .0), (ref-owner _ (p .0), b .sorted)), span-known _ _ _ _ (p .0) (b .spans))))
+    (s .pre .0, ((b .reads, b .begins), ((ref-known _ (p .0), (ref-owner _ (p .0), b .sorted)), span-known _ _ _ _ (p .0) (b .spans))))
 
 stride-requires : tie.Need-stride-requires
-stride-requires c κs = let s = c .before .before .before .before in (s .pre .0 .0, ref-known _ (s .pre .1 .1 .0 .0))
+stride-requires c κs = let s = c .before .before .before .before in (s .pre .0, ref-known _ (s .pre .1 .1 .0 .0))
 
 stands-requires : tie.Need-stands-requires
 stands-requires c κs =
     let s = c .before .before .before .before .before in
     let sp = c .before .span-for .ensures in
-    (s .pre .0 .1, ((stride-is _ _ _ (c .stride .ensures) (sp .1), sp .0 .falling), s .pre .1 .1 .1 .place))
+    ((stride-is _ _ _ (c .stride .ensures) (sp .1), sp .0 .falling), s .pre .1 .1 .1 .place)
 
 returns-2 : tie.Need-returns-2
 returns-2 c =
@@ -43,8 +43,8 @@ returns-2 c =
     let sp = c .before .before .before .span-for .ensures in
     name-twice (now (s .args .s)) (s .args .g) (s .args .at) (s .args .next) (s .args .key) (s .pre .1 .1 .0 .0) _ _ (s .pre .1 .1 .1) (s .pre .1 .1 .0 .1 .0) _ (sp .0) (sp .1) (not-true _ _ (c .before .stands .ensures) (c .if2 .taken))
 
-add-t21 : tie.Need-add-t21
-add-t21 c =
+add-t20 : tie.Need-add-t20
+add-t20 c =
     let s = c .before .before .before .before .before .before .before .before in
     omega (arith, s .pre .1 .1 .0 .1 .1 .light, s .pre .1 .0 .0, s .pre .1 .0 .1)
 
@@ -58,4 +58,4 @@ returns-3 c =
 pub take-name-spec : {M : Type 1} → statement M
 take-name-spec =
     tie.close
-    (tie.spec returns sub-body part-body-start part-body-end span-for-requires stride-requires stands-requires returns-2 add-t21 returns-3)
+    (tie.spec returns sub-body part-body-start part-body-end span-for-requires stride-requires stands-requires returns-2 add-t20 returns-3)

@@ -14,11 +14,11 @@ use Rattle.balance.proofs.record.weigh_refs.Statement.{statement}
 use Rattle.balance.proofs.record.weigh_refs.Tie as tie
 
 abbrev Inv-loop : tie.InvT-loop
-Inv-loop rows table body start at₀ run₀ sum₀ at run sum =
+Inv-loop rows body start at₀ run₀ sum₀ at run sum =
     (weighing (runOf body run) sum (readFrom body at) ≡ weighedOf (readFrom body start)) × (Reaches run at × ((sum ≤ 4294967296 * at) × (at ≤ length body)))
 
 abbrev μ-loop : tie.MeasureT-loop
-μ-loop rows table body start at₀ run₀ sum₀ at run sum = length body - at
+μ-loop rows body start at₀ run₀ sum₀ at run sum = length body - at
 
 loop-holds : tie.Need-loop-holds Inv-loop μ-loop
 loop-holds c = (weigh-start (now (c .before .args .body)) (c .before .args .start) _, ((λ e. absurd (omega arith)), (omega arith, c .before .pre .1 .1)))
@@ -26,10 +26,8 @@ loop-holds c = (weigh-start (now (c .before .args .body)) (c .before .args .star
 admit-requires : tie.Need-admit-requires Inv-loop μ-loop
 admit-requires c κs =
     let step = c .before .before .before in
-    let w = seen (now (step .before .before .before .args .body)) (step .before .loop .at) _ (sym (c .before .kind .given .1) ∙ step .step .ensures) in (
-      c .before .before .before .before .before .before .pre .0 .1,
-      ((w .kindKnown, omega (arith, w .start, w .further, w .within, w .long), w .place), (w .start, c .before .before .before .before .loop .inv .1 .0)),
-    )
+    let w = seen (now (step .before .before .before .args .body)) (step .before .loop .at) _ (sym (c .before .kind .given .1) ∙ step .step .ensures) in
+    ((w .kindKnown, omega (arith, w .start, w .further, w .within, w .long), w .place), (w .start, c .before .before .before .before .loop .inv .1 .0))
 
 add-sum : tie.Need-add-sum Inv-loop μ-loop
 add-sum c =

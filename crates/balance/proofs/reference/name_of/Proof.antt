@@ -16,7 +16,7 @@ returns-5 : tie.Need-returns-5
 returns-5 c = block-form _ (c .before .before .before .before .before .if1 .left) (c .before .before .before .if2 .left) (c .if5 .taken) (c .before .before .if4 .left)
 
 returns-6 : tie.Need-returns-6
-returns-6 c = parent-form _ (c .before .before .before .before .before .if1 .left) (c .before .before .before .if2 .left) (c .before .before .before .before .before .before .before .before .pre .1) (c .if5 .left) (c .before .before .if4 .left)
+returns-6 c = parent-form _ (c .before .before .before .before .before .if1 .left) (c .before .before .before .if2 .left) (c .before .before .before .before .before .before .before .before .pre) (c .if5 .left) (c .before .before .if4 .left)
 
 pub name-of-spec : {M : Type 1} → statement M
 name-of-spec =

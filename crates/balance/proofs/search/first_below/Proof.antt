@@ -8,10 +8,10 @@ use Rattle.balance.proofs.search.first_below.Statement.{statement}
 use Rattle.balance.proofs.search.first_below.Tie as tie
 
 abbrev Inv-loop : tie.InvT-loop
-Inv-loop table body size span place bounds₀ bounds = Halving body span place bounds
+Inv-loop body size span place bounds₀ bounds = Halving body span place bounds
 
 abbrev μ-loop : tie.MeasureT-loop
-μ-loop table body size span place bounds₀ bounds = bounds .high - bounds .low
+μ-loop body size span place bounds₀ bounds = bounds .high - bounds .low
 
 mul-place-at : tie.Need-mul-place-at Inv-loop μ-loop
 mul-place-at c =
@@ -20,7 +20,7 @@ mul-place-at c =
     let t = c .before .before .if1 .taken in
     let mid = loop .bounds .low + (loop .bounds .high - loop .bounds .low) / 2 in
     let m : mid < s .args .span .n = omega (arith, t, loop .inv .few) in
-    let r = room (now (s .args .body)) (s .args .span) (s .args .size) (s .pre .1 .0) (s .pre .1 .1) mid m in
+    let r = room (now (s .args .body)) (s .args .span) (s .args .size) (s .pre .0) (s .pre .1) mid m in
     omega arith
 
 add-place-at : tie.Need-add-place-at Inv-loop μ-loop
@@ -30,7 +30,7 @@ add-place-at c =
     let t = c .before .before .before .if1 .taken in
     let mid = loop .bounds .low + (loop .bounds .high - loop .bounds .low) / 2 in
     let m : mid < s .args .span .n = omega (arith, t, loop .inv .few) in
-    let r = room (now (s .args .body)) (s .args .span) (s .args .size) (s .pre .1 .0) (s .pre .1 .1) mid m in
+    let r = room (now (s .args .body)) (s .args .span) (s .args .size) (s .pre .0) (s .pre .1) mid m in
     omega arith
 
 add-place-at-2 : tie.Need-add-place-at-2 Inv-loop μ-loop
@@ -40,8 +40,8 @@ add-place-at-2 c =
     let t = c .before .before .before .if1 .taken in
     let mid = loop .bounds .low + (loop .bounds .high - loop .bounds .low) / 2 in
     let m : mid < s .args .span .n = omega (arith, t, loop .inv .few) in
-    let r = room (now (s .args .body)) (s .args .span) (s .args .size) (s .pre .1 .0) (s .pre .1 .1) mid m in
-    omega (arith, s .pre .1 .0)
+    let r = room (now (s .args .body)) (s .args .span) (s .args .size) (s .pre .0) (s .pre .1) mid m in
+    omega (arith, s .pre .0)
 
 place-at-requires : tie.Need-place-at-requires Inv-loop μ-loop
 place-at-requires c κs =
@@ -50,8 +50,8 @@ place-at-requires c κs =
     let t = c .before .before .before .if1 .taken in
     let mid = loop .bounds .low + (loop .bounds .high - loop .bounds .low) / 2 in
     let m : mid < s .args .span .n = omega (arith, t, loop .inv .few) in
-    let r = room (now (s .args .body)) (s .args .span) (s .args .size) (s .pre .1 .0) (s .pre .1 .1) mid m in
-    (s .pre .0, (s .pre .1 .1 .kindKnown, omega (arith, s .pre .1 .0)))
+    let r = room (now (s .args .body)) (s .args .span) (s .args .size) (s .pre .0) (s .pre .1) mid m in
+    (s .pre .1 .kindKnown, omega (arith, s .pre .0))
 
 narrow-requires : tie.Need-narrow-requires Inv-loop μ-loop
 narrow-requires c κs = let t = c .before .before .before .before .if1 .taken in (omega (arith, t), omega (arith, t))
@@ -65,8 +65,8 @@ next c =
     let mid = loop .bounds .low + (loop .bounds .high - loop .bounds .low) / 2 in
     let low : loop .bounds .low ≤ mid = omega arith in
     let high : mid < loop .bounds .high = omega (arith, t) in
-    halving-next (now (s .args .body)) (s .args .span) (s .args .place) (loop .bounds) (loop .inv) (s .pre .1 .1) mid (c .before .place-at .result) low high
-    (spot-is (now (s .args .body)) (s .args .span) (s .args .size) mid (c .before .place-at .result) (s .pre .1 .0) (c .before .place-at .ensures)) _ (c .narrow .ensures)
+    halving-next (now (s .args .body)) (s .args .span) (s .args .place) (loop .bounds) (loop .inv) (s .pre .1) mid (c .before .place-at .result) low high
+    (spot-is (now (s .args .body)) (s .args .span) (s .args .size) mid (c .before .place-at .result) (s .pre .0) (c .before .place-at .ensures)) _ (c .narrow .ensures)
 
 returns : tie.Need-returns Inv-loop μ-loop
 returns c = let s = c .before .before .before .before in halving-end (now (s .args .body)) (s .args .span) (s .args .place) _ (c .before .before .loop .inv) (c .if1 .left)

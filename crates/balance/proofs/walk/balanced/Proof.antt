@@ -17,45 +17,45 @@ use Rattle.balance.proofs.walk.balanced.Statement.{statement}
 use Rattle.balance.proofs.walk.balanced.Tie as tie
 
 abbrev Inv-loop : tie.InvT-loop
-Inv-loop sheet rows table at₀ g₀ at g = Walked sheet at (λ (items : List Item). pass items (tallyOf sheet g) ≡ balanced (itemsOf sheet)) × Kept sheet g at
+Inv-loop sheet rows at₀ g₀ at g = Walked sheet at (λ (items : List Item). pass items (tallyOf sheet g) ≡ balanced (itemsOf sheet)) × Kept sheet g at
 
 abbrev μ-loop : tie.MeasureT-loop
-μ-loop sheet rows table at₀ g₀ at g = length sheet - at
+μ-loop sheet rows at₀ g₀ at g = length sheet - at
 
 loop-holds : tie.Need-loop-holds Inv-loop μ-loop
 loop-holds c =
-    let s = c .before .before .before .before in
-    let bytes = areBytes-in (now (s .args .sheet)) (λ i. c .before .before .before .shared-slice-known .given i .fits) in
+    let s = c .before .before .before in
+    let bytes = areBytes-in (now (s .args .sheet)) (λ i. c .before .before .shared-slice-known .given i .fits) in
     (record { items = _; rest = rest-all _ (s .pre); so = pass-all _ _ bytes (s .pre) (c .begin .ensures) }, empty-kept _ _ _ _ (c .begin .ensures))
 
 turn-requires : tie.Need-turn-requires Inv-loop μ-loop
 turn-requires c κs =
-    let s = c .before .before .before .before .before .before .before .before .before .before .before in
-    let i = c .before .before .before .before .before .before .loop .inv in
-    let bytes = areBytes-in (now (s .args .sheet)) (λ i. c .before .before .before .before .before .before .before .before .before .before .shared-slice-known .given i .fits) in
-    let m = rest-item _ _ _ _ (i .0 .rest) (sym (c .before .before .before .before .before .step-at .ensures) ∙ c .before .before .before .next .given .1) in
+    let s = c .before .before .before .before .before .before .before .before .before in
+    let i = c .before .before .before .before .before .loop .inv in
+    let bytes = areBytes-in (now (s .args .sheet)) (λ i. c .before .before .before .before .before .before .before .before .shared-slice-known .given i .fits) in
+    let m = rest-item _ _ _ _ (i .0 .rest) (sym (c .before .before .before .before .step-at .ensures) ∙ c .before .before .next .given .1) in
     let w = m .whole in (
-      (c .before .before .before .before .before .before .before .before .before .rows .ensures, c .before .before .before .before .before .before .before .before .table .ensures),
+      c .before .before .before .before .before .before .before .rows .ensures,
       ((omega arith, (w .within, (omega arith, omega (arith, sheet-short _ bytes (s .pre))))), (item-whole _ _ _ w, i .1)),
     )
 
 loop-less : tie.Need-loop-less Inv-loop μ-loop
 loop-less c =
-    let i = c .before .before .before .before .before .before .before .before .before .before .loop .inv in
-    let w = rest-item _ _ _ _ (i .0 .rest) (sym (c .before .before .before .before .before .before .before .before .before .step-at .ensures) ∙ c .before .before .before .before .before .before .before .next .given .1) .whole in
+    let i = c .before .before .before .before .before .before .before .before .before .loop .inv in
+    let w = rest-item _ _ _ _ (i .0 .rest) (sym (c .before .before .before .before .before .before .before .before .step-at .ensures) ∙ c .before .before .before .before .before .before .next .given .1) .whole in
     omega arith
 
 loop-again : tie.Need-loop-again Inv-loop μ-loop
 loop-again c =
-    let i = c .before .before .before .before .before .before .before .before .before .before .loop .inv in
-    let m = rest-item _ _ _ _ (i .0 .rest) (sym (c .before .before .before .before .before .before .before .before .before .step-at .ensures) ∙ c .before .before .before .before .before .before .before .next .given .1) in
+    let i = c .before .before .before .before .before .before .before .before .before .loop .inv in
+    let m = rest-item _ _ _ _ (i .0 .rest) (sym (c .before .before .before .before .before .before .before .before .step-at .ensures) ∙ c .before .before .before .before .before .before .next .given .1) in
     let t = turned-next _ _ _ _ _ _ (c .before .after .given .1) (c .before .before .before .turn .ensures) in
     (record { items = m .others; rest = m .rest; so = pass-on _ _ _ _ _ _ (m .is) (t .0) ∙ i .0 .so }, t .1)
 
 returns : tie.Need-returns Inv-loop μ-loop
 returns c =
-    let i = c .before .before .before .before .before .before .before .before .before .loop .inv in
-    let m = rest-item _ _ _ _ (i .0 .rest) (sym (c .before .before .before .before .before .before .before .before .step-at .ensures) ∙ c .before .before .before .before .before .before .next .given .1) in
+    let i = c .before .before .before .before .before .before .before .before .loop .inv in
+    let m = rest-item _ _ _ _ (i .0 .rest) (sym (c .before .before .before .before .before .before .before .step-at .ensures) ∙ c .before .before .before .before .before .next .given .1) in
     let t = turned-bad _ _ _ _ _ (c .enum-told .given .1) (c .before .before .turn .ensures) in
     pass-off _ _ _ _ _ (m .is) t ∙ i .0 .so
 
@@ -72,4 +72,4 @@ returns-3 c =
 pub balanced-spec : {M : Type 1} → statement M
 balanced-spec =
     tie.close
-    (tie.spec Inv-loop μ-loop (λ c κs. search needs) (λ c κs. search needs) (λ c κs. search needs) loop-holds (λ c κs. search needs) (λ c. search needs) turn-requires (λ c. search needs) loop-less loop-again (λ c. search needs) returns (λ c. search needs) returns-2 (λ c. search needs) returns-3)
+    (tie.spec Inv-loop μ-loop (λ c κs. search needs) (λ c κs. search needs) loop-holds (λ c κs. search needs) (λ c. search needs) turn-requires (λ c. search needs) loop-less loop-again (λ c. search needs) returns (λ c. search needs) returns-2 (λ c. search needs) returns-3)

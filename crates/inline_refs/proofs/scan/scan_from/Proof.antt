@@ -14,18 +14,18 @@ use Rattle.inline_refs.proofs.scan.scan_from.Statement.{statement}
 use Rattle.inline_refs.proofs.scan.scan_from.Tie as tie
 
 abbrev Inv-loop : tie.InvT-loop
-Inv-loop rows table body start wanted place at₀ seen₀ at seen =
+Inv-loop rows body start wanted place at₀ seen₀ at seen =
     scanOf wanted place at seen (readFrom body at) ≡ scanOf wanted place start (Open false) (readFrom body start)
 
 abbrev μ-loop : tie.MeasureT-loop
-μ-loop rows table body start wanted place at₀ seen₀ at seen = length body - at
+μ-loop rows body start wanted place at₀ seen₀ at seen = length body - at
 
 note-requires : tie.Need-note-requires Inv-loop μ-loop
 note-requires c κs =
     let step = c .before .before .before in
     let s = step .before .before .before in
     let w = seen (now (s .args .body)) (step .before .loop .at) _ (sym (c .before .kind .given .1) ∙ step .step .ensures) in
-    (s .pre .1, (w .kindKnown, omega (arith, w .start, w .further, w .within, w .long), w .place))
+    (w .kindKnown, omega (arith, w .start, w .further, w .within, w .long), w .place)
 
 loop-less : tie.Need-loop-less Inv-loop μ-loop
 loop-less c =

@@ -1,17 +1,16 @@
--- `crc32c::runs_with` meets its contract: two runs in a row are one.
+-- `crc32c::runs` meets its contract: two runs in a row are one.
 -- Assumes nothing.
 use borrow.Author.Needs.{needs}
 use Rattle.fields.specs.Numbers.{leBytes}
 use Rattle.crc32c.specs.Register.{crc32c, allOnes}
 use Rattle.crc32c.proofs.Steps.{run-append}
-use Rattle.crc32c.proofs.runs_with.Statement.{statement}
-use Rattle.crc32c.proofs.runs_with.Tie as tie
+use Rattle.crc32c.proofs.runs.Statement.{statement}
+use Rattle.crc32c.proofs.runs.Tie as tie
 
 returns : tie.Need-returns
 returns c =
     let a = c .before .before .before .args in
     (search needs, cc (run-append crc32c (leBytes 8 (a .b)) (leBytes 8 (a .c)) allOnes))
 
-pub runs-with-spec : {M : Type 1} → statement M
-runs-with-spec =
-    tie.close (tie.spec (λ c κs. search needs) (λ c κs. search needs) (λ c κs. search needs) returns)
+pub runs-spec : {M : Type 1} → statement M
+runs-spec = tie.close (tie.spec (λ c. search needs) (λ c. search needs) (λ c. search needs) returns)
