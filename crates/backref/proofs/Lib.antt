@@ -1,3 +1,4 @@
 pub mod Named
 pub mod Told
 pub mod KeyedBodies
+pub mod Takings

@@ -116,7 +116,26 @@ module _ (number extent a b c amount : ℕ) where
       ap (λ (n : ℕ). DropShared extent (record { kind = n; parent = b })) k
       ∙ sym (ap (λ (n : ℕ). standIn (changeOf n extent a b c amount)) e)
 
-  pub from-other : (number ≡ 1 → ⊥) → (number ≡ 2 → ⊥) → (number ≡ 3 → ⊥) → (number ≡ 4 → ⊥) → (number ≡ 5 → ⊥) → (number ≡ 6 → ⊥)
-      → DropShared 0 (record { kind = 0; parent = 0 }) ≡ standIn (changeOf number extent a b c amount)
+  from-other : {change : Change} → change ≡ standIn none
+      → (number ≡ 1 → ⊥) → (number ≡ 2 → ⊥) → (number ≡ 3 → ⊥) → (number ≡ 4 → ⊥) → (number ≡ 5 → ⊥) → (number ≡ 6 → ⊥)
+      → change ≡ standIn (changeOf number extent a b c amount)
   unfolding standIn changeOf
-  from-other e₁ e₂ e₃ e₄ e₅ e₆ = simp (ne-eqb _ _ e₁, ne-eqb _ _ e₂, ne-eqb _ _ e₃, ne-eqb _ _ e₄, ne-eqb _ _ e₅, ne-eqb _ _ e₆)
+  from-other e e₁ e₂ e₃ e₄ e₅ e₆ = e ∙ simp (ne-eqb _ _ e₁, ne-eqb _ _ e₂, ne-eqb _ _ e₃, ne-eqb _ _ e₄, ne-eqb _ _ e₅, ne-eqb _ _ e₆)
+
+  pub other-low : {change : Change} → number < 4 → change ≡ standIn none → (number ≡ 1 → ⊥) → (number ≡ 2 → ⊥) → (number ≡ 3 → ⊥)
+      → change ≡ standIn (changeOf number extent a b c amount)
+  other-low h e e₁ e₂ e₃ = from-other e e₁ e₂ e₃ (λ z. omega arith) (λ z. omega arith) (λ z. omega arith)
+
+  pub other-high : {change : Change} → 4 ≤ number → change ≡ standIn none → (number ≡ 4 → ⊥) → (number ≡ 5 → ⊥) → (number ≡ 6 → ⊥)
+      → change ≡ standIn (changeOf number extent a b c amount)
+  other-high h e e₄ e₅ e₆ = from-other e (λ z. omega arith) (λ z. omega arith) (λ z. omega arith) e₄ e₅ e₆
+
+  -- the amount of a drop plays no part
+  pub from-drop : {change : Change} → 4 ≤ number → change ≡ standIn (changeOf number extent a b c 0)
+      → change ≡ standIn (changeOf number extent a b c amount)
+  unfolding changeOf
+  from-drop h e =
+      let e₁ : number ≡ 1 → ⊥ = λ z. omega arith in
+      let e₂ : number ≡ 2 → ⊥ = λ z. omega arith in
+      let e₃ : number ≡ 3 → ⊥ = λ z. omega arith in
+      e ∙ simp (ne-eqb _ _ e₁, ne-eqb _ _ e₂, ne-eqb _ _ e₃)

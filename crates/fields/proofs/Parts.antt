@@ -55,7 +55,7 @@ part-rest at list = take-all (length list - at) (drop at list) (simp length-drop
 
 -- ---- writes
 
-sets-append : (a b l : List ℕ) (i : ℕ) → sets l i (a ++ b) ≡ sets (sets l i a) (i + length a) b
+pub sets-append : (a b l : List ℕ) (i : ℕ) → sets l i (a ++ b) ≡ sets (sets l i a) (i + length a) b
 sets-append [] b l i = ap (λ (k : ℕ). sets l k b) (sym (add-zero i))
 sets-append (x ∷ a) b l i =
     sets-append a b (set l i x) (suc i)

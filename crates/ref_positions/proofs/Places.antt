@@ -106,7 +106,7 @@ count-reads absent count e = count-not e
 count-reads remove count e = count-not e
 count-reads (accepted refs) count e = record { refs = refs; is = refl; many = count-inj e }
 
-fault-reads : (x : Answer (List Ref)) (n : ℕ) → Decided x → Refused n ≡ countOf x → x ≡ refused n
+pub fault-reads : (x : Answer (List Ref)) (n : ℕ) → Decided x → Refused n ≡ countOf x → x ≡ refused n
 unfolding countOf
 fault-reads x n (read l q) e = count-not (sym (e ∙ ap countOf q))
 fault-reads x n (strange q) e = q ∙ ap refused (refused-inj (e ∙ ap countOf q))

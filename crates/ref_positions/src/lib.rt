@@ -20,7 +20,8 @@ pub enum Counted {
     Refused(u32),
 }
 
-fn count_refs(rows: &[[u8; 3]; 5], body: &[u8], start: usize) -> Counted
+// The lister puts the number before the references too.
+pub fn count_refs(rows: &[[u8; 3]; 5], body: &[u8], start: usize) -> Counted
     requires { ⌜ now rows ≡ kinds ⌝ }
     requires { ⌜ (start ≤ length (now body)) × (length (now body) ≤ 65535) ⌝ }
     ensures { λ r. ⌜ r ≡ countOf (readFrom (now (body .entry)) start) ⌝ }

@@ -2,5 +2,4 @@ pub mod Spots
 pub mod Records
 pub mod Additions
 pub mod KeyedAdditions
-pub mod Takings
 pub mod SharedDrops

@@ -27,12 +27,12 @@ use Rattle.backref_plan.specs.declared.plan.Plan.{Plan}
 use Rattle.backref_plan.specs.Plans.{planAnswer, Planned, PlannedTaken}
 use Rattle.backref_plan.specs.Steps.{Reduces, Needs}
 use Rattle.backref_plan.proofs.Reductions.{needs-whole}
+use Rattle.backref.proofs.Takings.{taken-says, taken-whole}
 use Rattle.record_edit.specs.Records.{dataOf, heldEdit}
 use Rattle.transaction.specs.declared.Spot.the-variants.{Refused}
 use Rattle.transaction.specs.Spots.{spotOf, withBody}
 use Rattle.transaction.proofs.Spots.{Standing, spot-refused, stands-answer}
 use Rattle.transaction.proofs.Records.{put-answered}
-use Rattle.transaction.proofs.Takings.{taken-says, taken-whole}
 
 -- ---- the planned body
 
@@ -60,7 +60,7 @@ module _ (i : Item) (s : SharedRef) (count : ℕ) (asItem : Bool) (r : Plan) whe
 -- ---- the call
 
 -- question 17 is not asked, and no body is longer than the limit that is passed
-reduced-fits : (rest : List ℕ) (amount : ℕ) (d : List ℕ) → reduceTotal rest amount ≡ accepted d → length d ≤ 65535
+pub reduced-fits : (rest : List ℕ) (amount : ℕ) (d : List ℕ) → reduceTotal rest amount ≡ accepted d → length d ≤ 65535
 unfolding reduceTotal onTotal onHead bodyFits
 reduced-fits rest amount d e =
     let q₁ = ask-ok (leb (length rest) 65535) 3 _ e in
@@ -77,7 +77,7 @@ dropped-fits a amount d e =
     sym (le-leb _ _ (reduced-fits (r .0) amount d (r .2)))
 
 -- one after the other, from the left or from the right
-bind-next : {A B C : Type 0} (a : Answer A) (f : A → Answer B) (g : B → Answer C) → bind a (λ x. bind (f x) g) ≡ bind (bind a f) g
+pub bind-next : {A B C : Type 0} (a : Answer A) (f : A → Answer B) (g : B → Answer C) → bind a (λ x. bind (f x) g) ≡ bind (bind a f) g
 unfolding bind
 bind-next (refused n) f g = refl
 bind-next absent f g = refl

@@ -23,7 +23,7 @@ fn list(count: u64) -> Vec<OwnedItem> {
     items
 }
 
-fn sheet(items: &[OwnedItem]) -> Vec<u8> {
+pub fn sheet(items: &[OwnedItem]) -> Vec<u8> {
     let mut sheet = vec![1];
     for item in items {
         sheet.extend((17 + item.data.len() as u32).to_be_bytes());
@@ -36,7 +36,7 @@ fn sheet(items: &[OwnedItem]) -> Vec<u8> {
 }
 
 pub fn rows(b: &mut Bench) {
-    for count in [2, 40, 160, 800, 3_000] {
+    for count in [2, 50, 200, 2_000] {
         with_items(b, count);
     }
 }
@@ -84,7 +84,7 @@ fn with_items(b: &mut Bench, count: u64) {
         lent::leaf_edit_split(&sheet, &mut cuts, count).into()
     });
     // The original tries every cut by measuring both halves: the square of the items.
-    if count <= 800 {
+    if count <= 2_000 {
         b.row(
             "leaf_edit_split_to_fit",
             size,
@@ -131,11 +131,38 @@ fn with_items(b: &mut Bench, count: u64) {
             .into()
         },
     );
+    drops(b, size, &items, middle, last);
     // The books have no counterpart in the original: beside it stands its call for the same edit.
     b.row(
         "ledger_post",
         &format!("{size}, give data"),
         || door::apply_keyed_add(16_384, items.clone(), middle, name, 1, false),
         &mut |out, len| lent::ledger_post(16_384, &sheet, 2, middle, 6, 257, 0, 1, out, len).into(),
+    );
+}
+
+/// A shared reference of two counts at `middle` and a second tree at `last`, to be dropped again.
+fn drops(b: &mut Bench, size: &str, items: &[OwnedItem], middle: u64, last: u64) {
+    let block = Keyed::Block { tree: 7 };
+    let items = door::apply_shared_add(16_384, items.to_vec(), middle, 184, 8192, 2, false)
+        .and_then(|items| door::apply_keyed_add(16_384, items, last, block, 1, false))
+        .expect("room for both");
+    let sheet = sheet(&items);
+    b.row(
+        "transaction_apply_shared_drop",
+        size,
+        || door::apply_shared_drop(items.clone(), middle, 184, 8192, 2, false),
+        &mut |out, len| {
+            lent::transaction_apply_shared_drop(&sheet, middle, 184, 8192, 2, false, out, len)
+                .into()
+        },
+    );
+    b.row(
+        "transaction_drop_kept_tree_ref",
+        size,
+        || door::drop_kept_tree_ref(items.clone(), last, 7, 0, false),
+        &mut |out, len| {
+            lent::transaction_drop_kept_tree_ref(&sheet, last, 0, 7, false, out, len).into()
+        },
     );
 }

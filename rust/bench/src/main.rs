@@ -11,6 +11,8 @@ mod bodies;
 #[cfg(original_here)]
 mod lists;
 mod measure;
+#[cfg(original_here)]
+mod worst;
 
 use measure::Bench;
 
@@ -33,4 +35,6 @@ fn main() {
         );
     }
     bench.print();
+    #[cfg(original_here)]
+    worst::table(&mut bench);
 }

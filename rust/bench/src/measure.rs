@@ -71,6 +71,21 @@ impl Bench {
         self.rows.push((call.into(), size.into(), best.0, there.then_some(best.1)));
     }
 
+    /// A call of the archive alone, in nanoseconds, or nothing where it is not asked for.
+    pub fn alone(&mut self, call: &str, archive: Lent) -> Option<f64> {
+        let asked = self.only.as_ref().is_none_or(|word| call.contains(word.as_str()));
+        if !asked || extent_refs::MISSING.contains(&call) {
+            return None;
+        }
+        let mut len = 0;
+        let out = &mut self.out[..];
+        let mut call = || {
+            black_box(archive(black_box(&mut *out), &mut len));
+        };
+        let rounds = calibrated(&mut call);
+        Some((0..BATCHES).map(|_| batch(&mut call, rounds)).fold(f64::MAX, f64::min))
+    }
+
     pub fn print(&self) {
         println!("| call | size | original, ns | archive, ns | archive / original |");
         println!("|---|---|---|---|---|");

@@ -6,6 +6,7 @@
 //! its answer) and one in `original`; the inputs follow from the names of its parameters.
 pub mod archive;
 pub mod compare;
+pub mod dump_tree;
 pub mod generate;
 #[cfg(original_here)]
 mod original;

@@ -3,6 +3,7 @@
 //!
 //! The leaves are in ../shared/leaves beside the repository, or where EXTENT_REFS_LEAVES says.
 use differential::archive::{self, Archive};
+use differential::dump_tree::{self, Leaf};
 use differential::generate::{ample, lent};
 use model::asked::le64;
 use model::body::{Body, BLOCK, DATA, OWNER, SHARED_BLOCK, SHARED_DATA};
@@ -10,21 +11,15 @@ use model::calls::{outcome, Arg, Outcome};
 use model::hash::data_ref_hash;
 use model::ledger::{balanced, count};
 use model::sheet::{bytes, read, Item};
-use std::path::{Path, PathBuf};
+use std::path::Path;
 use std::process::ExitCode;
 
 fn main() -> ExitCode {
-    let folder = std::env::var("EXTENT_REFS_LEAVES").map(PathBuf::from).unwrap_or_else(|_| {
-        PathBuf::from(env!("CARGO_MANIFEST_DIR")).join("../../../shared/leaves")
-    });
-    let Ok(entries) = std::fs::read_dir(&folder) else {
+    let Some(paths) = dump_tree::leaves() else {
         println!("the leaves' folder is missing (EXTENT_REFS_LEAVES): skipped");
         println!("0 passed, 0 failed");
         return ExitCode::SUCCESS;
     };
-    let mut paths: Vec<PathBuf> = entries.filter_map(|e| Some(e.ok()?.path())).collect();
-    paths.retain(|p| p.extension().is_some_and(|e| e == "leaf"));
-    paths.sort();
     let mut run = Run::default();
     for path in &paths {
         if let Err(fault) = run.leaf(path) {
@@ -75,38 +70,24 @@ type Fault<T> = Result<T, String>;
 
 impl Run {
     fn leaf(&mut self, path: &Path) -> Fault<()> {
-        let image = std::fs::read(path).map_err(|e| e.to_string())?;
-        let text =
-            std::fs::read_to_string(path.with_extension("txt")).map_err(|e| e.to_string())?;
-        let items = model::leaf::items(&image)?;
+        let Leaf { items, texts, nodesize } = Leaf::read(path)?;
         read(&bytes(&items)).map_err(|stop| format!("the sheet is refused: {stop:?}"))?;
-        self.texts(&items, &text)?;
+        self.texts(&items, &texts)?;
         self.leaves_balanced += usize::from(balanced(&items));
         let mut extents: Vec<u64> = items.iter().map(|i| i.key.0).collect();
         extents.dedup();
         for extent in extents {
             let own: Vec<Item> = items.iter().filter(|i| i.key.0 == extent).cloned().collect();
-            self.extent(extent, &own, image.len() as u64)?;
+            self.extent(extent, &own, nodesize)?;
         }
         Ok(())
     }
 
     /// Every item's key, size and references, beside the text.
-    fn texts(&mut self, items: &[Item], text: &str) -> Fault<()> {
-        let parts: Vec<&str> = text.split("\titem ").skip(1).collect();
-        if parts.len() != items.len() {
-            return Err(format!("{} items, and {} in the text", items.len(), parts.len()));
-        }
-        for (number, (item, part)) in items.iter().zip(parts).enumerate() {
+    fn texts(&mut self, items: &[Item], texts: &[String]) -> Fault<()> {
+        for (number, (item, part)) in items.iter().zip(texts).enumerate() {
             let printed = self.printed(item).map_err(|f| format!("item {number}: {f}"))?;
-            let mut told = part.lines().skip(1).map(str::trim).filter(|l| {
-                !l.starts_with("block group")
-                    && !l.starts_with("tree block")
-                    && !l.starts_with("total bytes")
-                    && !l.starts_with("bytes used")
-                    && !l.contains("uuid")
-                    && !l.is_empty()
-            });
+            let mut told = dump_tree::lines(part).into_iter();
             let (objectid, kind, offset) = item.key;
             let head = format!("{number} key ({objectid} {} {offset})", kind_name(kind));
             let size = format!("itemsize {}", item.data.len());
@@ -115,8 +96,8 @@ impl Run {
                 return Err(format!("item {number} is {head} {size}, and in the text {first}"));
             }
             for line in printed {
-                let there = told.next().map(numbered);
-                if there.as_deref() != Some(&line) {
+                let there = told.next();
+                if there.as_ref() != Some(&line) {
                     return Err(format!("item {number} gives {line}, and the text {there:?}"));
                 }
             }
@@ -291,27 +272,4 @@ fn kind_name(kind: u8) -> &'static str {
         192 => "BLOCK_GROUP_ITEM",
         _ => "UNKNOWN",
     }
-}
-
-/// A line of the text with the trees' names as numbers.
-fn numbered(line: &str) -> String {
-    const TREES: [(&str, u64); 10] = [
-        ("ROOT_TREE", 1),
-        ("EXTENT_TREE", 2),
-        ("CHUNK_TREE", 3),
-        ("DEV_TREE", 4),
-        ("FS_TREE", 5),
-        ("CSUM_TREE", 7),
-        ("QUOTA_TREE", 8),
-        ("UUID_TREE", 9),
-        ("FREE_SPACE_TREE", 10),
-        ("DATA_RELOC_TREE", 9u64.wrapping_neg()),
-    ];
-    let words = line.split(' ').map(|word| {
-        TREES
-            .iter()
-            .find(|(name, _)| *name == word)
-            .map_or(word.to_string(), |(_, n)| n.to_string())
-    });
-    words.collect::<Vec<_>>().join(" ")
 }

@@ -1,0 +1,4 @@
+pub mod Books
+pub mod Asked
+pub mod Adding
+pub mod Calls

@@ -1,0 +1,45 @@
+// A reference dropped from the record of an extent, or from its own item.
+use crate::Stand;
+use format::BlockRef;
+use format::DataRef;
+use format::Edited;
+use format::SharedRef;
+ghost use mathlib.Core.Path.{_≡_};
+ghost use mathlib.Core.Bool.{false};
+ghost use lib.ListN.{length};
+ghost use Rattle.format.specs.Questions.{Answered};
+ghost use Rattle.format.specs.Items.{heldSheet};
+ghost use Rattle.format.specs.Apply.{onRecord, dropTreeRef};
+ghost use Rattle.format.specs.Ledger.{dropDataRef, dropSharedRef};
+ghost use Rattle.item_list.specs.Steps.{itemsOf};
+ghost use Rattle.ledger.specs.Books.{Books, Entered};
+
+pub fn drop_block(sheet: &[u8], stand: Stand, extent: u64, name: BlockRef, out: &mut [u8]) -> Edited
+    requires { ⌜ Books (now sheet) (stand .items) ⌝ }
+    requires { ⌜ Entered (now sheet) extent (stand .start) (stand .end) ⌝ }
+    ensures { λ r. ⌜ Answered (heldSheet (length (now (out .entry))) (onRecord extent (itemsOf (now (sheet .entry))) (dropTreeRef name false (itemsOf (now (sheet .entry)))))) r (now (out .entry)) (now (out .exit)) ⌝ }
+{
+    record_drop::drop_tree_ref(sheet, stand.start, stand.end, stand.items, name, out)
+}
+
+pub fn drop_data(sheet: &[u8], stand: Stand, extent: u64, name: DataRef, out: &mut [u8]) -> Edited
+    requires { ⌜ Books (now sheet) (stand .items) ⌝ }
+    requires { ⌜ Entered (now sheet) extent (stand .start) (stand .end) ⌝ }
+    ensures { λ r. ⌜ Answered (heldSheet (length (now (out .entry))) (onRecord extent (itemsOf (now (sheet .entry))) (dropDataRef name (itemsOf (now (sheet .entry)))))) r (now (out .entry)) (now (out .exit)) ⌝ }
+{
+    record_drop::drop_data_ref(sheet, stand.start, stand.end, stand.items, name, out)
+}
+
+pub fn drop_shared(
+    sheet: &[u8],
+    stand: Stand,
+    extent: u64,
+    name: SharedRef,
+    out: &mut [u8],
+) -> Edited
+    requires { ⌜ Books (now sheet) (stand .items) ⌝ }
+    requires { ⌜ Entered (now sheet) extent (stand .start) (stand .end) ⌝ }
+    ensures { λ r. ⌜ Answered (heldSheet (length (now (out .entry))) (onRecord extent (itemsOf (now (sheet .entry))) (dropSharedRef name (itemsOf (now (sheet .entry)))))) r (now (out .entry)) (now (out .exit)) ⌝ }
+{
+    record_drop::drop_shared_ref(sheet, stand.start, stand.end, stand.items, name, out)
+}

@@ -1,0 +1,59 @@
+// Question 9 in books: has a name an item of its own?
+use format::Key;
+use inline_refs::Wanted;
+use item_list::Sought;
+ghost use mathlib.Core.Path.{_≡_};
+ghost use mathlib.Core.Bool.{true};
+ghost use Prim.Native.Nat.{_+_, _≤_};
+ghost use lib.ListN.{length};
+ghost use Rattle.fields.specs.Lists.{all, same};
+ghost use Rattle.fields.specs.Numbers.{words};
+ghost use Rattle.format.specs.Items.{keyOf};
+ghost use Rattle.format.specs.References.{placeOf};
+ghost use Rattle.format.specs.Ledger.{notItsOwn};
+ghost use Rattle.inline_refs.specs.Scans.{kindOf, fieldsOf};
+ghost use Rattle.item_list.specs.Steps.{itemsOf};
+ghost use Rattle.ledger.specs.Books.{Books, nameIn, ownAt};
+
+// Where an item of that name stands: the hash of a triple, else the tree or the parent.
+fn own_offset(wanted: Wanted) -> u64
+    ensures { λ r. ⌜ r ≡ placeOf (kindOf wanted) (fieldsOf wanted) ⌝ }
+{
+    match wanted {
+        Wanted::Block(name) => name.tree,
+        Wanted::Data(name) => extent_write::data_ref_hash(name.tree, name.objectid, name.offset),
+        Wanted::SharedBlock(parent) => parent,
+        Wanted::SharedData(parent) => parent,
+    }
+}
+
+// Whether an item with these bytes that stands there is of that name. Two triples may have one hash.
+fn is_own(wanted: Wanted, bytes: &[u8]) -> bool
+    requires { ⌜ (kindOf wanted ≡ 178 → 24 ≤ length (now bytes)) ⌝ }
+    ensures { λ r. ⌜ r ≡ ownAt wanted (now (bytes .entry)) ⌝ }
+{
+    match wanted {
+        Wanted::Block(_) => true,
+        Wanted::Data(name) => inline_refs::names_triple(name, bytes, 0),
+        Wanted::SharedBlock(_) => true,
+        Wanted::SharedData(_) => true,
+    }
+}
+
+pub fn has_none(sheet: &[u8], items: usize, extent: u64, wanted: Wanted) -> bool
+    requires { ⌜ Books (now sheet) items ⌝ }
+    ensures { λ r. ⌜ r ≡ all (notItsOwn (nameIn extent wanted)) (itemsOf (now (sheet .entry))) ⌝ }
+{
+    let key = Key {
+        objectid: extent,
+        kind: inline_refs::kind_of(wanted),
+        offset: own_offset(wanted),
+    };
+    let sought = item_list::seek(sheet, key);
+    match sought {
+        Sought::Absent { at: _ } => return true,
+        Sought::Present { start, end } => {
+            return !is_own(wanted, &sheet[start + 21..end]);
+        }
+    }
+}

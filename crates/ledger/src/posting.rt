@@ -1,0 +1,167 @@
+// One change posted: questions 1 to 5 first, then the change's own.
+use crate::Stand;
+use crate::adds;
+use crate::drops;
+use format::Change;
+use format::Edited;
+use format::SharedRef;
+use inline_refs::Wanted;
+use item_list::Checked;
+use item_list::Place;
+ghost use mathlib.Core.Path.{_≡_};
+ghost use mathlib.Core.Bool.{_&&_};
+ghost use lib.Dec.{T};
+ghost use lib.ListN.{length};
+ghost use Rattle.format.specs.Questions.{Answered};
+ghost use Rattle.format.specs.Bodies.{sharedKind};
+ghost use Rattle.format.specs.Items.{nodesizeFits, heldSheet};
+ghost use Rattle.format.specs.Ledger.{nameOf, kindFits, changed, posted};
+ghost use Rattle.item_list.specs.Steps.{itemsOf};
+ghost use Rattle.ledger.specs.Books.{Books, Entered};
+ghost use Rattle.ledger.specs.Adding.{SharedWanted};
+
+fn kind_fits(change: Change) -> bool
+    ensures { λ r. ⌜ r ≡ kindFits change ⌝ }
+{
+    match change {
+        Change::AddShared {
+            extent: _,
+            name,
+            amount: _,
+        } => transaction::shared_kind(name.kind),
+        Change::DropShared { extent: _, name } => transaction::shared_kind(name.kind),
+        Change::AddBlock { extent: _, name: _ } => true,
+        Change::AddData {
+            extent: _,
+            name: _,
+            amount: _,
+        } => true,
+        Change::DropBlock { extent: _, name: _ } => true,
+        Change::DropData { extent: _, name: _ } => true,
+    }
+}
+
+// Question 3, put to the nodesize of drops too.
+fn change_fits(nodesize: u32, change: Change) -> bool
+    ensures { λ r. ⌜ r ≡ (nodesizeFits nodesize && kindFits change) ⌝ }
+{
+    if item_list::nodesize_fits(nodesize) {
+        return kind_fits(change);
+    }
+    false
+}
+
+fn extent_of(change: Change) -> u64
+    ensures { λ r. ⌜ r ≡ nameOf change .extent ⌝ }
+{
+    match change {
+        Change::AddBlock { extent, name: _ } => extent,
+        Change::AddData {
+            extent,
+            name: _,
+            amount: _,
+        } => extent,
+        Change::AddShared {
+            extent,
+            name: _,
+            amount: _,
+        } => extent,
+        Change::DropBlock { extent, name: _ } => extent,
+        Change::DropData { extent, name: _ } => extent,
+        Change::DropShared { extent, name: _ } => extent,
+    }
+}
+
+fn shared_wanted(name: SharedRef) -> Wanted
+    requires { ⌜ T (sharedKind (name .kind)) ⌝ }
+    ensures { λ r. ⌜ SharedWanted name r ⌝ }
+{
+    if name.kind == 182 {
+        return Wanted::SharedBlock(name.parent);
+    }
+    Wanted::SharedData(name.parent)
+}
+
+// The change to the record that stands there.
+fn change_at(sheet: &[u8], stand: Stand, nodesize: u32, change: Change, out: &mut [u8]) -> Edited
+    requires { ⌜ Books (now sheet) (stand .items) ⌝ }
+    requires { ⌜ Entered (now sheet) (nameOf change .extent) (stand .start) (stand .end) ⌝ }
+    requires { ⌜ T (kindFits change) ⌝ }
+    ensures { λ r. ⌜ Answered (heldSheet (length (now (out .entry))) (changed nodesize change (itemsOf (now (sheet .entry))))) r (now (out .entry)) (now (out .exit)) ⌝ }
+{
+    match change {
+        Change::AddBlock { extent, name } => {
+            return adds::add(sheet, stand, nodesize, extent, Wanted::Block(name), 1, out);
+        }
+        Change::AddData {
+            extent,
+            name,
+            amount,
+        } => {
+            let wanted = Wanted::Data(name);
+            return adds::add(sheet, stand, nodesize, extent, wanted, amount, out);
+        }
+        Change::AddShared {
+            extent,
+            name,
+            amount,
+        } => {
+            let wanted = shared_wanted(name);
+            return adds::add(sheet, stand, nodesize, extent, wanted, amount, out);
+        }
+        Change::DropBlock { extent, name } => {
+            return drops::drop_block(sheet, stand, extent, name, out);
+        }
+        Change::DropData { extent, name } => {
+            return drops::drop_data(sheet, stand, extent, name, out);
+        }
+        Change::DropShared { extent, name } => {
+            return drops::drop_shared(sheet, stand, extent, name, out);
+        }
+    }
+}
+
+// Question 5, then the change.
+fn post_balanced(
+    sheet: &[u8],
+    items: usize,
+    nodesize: u32,
+    change: Change,
+    out: &mut [u8],
+) -> Edited
+    requires { ⌜ Books (now sheet) items ⌝ }
+    requires { ⌜ T (kindFits change) ⌝ }
+    ensures { λ r. ⌜ Answered (heldSheet (length (now (out .entry))) (changed nodesize change (itemsOf (now (sheet .entry))))) r (now (out .entry)) (now (out .exit)) ⌝ }
+{
+    let place = item_list::record_at(sheet, extent_of(change));
+    match place {
+        Place::Missing => return Edited::Refused(5),
+        Place::At {
+            number: _,
+            start,
+            end,
+        } => {
+            let stand = Stand { start, end, items };
+            return change_at(sheet, stand, nodesize, change, out);
+        }
+    }
+}
+
+// Document 01's posting: the sheet with the change, into `out`.
+pub fn post(sheet: &[u8], nodesize: u32, change: Change, out: &mut [u8]) -> Edited
+    ensures { λ r. ⌜ Answered (posted nodesize (now (sheet .entry)) change (length (now (out .entry)))) r (now (out .entry)) (now (out .exit)) ⌝ }
+{
+    let checked = item_list::check(sheet);
+    match checked {
+        Checked::Refused(number) => return Edited::Refused(number),
+        Checked::Count(items) => {
+            if change_fits(nodesize, change) {
+                if balance::balanced(sheet) {
+                    return post_balanced(sheet, items, nodesize, change, out);
+                }
+                return Edited::Refused(4);
+            }
+            return Edited::Refused(3);
+        }
+    }
+}

@@ -1,0 +1,5 @@
+pub mod Numbers
+pub mod Writes
+pub mod Texts
+pub mod Listings
+pub mod Example

@@ -1,0 +1,68 @@
+-- Laws of numbers in decimal and of lines. Assumes nothing.
+use mathlib.Core.Path.{_≡_, refl, sym, ap, _∙_}
+use mathlib.Core.Bool.{cond}
+use mathlib.Core.List.{List, [], _∷_, _++_, append-assoc, append-nil}
+use Prim.Native.Nat.{ℕ, zero, suc, _+_, _*_, _/_, _%_, _^_, _≤_, _<_}
+use native.Mathlib.Omega.{arith}
+use lib.Dec.{ltb}
+use lib.ListN.{length, length-append}
+use native.Mathlib.Nat.{pow-succ'}
+use borrow.Author.Tests.{lt-ltb, le-ltb}
+use Rattle.format.specs.Lister.{digits, line}
+use Rattle.inline_refs.proofs.Steps.{by-test}
+use Rattle.lister_text.specs.Puts.{spaced}
+
+-- ---- digits
+
+pub digits-one : (n : ℕ) → n < 10 → digits 20 n ≡ (48 + n % 10) ∷ []
+unfolding digits
+digits-one n h = simp (lt-ltb _ _ h)
+
+-- with digits to spare, one more changes nothing
+digits-spare : (m n : ℕ) → n < 10 ^ suc m → digits (suc (suc m)) n ≡ digits (suc m) n
+unfolding digits
+digits-spare zero n h = let s : n < 10 = omega arith in simp (lt-ltb _ _ s)
+digits-spare (suc m) n h =
+    let h′ : n < 10 * 10 ^ suc m = rw pow-succ' at h in
+    let q : n / 10 < 10 ^ suc m = omega arith in
+    ap (λ (l : List ℕ). cond (ltb n 10) [] l ++ (48 + n % 10) ∷ []) (digits-spare m (n / 10) q)
+
+pub digits-more : (n : ℕ) → 10 ≤ n → n < 18446744073709551616 → digits 20 n ≡ digits 20 (n / 10) ++ (48 + n % 10) ∷ []
+unfolding digits
+digits-more n h b =
+    let s : n / 10 < 10 ^ 19 = omega arith in
+    let e : digits 20 n ≡ digits 19 (n / 10) ++ (48 + n % 10) ∷ [] = simp (le-ltb _ _ h) in
+    e ∙ ap (λ (l : List ℕ). l ++ (48 + n % 10) ∷ []) (sym (digits-spare 18 (n / 10) s))
+
+pub digits-short : (m n : ℕ) → length (digits m n) ≤ m
+unfolding digits
+digits-short zero n = omega arith
+digits-short (suc m) n =
+    by-test (ltb n 10)
+    (λ y. rw y (omega arith))
+    (λ y. rw y (omega (arith, length-append (digits m (n / 10)) ((48 + n % 10) ∷ []), digits-short m (n / 10))))
+
+-- ---- numbers after spaces
+
+pub spaced-one : (n : ℕ) → spaced (n ∷ []) ≡ 32 ∷ digits 20 n
+unfolding spaced
+spaced-one n = ap (λ (l : List ℕ). 32 ∷ l) (append-nil (digits 20 n))
+
+pub spaced-append : (a b : List ℕ) → spaced (a ++ b) ≡ spaced a ++ spaced b
+unfolding spaced
+spaced-append [] b = refl
+spaced-append (n ∷ a) b =
+    ap (λ (l : List ℕ). 32 ∷ (digits 20 n ++ l)) (spaced-append a b)
+    ∙ ap (λ (l : List ℕ). 32 ∷ l) (sym (append-assoc (digits 20 n) (spaced a) (spaced b)))
+
+pub spaced-short : (a : List ℕ) → length (spaced a) ≤ 21 * length a
+unfolding spaced
+spaced-short [] = omega arith
+spaced-short (n ∷ a) = omega (arith, length-append (digits 20 n) (spaced a), digits-short 20 n, spaced-short a)
+
+-- a line is its first number, the others after spaces, and a line feed
+pub line-is : (n : ℕ) (a : List ℕ) → line (n ∷ a) ≡ digits 20 n ++ (spaced a ++ 10 ∷ [])
+unfolding line spaced
+line-is n [] = refl
+line-is n (m ∷ a) =
+    ap (λ (l : List ℕ). digits 20 n ++ 32 ∷ l) (line-is m a ∙ sym (append-assoc (digits 20 m) (spaced a) (10 ∷ [])))

@@ -1,0 +1,122 @@
+// References that name a tree: one count off inline, or else at the reference's own item.
+use super::edits;
+use backref_plan::Outcome;
+use format::BlockRef;
+use format::DataRef;
+use format::Edited;
+use format::Key;
+use item_list::Sought;
+ghost use mathlib.Core.Bool.{false};
+ghost use Prim.Native.Nat.{_+_, _≤_};
+ghost use lib.ListN.{length};
+ghost use Rattle.format.specs.Questions.{Answered, bind};
+ghost use Rattle.format.specs.Bodies.{lowerTotal, dropKeyedDataRef};
+ghost use Rattle.format.specs.Apply.{dropTreeRef};
+ghost use Rattle.format.specs.Ledger.{dropDataRef};
+ghost use Rattle.item_list.specs.Steps.{Listed};
+ghost use Rattle.record_edit.specs.Records.{dataOf};
+ghost use Rattle.record_drop.specs.Stands.{Dropped};
+ghost use Rattle.record_drop.specs.Edits.{heldAt};
+
+// A block reference, with one off the total.
+pub fn drop_tree_ref(
+    sheet: &[u8],
+    start: usize,
+    end: usize,
+    items: usize,
+    name: BlockRef,
+    out: &mut [u8],
+) -> Edited
+    requires { ⌜ Listed (now sheet) ⌝ }
+    requires { ⌜ (start + 21 ≤ end) × (end ≤ length (now sheet)) × (length (now sheet) ≤ 262144) ⌝ }
+    ensures { λ r. ⌜ Dropped (dropTreeRef name false) (now (sheet .entry)) start end items r (now (out .entry)) (now (out .exit)) ⌝ }
+{
+    let key = item_list::key_at(sheet, start);
+    let plan = backref::plan_drop_tree(key.kind, &sheet[start + 21..end], name);
+    let outcome = plan.outcome;
+    let Outcome::Absent = outcome else {
+        return edits::put_record(sheet, start, end, plan, items, out);
+    };
+    let item = Key {
+        objectid: key.objectid,
+        kind: 176,
+        offset: name.tree,
+    };
+    let place = edits::item_behind(sheet, end, item);
+    let Sought::Present {
+        start: from,
+        end: to,
+    } = place
+    else {
+        return Edited::Refused(5);
+    };
+    let rest = backref_plan::plan_lower_total(&sheet[start + 21..end]);
+    edits::put_without(sheet, start, end, rest, from, to, items, out)
+}
+
+// One off the record's total, then one count off the data reference's item: at count 1 the item goes.
+fn drop_at_item(
+    sheet: &[u8],
+    start: usize,
+    end: usize,
+    from: usize,
+    to: usize,
+    items: usize,
+    name: DataRef,
+    out: &mut [u8],
+) -> Edited
+    requires { ⌜ (start + 21 ≤ end) × (end ≤ from) × (from + 21 ≤ to) × (to ≤ length (now sheet)) × (length (now sheet) ≤ 262144) ⌝ }
+    ensures { λ r. ⌜ Answered (bind (lowerTotal (dataOf (now (sheet .entry)) start end)) (heldAt (length (now (out .entry))) items (now (sheet .entry)) start end from to (dropKeyedDataRef (dataOf (now (sheet .entry)) from to) name))) r (now (out .entry)) (now (out .exit)) ⌝ }
+{
+    let rest = backref_plan::plan_lower_total(&sheet[start + 21..end]);
+    let total = rest.outcome;
+    let Outcome::Edit = total else {
+        return edits::put_record(sheet, start, end, rest, items, out);
+    };
+    let item = backref_plan::plan_drop_keyed(&sheet[from + 21..to], name);
+    let outcome = item.outcome;
+    match outcome {
+        Outcome::Refused(number) => Edited::Refused(number),
+        Outcome::Absent => Edited::Absent,
+        Outcome::Remove => edits::put_without(sheet, start, end, rest, from, to, items, out),
+        Outcome::Edit => {
+            let count = fields::get_u32_le(sheet, to - 4);
+            edits::put_count(sheet, start, end, rest, to, count - 1, items, out)
+        }
+    }
+}
+
+// A data reference: one off its count, and one off the total.
+pub fn drop_data_ref(
+    sheet: &[u8],
+    start: usize,
+    end: usize,
+    items: usize,
+    name: DataRef,
+    out: &mut [u8],
+) -> Edited
+    requires { ⌜ Listed (now sheet) ⌝ }
+    requires { ⌜ (start + 21 ≤ end) × (end ≤ length (now sheet)) × (length (now sheet) ≤ 262144) ⌝ }
+    ensures { λ r. ⌜ Dropped (dropDataRef name) (now (sheet .entry)) start end items r (now (out .entry)) (now (out .exit)) ⌝ }
+{
+    let key = item_list::key_at(sheet, start);
+    let plan = backref::plan_drop_data(key.kind, &sheet[start + 21..end], name);
+    let outcome = plan.outcome;
+    let Outcome::Absent = outcome else {
+        return edits::put_record(sheet, start, end, plan, items, out);
+    };
+    let item = Key {
+        objectid: key.objectid,
+        kind: 178,
+        offset: extent_write::data_ref_hash(name.tree, name.objectid, name.offset),
+    };
+    let place = edits::item_behind(sheet, end, item);
+    let Sought::Present {
+        start: from,
+        end: to,
+    } = place
+    else {
+        return Edited::Refused(5);
+    };
+    drop_at_item(sheet, start, end, from, to, items, name, out)
+}

@@ -1,0 +1,77 @@
+// A shared reference goes whole: inline, or else with its own item.
+use super::edits;
+use backref_plan::Outcome;
+use backref_plan::Plan;
+use format::Edited;
+use format::Key;
+use format::SharedRef;
+use item_list::Sought;
+ghost use mathlib.Core.Path.{_≡_};
+ghost use mathlib.Core.Bool.{cond};
+ghost use Prim.Native.Nat.{_+_, _-_, _≤_};
+ghost use lib.Dec.{eqb};
+ghost use lib.ListN.{length};
+ghost use Rattle.fields.specs.Numbers.{le};
+ghost use Rattle.fields.specs.Parts.{part};
+ghost use Rattle.format.specs.Bodies.{reduceTotal, takeInlineShared};
+ghost use Rattle.format.specs.Questions.{bind};
+ghost use Rattle.item_list.specs.Steps.{Listed};
+ghost use Rattle.backref_plan.specs.Plans.{Planned};
+ghost use Rattle.record_drop.specs.Stands.{DroppedShared};
+
+// The reference out of the body, and its own count off the total.
+fn plan_shared(item_type: u8, body: &[u8], name: SharedRef) -> Plan
+    ensures { λ r. ⌜ Planned r (now (body .entry)) (bind (takeInlineShared «item_type» (now (body .entry)) name) (λ out. reduceTotal (out .bytes) (out .count))) ⌝ }
+{
+    let taken = backref::plan_take_shared(item_type, body, name);
+    let count = taken.count as u64;
+    backref_plan::plan_reduced(taken, count)
+}
+
+// What the item that ends at `to` counts: the last four bytes of a 184 item, and 1 for a 182 item.
+fn item_count(sheet: &[u8], to: usize, kind: u8) -> u32
+    requires { ⌜ (4 ≤ to) × (to ≤ length (now sheet)) ⌝ }
+    ensures { λ r. ⌜ r ≡ cond (eqb kind 184) (le (part (to - 4) 4 (now (sheet .entry)))) 1 ⌝ }
+{
+    if kind == 184 {
+        return fields::get_u32_le(sheet, to - 4);
+    }
+    1
+}
+
+// A shared reference, with all its count off the total.
+pub fn drop_shared_ref(
+    sheet: &[u8],
+    start: usize,
+    end: usize,
+    items: usize,
+    name: SharedRef,
+    out: &mut [u8],
+) -> Edited
+    requires { ⌜ Listed (now sheet) ⌝ }
+    requires { ⌜ (start + 21 ≤ end) × (end ≤ length (now sheet)) × (length (now sheet) ≤ 262144) ⌝ }
+    ensures { λ r. ⌜ DroppedShared name (now (sheet .entry)) start end items r (now (out .entry)) (now (out .exit)) ⌝ }
+{
+    let key = item_list::key_at(sheet, start);
+    let plan = plan_shared(key.kind, &sheet[start + 21..end], name);
+    let outcome = plan.outcome;
+    let Outcome::Absent = outcome else {
+        return edits::put_record(sheet, start, end, plan, items, out);
+    };
+    let item = Key {
+        objectid: key.objectid,
+        kind: name.kind,
+        offset: name.parent,
+    };
+    let place = edits::item_behind(sheet, end, item);
+    let Sought::Present {
+        start: from,
+        end: to,
+    } = place
+    else {
+        return Edited::Refused(5);
+    };
+    let count = item_count(sheet, to, name.kind);
+    let rest = backref_plan::plan_reduce_total(&sheet[start + 21..end], count as u64);
+    edits::put_without(sheet, start, end, rest, from, to, items, out)
+}

@@ -1,0 +1,104 @@
+//! Lists of about 262,144 bytes that cost a posting the most, beside an ordinary one. A posting that
+//! is refused 5, after the check of balance, which is what costs.
+use crate::lists::sheet;
+use crate::measure::Bench;
+use extent_refs::lent;
+use original::chunk::DiskKey;
+use original::leaf_edit::OwnedItem;
+
+const BYTES: u64 = 262_144;
+const RECORD: u64 = 65_535;
+
+fn item(objectid: u64, key_type: u8, offset: u64, data: Vec<u8>) -> OwnedItem {
+    OwnedItem { key: DiskKey { objectid, key_type, offset }, data }
+}
+
+/// A record of that total with those references.
+fn record(objectid: u64, total: usize, references: &[Vec<u8>]) -> OwnedItem {
+    let mut data = (total as u64).to_le_bytes().to_vec();
+    data.extend(7u64.to_le_bytes());
+    data.extend(1u64.to_le_bytes());
+    data.extend(references.concat());
+    item(objectid, 168, 4096, data)
+}
+
+fn data_ref(tree: u64, objectid: u64, offset: u64) -> Vec<u8> {
+    let fields = [tree, objectid, offset].map(u64::to_le_bytes).concat();
+    [&[178], &fields[..], &1u32.to_le_bytes()].concat()
+}
+
+fn hash(tree: u64, objectid: u64, offset: u64) -> u64 {
+    lent::extent_write_data_ref_hash(tree, objectid, offset)
+}
+
+/// Many extents of one data reference each.
+fn ordinary() -> Vec<OwnedItem> {
+    let one = |n: u64| record(4096 * n, 1, &[data_ref(5, 257, 4096 * n)]);
+    (1..=(BYTES - 1) / 74).map(one).collect()
+}
+
+/// One extent: the longest record of data references, and as many data items as fit.
+fn one_extent() -> Vec<OwnedItem> {
+    let named = |tree: u64, n: u64| {
+        let names = (0..n).map(|n| (hash(tree, 257, 4096 * n), data_ref(tree, 257, 4096 * n)));
+        let mut names: Vec<(u64, Vec<u8>)> = names.collect();
+        names.sort();
+        names
+    };
+    let inline = named(5, (RECORD - 24) / 29);
+    let own = named(6, (BYTES - 1 - 21 - RECORD) / 49);
+    let references: Vec<Vec<u8>> = inline.into_iter().rev().map(|(_, r)| r).collect();
+    let mut items = vec![record(4096, references.len() + own.len(), &references)];
+    items.extend(own.into_iter().map(|(at, r)| item(4096, 178, at, r[1..].to_vec())));
+    items
+}
+
+/// One extent: the longest record of block references, and as many block items as may stand.
+fn one_block() -> Vec<OwnedItem> {
+    let (inline, own) = ((RECORD - 24) / 9, 4095);
+    let block = |n: u64| [&[176], &(2 * n).to_le_bytes()[..]].concat();
+    let references: Vec<Vec<u8>> = (0..inline).rev().map(block).collect();
+    let mut items = vec![record(4096, (inline + own) as usize, &references)];
+    items.extend((0..own).map(|n| item(4096, 176, 2 * n + 1, vec![])));
+    items
+}
+
+/// The longest records of data references that have one hash: each offset is the checksum's
+/// register after the inode, so that the register after both is always the same.
+fn one_hash(records: u64) -> Vec<OwnedItem> {
+    let register = |inode: u64| {
+        let step = |r: u32| if r & 1 == 1 { (r >> 1) ^ 0x82f6_3b78 } else { r >> 1 };
+        let byte = |r: u32, b: u8| (0..8).fold(r ^ u32::from(b), |r, _| step(r));
+        u64::from(inode.to_le_bytes().into_iter().fold(u32::MAX, byte))
+    };
+    let inline = (RECORD - 24) / 29;
+    let references: Vec<Vec<u8>> = (0..inline).map(|n| data_ref(5, n, register(n))).collect();
+    (1..=records).map(|n| record(4096 * n, references.len(), &references)).collect()
+}
+
+pub fn table(bench: &mut Bench) {
+    let lists = [
+        ("3,542 extents, one data reference each", ordinary()),
+        ("one extent, the longest record, as many data items as fit", one_extent()),
+        ("one extent, the longest record, as many block items as fit", one_block()),
+        ("one longest record of data references that have one hash", one_hash(1)),
+        ("three such records", one_hash(3)),
+    ];
+    let mut usual = None;
+    for (name, items) in lists {
+        let sheet = sheet(&items);
+        let Some(ns) = bench.alone("ledger_post", &mut |out, len| {
+            let code = lent::ledger_post(16_384, &sheet, 5, 4096, 1, 1, 1, 0, out, len);
+            assert_eq!(code, 5, "{name}: balanced, and the name is not there");
+            code.into()
+        }) else {
+            return;
+        };
+        if usual.is_none() {
+            println!("\n| list | bytes | `ledger_post`, ns | times the first |");
+            println!("|---|---|---|---|");
+        }
+        let first = *usual.get_or_insert(ns);
+        println!("| {name} | {} | {ns:.0} | {:.1} |", sheet.len(), ns / first);
+    }
+}
