@@ -16,6 +16,7 @@ use Rattle.format.specs.Questions.{Answer, refused, absent, remove, accepted, b
 use Rattle.format.specs.References.{rowIn, known, payloadLength, countPosition, counted, fieldCount, Ref, refAt, place, falls}
 use Rattle.format.specs.Bodies.{named, triple}
 use Rattle.distinct_triples.specs.Triples.{tripleOf, Distinct}
+use Rattle.distinct_triples.proofs.Orders.{none-twice}
 use Rattle.balance_laws.specs.Runs.{Run, start, joins, kept, after, apart, weighs, admits, sound}
 use Rattle.balance_laws.specs.Tally.{weightIn}
 use Rattle.balance.specs.declared.record.Run.{Run as Passed}
@@ -92,9 +93,6 @@ module _ (body : List ℕ) (from n known : ℕ) (d : Distinct body from known) (
       let z : from + 29 * 0 ≡ from = omega arith in
       let f : 0 + n ≡ n = omega arith in
       subst (λ (q : ℕ). clear body q from n ≡ true) e (subst (λ (q : ℕ). clear body (from + 29 * n) q n ≡ true) z (clear-from n 0 f))
-
-pub none-apart : (body : List ℕ) (from : ℕ) → Distinct body from 0
-none-apart body from = record { differ = λ i j h l. absurd (omega arith) }
 
 -- ---- the answer, from the tests
 
@@ -284,7 +282,7 @@ module _ (body : List ℕ) (p : Passed) (at kind start : ℕ) (s : start ≡ at 
 
     says-alone : Begins (runOf body p) here → Admitting body p here (start + payloadLength kind) (Yes alone weight)
     unfolding Admitting
-    says-alone b = (b .0, (alone-is ∙ b .1, (alone-reaches, (w, none-apart body at))))
+    says-alone b = (b .0, (alone-is ∙ b .1, (alone-reaches, (w, none-twice body at))))
 
     pub says-owner : p .kind ≤ kind → kind ≡ 172 → Admitting body p here (start + payloadLength kind) (Yes alone weight)
     unfolding runOf refAt Admitting

@@ -37,9 +37,5 @@ pub fn known_in(body: &[u8], from: usize, n: usize, known: usize, spot: u64) -> 
     if n != 15 {
         return known;
     }
-    let m = count(body, from, spot);
-    if distinct_triples::distinct(body, from, m) {
-        return m;
-    }
-    0
+    distinct_triples::distinct_front(body, from, count(body, from, spot))
 }

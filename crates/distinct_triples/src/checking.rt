@@ -59,16 +59,68 @@ fn covers(order: &[u16], rank: &[u16], n: usize) -> bool
 }
 
 // Where the answer is `true`, no two of the n data references from `from` on have the same triple.
-pub fn distinct(body: &[u8], from: usize, n: usize) -> bool
+fn distinct(body: &[u8], from: usize, n: usize, order: &mut [u16], rank: &mut [u16]) -> bool
     requires { ⌜ (from + 29 * n ≤ length (now body)) × ((length (now body) ≤ 262144) × (n ≤ 2259)) ⌝ }
+    requires { ⌜ (n ≤ length (now order)) × (n ≤ length (now rank)) ⌝ }
     ensures { λ r. ⌜ (r ≡ true → Distinct (now (body .entry)) from n) ⌝ }
+{
+    sorting::sort(body, from, n, order, rank);
+    note_ranks(order, rank, n);
+    if rising(body, from, n, order) {
+        return covers(order, rank, n);
+    }
+    false
+}
+
+// The lower of `least` and q, if the triple of number q is that of number p, which stands before it in the order.
+fn earlier(body: &[u8], from: usize, n: usize, p: usize, q: usize, least: usize) -> usize
+    requires { ⌜ (from + 29 * n ≤ length (now body)) × (length (now body) ≤ 262144) ⌝ }
+    ensures { λ r. ⌜ r ≤ least ⌝ }
+{
+    if least <= q {
+        return least;
+    }
+    if triples::below(body, from, n, p, q) {
+        return least;
+    }
+    q
+}
+
+// The number of the first reference whose triple stands before it too, as an order along which no triple falls shows it.
+fn first_repeat(body: &[u8], from: usize, n: usize, order: &[u16]) -> usize
+    requires { ⌜ (from + 29 * n ≤ length (now body)) × ((length (now body) ≤ 262144) × (n ≤ length (now order))) ⌝ }
+    ensures { λ r. ⌜ r ≤ n ⌝ }
+{
+    let mut least = n;
+    let mut j: usize = 1;
+    while j < n {
+        least = earlier(
+            body,
+            from,
+            n,
+            order[j - 1] as usize,
+            order[j] as usize,
+            least,
+        );
+        j += 1;
+    }
+    least
+}
+
+// How many of the n data references from `from` on, from the first on, are shown to have different triples: all, or those
+// before the first one whose triple stands twice.
+pub fn distinct_front(body: &[u8], from: usize, n: usize) -> usize
+    requires { ⌜ (from + 29 * n ≤ length (now body)) × ((length (now body) ≤ 262144) × (n ≤ 2259)) ⌝ }
+    ensures { λ r. ⌜ Distinct (now (body .entry)) from r ⌝ }
 {
     let mut order: [u16; 2260] = [0; 2260];
     let mut rank: [u16; 2260] = [0; 2260];
-    sorting::sort(body, from, n, &mut order, &mut rank);
-    note_ranks(&order, &mut rank, n);
-    if rising(body, from, n, &order) {
-        return covers(&order, &rank, n);
+    if distinct(body, from, n, &mut order, &mut rank) {
+        return n;
     }
-    false
+    let m = first_repeat(body, from, n, &order);
+    if distinct(body, from, m, &mut order, &mut rank) {
+        return m;
+    }
+    0
 }

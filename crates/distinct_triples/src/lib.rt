@@ -4,5 +4,5 @@ mod checking;
 mod sorting;
 mod triples;
 
-pub use checking::distinct;
+pub use checking::distinct_front;
 pub use triples::triple_at;

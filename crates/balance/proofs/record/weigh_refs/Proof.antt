@@ -6,9 +6,10 @@ use lib.ListN.{length, drop}
 use Rattle.format.specs.References.{payloadLength, refAt}
 use Rattle.inline_refs.specs.Steps.{readFrom}
 use Rattle.inline_refs.proofs.Steps.{At, seen}
+use Rattle.distinct_triples.proofs.Orders.{none-twice}
 use Rattle.balance.specs.Spans.{runOf, Reaches, Apart, weighing, weighedOf}
 use Rattle.balance.proofs.Weighs.{weigh-start, weigh-step, weigh-no, weigh-end, weigh-fault}
-use Rattle.balance.proofs.Admits.{none-apart, admitted-yes, admitted-no}
+use Rattle.balance.proofs.Admits.{admitted-yes, admitted-no}
 use borrow.Author.Needs.{needs}
 use Rattle.balance.proofs.record.weigh_refs.Statement.{statement}
 use Rattle.balance.proofs.record.weigh_refs.Tie as tie
@@ -21,7 +22,7 @@ abbrev μ-loop : tie.MeasureT-loop
 μ-loop rows body start at₀ run₀ sum₀ at run sum = length body - at
 
 loop-holds : tie.Need-loop-holds Inv-loop μ-loop
-loop-holds c = (weigh-start (now (c .before .args .body)) (c .before .args .start) _, ((λ e. absurd (omega arith)), (omega arith, (c .before .pre .1 .1, none-apart _ _))))
+loop-holds c = (weigh-start (now (c .before .args .body)) (c .before .args .start) _, ((λ e. absurd (omega arith)), (omega arith, (c .before .pre .1 .1, none-twice _ _))))
 
 admit-requires : tie.Need-admit-requires Inv-loop μ-loop
 admit-requires c κs =
