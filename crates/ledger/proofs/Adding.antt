@@ -1,14 +1,12 @@
 -- A reference added to the record of an extent: from the record's place and the planned body to the change. Assumes nothing.
 use mathlib.Core.Path.{_≡_, refl, sym, ap, _∙_, subst}
 use mathlib.Core.Bool.{Bool, true, false, _||_}
-use mathlib.Core.Option.{Option}
-use mathlib.Core.List.{List, _∷_, _++_}
-use Prim.Native.Nat.{ℕ, zero, suc, _+_, _-_, _≤_}
+use mathlib.Core.List.{List}
+use Prim.Native.Nat.{ℕ, zero, suc, _+_, _-_}
 use native.Mathlib.Omega.{arith}
-use lib.Dec.{T, leb}
+use lib.Dec.{leb}
 use lib.ListN.{length}
-use Rattle.fields.specs.Lists.{all, Cut}
-use Rattle.fields.specs.Numbers.{areBytes}
+use Rattle.fields.specs.Lists.{all}
 use Rattle.format.specs.declared.Key.{Key}
 use Rattle.format.specs.declared.Keyed.{Keyed}
 use Rattle.format.specs.declared.Keyed.the-variants.{Block as KeyedBlock, Data as KeyedData}
@@ -16,10 +14,10 @@ use Rattle.format.specs.declared.BlockRef.{BlockRef}
 use Rattle.format.specs.declared.SharedRef.{SharedRef}
 use Rattle.format.specs.declared.DataRef.{DataRef}
 use Rattle.format.specs.declared.Edited.{Edited}
-use Rattle.format.specs.Questions.{Answer, refused, absent, remove, accepted, ask, bind, needed, also, Answered}
+use Rattle.format.specs.Questions.{Answer, refused, absent, remove, accepted, ask, bind, also, Answered}
 use Rattle.format.specs.Bodies.{addInlineTreeRef, addInlineData, addInlineShared}
 use Rattle.format.specs.Items.{Item, heldSheet, putBack}
-use Rattle.format.specs.Apply.{inlineLimit, onRecord, keyedBody, applyKeyedAdd, sharedBody, applySharedAdd}
+use Rattle.format.specs.Apply.{inlineLimit, keyedBody, applyKeyedAdd, sharedBody, applySharedAdd}
 use Rattle.format.specs.Names.{Name}
 use Rattle.format.specs.Ledger.{notItsOwn, added, changed}
 use Rattle.inline_refs.specs.declared.wanted.Wanted.{Wanted}
@@ -32,7 +30,7 @@ use Rattle.backref_plan.specs.Plans.{planAnswer, Planned}
 use Rattle.backref_plan.proofs.Outcomes.{plan-refused}
 use Rattle.record_edit.specs.Records.{dataOf, heldEdit}
 use Rattle.transaction.specs.Spots.{withBody}
-use Rattle.transaction.specs.Keyed.{larger, limitFor}
+use Rattle.transaction.specs.Keyed.{limitFor}
 use Rattle.transaction.proofs.Spots.{Standing}
 use Rattle.transaction.proofs.Records.{put-answered}
 use Rattle.transaction.proofs.KeyedAdditions.{either}

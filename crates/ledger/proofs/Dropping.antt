@@ -1,10 +1,9 @@
 -- A reference dropped, from the record's place to the change. Assumes nothing.
-use mathlib.Core.Path.{_≡_, sym, ap, subst}
+use mathlib.Core.Path.{sym, subst}
 use mathlib.Core.Bool.{true}
 use mathlib.Core.List.{List}
 use Prim.Native.Nat.{ℕ}
-use lib.Dec.{T, eqb}
-use lib.ListN.{length}
+use lib.Dec.{eqb}
 use mir.Facts.{and-yes}
 use Rattle.fields.specs.Lists.{Cut}
 use Rattle.fields.proofs.Lists.{cut-some}

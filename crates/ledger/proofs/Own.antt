@@ -2,20 +2,19 @@
 -- stands there is, unless it is a data reference of another triple. Assumes nothing.
 use mathlib.Core.Path.{_≡_, refl, sym, ap, _∙_, subst}
 use mathlib.Core.Logic.{_⊎_, inl, inr}
-use Prim.Native.Nat.{ℕ, _+_, _≤_}
-use native.Mathlib.Omega.{arith}
-use mathlib.Core.Bool.{Bool, true, false, not, _&&_, _||_, cond}
+use Prim.Native.Nat.{ℕ, _+_}
+use mathlib.Core.Bool.{Bool, true, false, not, _||_, cond}
 use mathlib.Core.Option.{some}
 use mathlib.Core.List.{List, [], _∷_, _++_}
 use lib.Dec.{T, eqb}
 use lib.ListN.{length}
-use mir.Facts.{and-yes, yes-and, T-not, not-T, yes-eqb}
+use mir.Facts.{T-not, yes-eqb}
 use Rattle.fields.specs.Lists.{sum, all, same, Cut, cut}
-use Rattle.fields.specs.Numbers.{words, areBytes}
-use Rattle.fields.proofs.Lists.{T-eq, or-left, or-right, all-mid, all-rest, all-two, same-yes, same-refl, Found, cut-some}
+use Rattle.fields.specs.Numbers.{words}
+use Rattle.fields.proofs.Lists.{T-eq, or-left, or-right, all-rest, all-two, same-yes, same-refl, Found, cut-some}
 use Rattle.format.specs.declared.Key.{Key}
 use Rattle.format.specs.References.{Ref, place, placeOf}
-use Rattle.format.specs.Bodies.{one, triple}
+use Rattle.format.specs.Bodies.{one}
 use Rattle.format.specs.Items.{Item, keyOf, sameKey, rising}
 use Rattle.format.specs.Sheets.{hasKey}
 use Rattle.format.specs.Apply.{isRecord}
@@ -33,22 +32,15 @@ use Rattle.balance_laws.proofs.Says.{Says, aRecord, aReference, nothing, bad, s
 use Rattle.inline_refs.specs.declared.wanted.Wanted.{Wanted}
 use Rattle.inline_refs.specs.declared.wanted.Wanted.the-variants.{Block, Data, SharedBlock, SharedData}
 use Rattle.inline_refs.specs.Scans.{kindOf, fieldsOf}
-use Rattle.item_list.specs.declared.Sought.the-variants.{Present, Absent}
+use Rattle.item_list.specs.declared.Sought.the-variants.{Absent}
 use Rattle.item_list.specs.Seeks.{seekIn}
-use Rattle.item_list.proofs.Places.{Gap, gap, Sits, sits}
+use Rattle.item_list.proofs.Places.{gap}
+use Rattle.record_edit.proofs.Held.{all-but}
 use Rattle.ledger.specs.Known.{nameIn, ownAt}
 
 -- the key of an item of that name
 abbrev pub ownKey : Name → Key
 ownKey n = keyOf (n .extent) (n .kind) (placeOf (n .kind) (n .fields))
-
-all-but : (p : Item → Bool) (a : List Item) (x : Item) (b : List Item) → T (all p (a ++ b)) → all p (a ++ x ∷ b) ≡ p x
-all-but p [] x b t = rw (T-eq (all p b) t) (and-true (p x))
-  where
-    and-true : (c : Bool) → (c && true) ≡ c
-    and-true true = refl
-    and-true false = refl
-all-but p (w ∷ a) x b t = let h = and-yes (p w) _ t in rw (T-eq (p w) (h .0)) (all-but p a x b (h .1))
 
 module _ (n : Name) where
   -- ---- an item with another key is not the name's own

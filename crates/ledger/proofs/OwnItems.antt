@@ -1,16 +1,14 @@
 -- The item at a name's key, in the bytes of a balanced sheet. Assumes nothing.
-use mathlib.Core.Path.{_≡_, refl, sym, ap, _∙_, subst}
+use mathlib.Core.Path.{_≡_, sym, ap, _∙_, subst}
 use mathlib.Core.Bool.{Bool, true, not}
-use mathlib.Core.List.{List, [], _∷_, _++_}
-use mathlib.Core.Option.{some}
+use mathlib.Core.List.{List}
 use Prim.Native.Nat.{ℕ, _+_, _-_, _≤_}
 use native.Mathlib.Omega.{arith}
 use lib.Dec.{T}
 use lib.ListN.{length}
-use Rattle.fields.specs.Lists.{all, Cut, cut}
+use Rattle.fields.specs.Lists.{all, Cut}
 use Rattle.fields.specs.Numbers.{areBytes}
 use Rattle.fields.proofs.Lists.{all-mid, Found, cut-some}
-use Rattle.format.specs.declared.Key.{Key}
 use Rattle.format.specs.References.{placeOf}
 use Rattle.format.specs.Items.{Item, keyOf}
 use Rattle.format.specs.Sheets.{hasKey}
@@ -24,7 +22,7 @@ use Rattle.item_list.specs.declared.Sought.{Sought}
 use Rattle.item_list.specs.declared.Sought.the-variants.{Present, Absent}
 use Rattle.item_list.specs.Steps.{itemsOf}
 use Rattle.item_list.specs.Seeks.{seekIn}
-use Rattle.item_list.proofs.Reading.{Counted, counted, listed}
+use Rattle.item_list.proofs.Reading.{Counted, counted}
 use Rattle.item_list.proofs.Places.{Sits, sits, Inside, inside}
 use Rattle.record_edit.specs.Records.{dataOf}
 use Rattle.record_edit.proofs.Places.{item-there}

@@ -5,7 +5,6 @@ use mathlib.Core.Bool.{Bool, true, false, _&&_, _||_}
 use mathlib.Core.Option.{Option, none}
 use mathlib.Core.List.{List}
 use Prim.Native.Nat.{ℕ}
-use native.Mathlib.Omega.{arith}
 use lib.Dec.{T, eqb, leb}
 use mir.Facts.{or-yes, and-yes}
 use lib.Dec.{eqb→eq}
@@ -15,7 +14,7 @@ use Rattle.format.specs.declared.Change.the-variants.{AddBlock, AddData, AddSha
 use Rattle.format.specs.declared.SharedRef.{SharedRef}
 use Rattle.format.specs.declared.Edited.{Edited}
 use Rattle.format.specs.declared.Edited.the-variants.{Refused as Denied}
-use Rattle.format.specs.Questions.{Answer, refused, accepted, ask, bind, needed, also, Answered}
+use Rattle.format.specs.Questions.{Answer, refused, ask, bind, needed, also, Answered}
 use Rattle.format.specs.Bodies.{sharedKind}
 use Rattle.format.specs.Items.{Item, readSheet, onSheet, nodesizeFits, heldSheet}
 use Rattle.format.specs.Apply.{recordOf, onRecord, applyKeyedAdd, applySharedAdd}
@@ -26,7 +25,7 @@ use Rattle.inline_refs.specs.declared.wanted.Wanted.the-variants.{SharedBlock, 
 use Rattle.inline_refs.specs.Scans.{kindOf}
 use Rattle.item_list.specs.declared.Place.the-variants.{At, Missing}
 use Rattle.item_list.specs.declared.Checked.the-variants.{Count, Refused}
-use Rattle.item_list.specs.Steps.{checkedOf, itemsOf, Listed}
+use Rattle.item_list.specs.Steps.{checkedOf, itemsOf}
 use Rattle.item_list.specs.Seeks.{placeIn, recorded}
 use Rattle.item_list.proofs.Reading.{listed, sheet-refused}
 use Rattle.item_list.proofs.Places.{record-missing}

@@ -4,7 +4,6 @@ use format::BlockRef;
 use format::DataRef;
 use format::Edited;
 use format::SharedRef;
-ghost use mathlib.Core.Path.{_≡_};
 ghost use mathlib.Core.Bool.{false};
 ghost use lib.ListN.{length};
 ghost use Rattle.format.specs.Questions.{Answered};

@@ -1,4 +1,3 @@
-use denote.Ref.{now}
 use Rattle.ledger.proofs.Adding.{body-block, body-zero, body-data, body-shared-block, body-shared-data}
 use borrow.Author.Needs.{needs}
 use Rattle.ledger.proofs.adds.plan_add.Statement.{statement}

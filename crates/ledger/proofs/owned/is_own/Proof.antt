@@ -1,4 +1,4 @@
-use mathlib.Core.Path.{refl, ap, _∙_}
+use mathlib.Core.Path.{ap}
 use Rattle.inline_refs.specs.Scans.{kindOf}
 use Rattle.ledger.specs.Known.{ownAt}
 use borrow.Author.Needs.{needs}

@@ -1,5 +1,4 @@
 use Rattle.ledger.proofs.Postings.{wanted-block, wanted-data}
-use borrow.Author.Needs.{needs}
 use Rattle.ledger.proofs.posting.shared_wanted.Statement.{statement}
 use Rattle.ledger.proofs.posting.shared_wanted.Tie as tie
 
