@@ -301,9 +301,14 @@ uint32_t transaction_apply_shared_drop(
     uint8_t *out, size_t out_len,
     uint64_t *len);
 
-/* Not exported yet:
- *   transaction_drop_kept_tree_ref
- */
+uint32_t transaction_drop_kept_tree_ref(
+    const uint8_t *sheet, size_t sheet_len,
+    uint64_t bytenr,
+    uint8_t level,
+    uint64_t tree,
+    bool own,
+    uint8_t *out, size_t out_len,
+    uint64_t *len);
 
 #ifdef __cplusplus
 }

@@ -14,7 +14,7 @@ use Rattle.backref_plan.specs.declared.plan.Outcome.{Outcome}
 use Rattle.backref_plan.specs.declared.plan.Outcome.the-variants.{Edit, Absent, Remove, Refused}
 use Rattle.backref_plan.specs.declared.plan.Plan.{Plan}
 use Rattle.backref_plan.specs.Plans.{edited, planned, planAnswer, EditIn, within, PlanIn, Planned}
-use Rattle.backref_plan.proofs.Writes.{length-edit, four}
+use Rattle.backref_plan.proofs.Writes.{length-edit, four, same}
 
 -- ---- the writer
 
@@ -80,6 +80,15 @@ module _ (p : Plan) (body : List ℕ) where
     four-edited out o₁ o₂ o₃ o₄ room e₁ e₂ e₃ e₄ =
         four (p .from) (p .to) (p .size) (p .total) (p .new) body out (h .low) (h .order) (h .high) (subst (λ (k : ℕ). p .size ≤ k) (sym (h .full)) (h .small))
         o₁ o₂ o₃ o₄ room e₁ e₂ e₃ e₄
+
+    pub same-edited : (out o₁ o₂ o₃ : List ℕ) → p .from + p .size ≡ p .to
+        → o₁ ≡ written 0 (take (length body) body) out
+        → o₂ ≡ written (p .from) (take (p .size) (p .new)) o₁
+        → o₃ ≡ written 0 (leBytes 8 (p .total)) o₂
+        → o₃ ≡ written 0 (edited p body) out
+    unfolding edited
+    same-edited out o₁ o₂ o₃ whole e₁ e₂ e₃ =
+        same (p .from) (p .to) (p .size) (p .total) (p .new) body out o₁ o₂ o₃ (h .low) whole (h .high) (subst (λ (k : ℕ). p .size ≤ k) (sym (h .full)) (h .small)) e₁ e₂ e₃
 
 -- ---- the contract of a plan, by its outcome
 

@@ -1,14 +1,14 @@
 -- Laws of planned edits: the bytes of a new reference, and four writes from left to right as one edit. Assumes nothing.
-use mathlib.Core.Path.{_≡_, refl, sym, ap, _∙_}
+use mathlib.Core.Path.{_≡_, refl, sym, ap, ap₂, _∙_}
 use mathlib.Core.List.{List, [], _∷_, _++_, append-assoc}
 use Prim.Native.Nat.{ℕ, _+_, _-_, _≤_}
 use native.Mathlib.Omega.{arith}
 use lib.ListN.{length, take, drop, replicate, length-append, length-drop}
-use lib.Seq.{take-add, drop-at, drop-append-le, length-take-le}
+use lib.Seq.{take-add, drop-at, take-append-le, drop-append-le, length-take-le}
 use Rattle.fields.specs.Numbers.{leBytes, wordBytes}
 use Rattle.fields.specs.Parts.{part, written, spliced}
 use Rattle.fields.proofs.Numbers.{length-leBytes}
-use Rattle.fields.proofs.Parts.{part-rest, length-part, written-next, written-front}
+use Rattle.fields.proofs.Parts.{part-all, part-rest, length-part, length-written, written-next, written-front, spliced-written}
 use Rattle.format.specs.References.{rowIn, payloadLength, countPosition, counted, ref, refBytes}
 use Rattle.format.specs.Bodies.{one, triple}
 use Rattle.format.specs.declared.DataRef.{DataRef}
@@ -115,3 +115,32 @@ wanted-small (Block name) size e = omega arith
 wanted-small (Data name) size e = omega arith
 wanted-small (SharedBlock parent) size e = omega arith
 wanted-small (SharedData parent) size e = omega arith
+
+-- ---- an edit that keeps the length: the body, and writes within it
+
+-- a write within what was written at the front
+written-within : (at : ℕ) (x body out : List ℕ) → at + length x ≤ length body → written at x (written 0 body out) ≡ written 0 (written at x body) out
+written-within at x body out h =
+    let rest : List ℕ = drop (length body) out in
+    let front : at ≤ length body = omega arith in
+    ap (written at x) (written-front body out)
+    ∙ ap₂ (λ (f b : List ℕ). f ++ x ++ b) (take-append-le at body rest front) (drop-append-le (at + length x) body rest h)
+    ∙ sym (append-assoc (take at body ++ x) (drop (at + length x) body) rest)
+    ∙ ap (λ (k : ℕ). written at x body ++ drop k out) (sym (length-written at x body h))
+    ∙ sym (written-front (written at x body) out)
+
+pub same : (from to size total : ℕ) (new body out o₁ o₂ o₃ : List ℕ) → 8 ≤ from → from + size ≡ to → to ≤ length body → size ≤ length new
+    → o₁ ≡ written 0 (part 0 (length body) body) out
+    → o₂ ≡ written from (take size new) o₁
+    → o₃ ≡ written 0 (leBytes 8 total) o₂
+    → o₃ ≡ written 0 (written 0 (leBytes 8 total) (spliced from to (take size new) body)) out
+same from to size total new body out o₁ o₂ o₃ low whole high full e₁ e₂ e₃ =
+    let n : List ℕ = take size new in
+    let long : length n ≡ size = length-take-le size new full in
+    let inside : from + length n ≤ length body = omega arith in
+    let kept : length (written from n body) ≡ length body = length-written from n body inside in
+    let head : 0 + length (leBytes 8 total) ≤ length (written from n body) = omega (arith, length-leBytes 8 total, kept) in
+    e₃
+    ∙ ap (written 0 (leBytes 8 total)) (e₂ ∙ ap (written from n) (e₁ ∙ ap (λ (l : List ℕ). written 0 l out) (part-all (length body) body refl)) ∙ written-within from n body out inside)
+    ∙ written-within 0 (leBytes 8 total) (written from n body) out head
+    ∙ ap (λ (l : List ℕ). written 0 (written 0 (leBytes 8 total) l) out) (sym (spliced-written from to n body (omega arith)))

@@ -34,6 +34,19 @@ fn put_edit(body: &[u8], plan: Plan, out: &mut [u8])
     fields::copy_at(body, to, body.len() - to, out, from + size);
 }
 
+// The same where the body keeps its length: one copy of it, which starts where the output does and so is as quick as the output is
+// aligned, and then what is new in it.
+fn put_same(body: &[u8], plan: Plan, out: &mut [u8])
+    requires { ⌜ EditIn plan (now body) ⌝ }
+    requires { ⌜ (plan .from + plan .size ≡ plan .to) × (length (now body) ≤ length (now out)) ⌝ }
+    ensures { λ _. ⌜ now (out .exit) ≡ written 0 (edited plan (now (body .entry))) (now (out .entry)) ⌝ }
+{
+    let new = plan.new;
+    fields::copy_at(body, 0, body.len(), out, 0);
+    fields::copy_at(&new, 0, plan.size, out, plan.from);
+    fields::put_u64_le(out, 0, plan.total);
+}
+
 fn write_edit(body: &[u8], plan: Plan, out: &mut [u8]) -> Edited
     requires { ⌜ EditIn plan (now body) ⌝ }
     ensures { λ r. ⌜ Answered (heldBody (length (now (out .entry))) (accepted (edited plan (now (body .entry))))) r (now (out .entry)) (now (out .exit)) ⌝ }
@@ -44,6 +57,10 @@ fn write_edit(body: &[u8], plan: Plan, out: &mut [u8]) -> Edited
     }
     if 65535 < n {
         return Edited::Refused(21);
+    }
+    if plan.from + plan.size == plan.to {
+        put_same(body, plan, out);
+        return Edited::Written(n);
     }
     put_edit(body, plan, out);
     Edited::Written(n)

@@ -2,7 +2,7 @@
 ghost use lib.ListN.{length};
 ghost use Rattle.format.specs.Bodies.{heldBody, heldOnlyBy, keyedDataRefNames, sharedAddItem, sharedAddInlineSize};
 ghost use Rattle.format.specs.Items.{heldSheet};
-ghost use Rattle.format.specs.Apply.{maxInlineExtentItem, recordNumber, applyKeyedAddTo, applySharedAddTo, applySharedDropTo};
+ghost use Rattle.format.specs.Apply.{maxInlineExtentItem, recordNumber, applyKeyedAddTo, applySharedAddTo, applySharedDropTo, dropKeptTreeRefFrom};
 ghost use Rattle.extent_refs.specs.Exports.{Coded, CodedBool, CodedNumber};
 use super::codes;
 use format::BlockRef;
@@ -179,5 +179,22 @@ pub extern "C" fn transaction_apply_shared_drop(
 {
     let name = SharedRef { kind, parent };
     let answer = transaction::apply_shared_drop(sheet, bytenr, name, count, as_item, out);
+    codes::put_edited(answer, len)
+}
+
+#[no_mangle]
+pub extern "C" fn transaction_drop_kept_tree_ref(
+    sheet: &[u8],
+    bytenr: u64,
+    level: u8,
+    tree: u64,
+    own: bool,
+    out: &mut [u8],
+    len: &mut u64,
+) -> u32
+    ensures { λ r. ⌜ Coded (heldSheet (length (now (out .entry))) (dropKeptTreeRefFrom (now (sheet .entry)) bytenr level (record { tree = tree }) own)) r (now (len .exit)) (now (out .entry)) (now (out .exit)) ⌝ }
+{
+    let name = BlockRef { tree };
+    let answer = record_drop::drop_kept_tree_ref(sheet, bytenr, level, name, own, out);
     codes::put_edited(answer, len)
 }

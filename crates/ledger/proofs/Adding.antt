@@ -34,7 +34,7 @@ use Rattle.transaction.specs.Keyed.{limitFor}
 use Rattle.transaction.proofs.Spots.{Standing}
 use Rattle.transaction.proofs.Records.{put-answered}
 use Rattle.transaction.proofs.KeyedAdditions.{either}
-use Rattle.ledger.specs.Books.{nameIn}
+use Rattle.ledger.specs.Known.{nameIn}
 use Rattle.ledger.specs.Asked.{AskedAdd}
 use Rattle.ledger.specs.Adding.{sharedRef, addChange, addedBody, grownOnly}
 use Rattle.ledger.proofs.Alsos.{also-bind}

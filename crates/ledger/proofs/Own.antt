@@ -1,4 +1,4 @@
--- Question 9 in books: on a list whose keys rise, only the item at a name's key can be the name's own; and one in form that
+-- Question 9 of the ledger: on a list whose keys rise, only the item at a name's key can be the name's own; and one in form that
 -- stands there is, unless it is a data reference of another triple. Assumes nothing.
 use mathlib.Core.Path.{_≡_, refl, sym, ap, _∙_, subst}
 use mathlib.Core.Logic.{_⊎_, inl, inr}
@@ -36,7 +36,7 @@ use Rattle.item_list.specs.declared.Sought.the-variants.{Absent}
 use Rattle.item_list.specs.Seeks.{seekIn}
 use Rattle.item_list.proofs.Places.{gap}
 use Rattle.record_edit.proofs.Held.{all-but}
-use Rattle.ledger.specs.Books.{nameIn, ownAt}
+use Rattle.ledger.specs.Known.{nameIn, ownAt}
 
 -- the key of an item of that name
 abbrev pub ownKey : Name → Key

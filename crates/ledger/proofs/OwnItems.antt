@@ -26,7 +26,7 @@ use Rattle.item_list.proofs.Reading.{Counted, counted}
 use Rattle.item_list.proofs.Places.{Sits, sits, Inside, inside}
 use Rattle.record_edit.specs.Records.{dataOf}
 use Rattle.record_edit.proofs.Places.{item-there}
-use Rattle.ledger.specs.Books.{Books, nameIn, ownAt}
+use Rattle.ledger.specs.Known.{BalancedList, nameIn, ownAt}
 use Rattle.ledger.proofs.Own.{ownKey, own-absent, own-found, data-long}
 
 pub record Seat (s : List ℕ) (extent : ℕ) (w : Wanted) (start end : ℕ) : Type 0 where
@@ -35,10 +35,10 @@ pub record Seat (s : List ℕ) (extent : ℕ) (w : Wanted) (start end : ℕ) : T
   pub long : kindOf w ≡ 178 → 24 ≤ length (dataOf s start end)
   pub own : (b : Bool) → b ≡ ownAt w (dataOf s start end) → not b ≡ all (notItsOwn (nameIn extent w)) (itemsOf s)
 
-module _ (s : List ℕ) (n : ℕ) (t : T (areBytes s)) (books : Books s n) (extent : ℕ) (w : Wanted) (kind offset : ℕ)
+module _ (s : List ℕ) (n : ℕ) (t : T (areBytes s)) (known : BalancedList s n) (extent : ℕ) (w : Wanted) (kind offset : ℕ)
     (kind-is : kind ≡ kindOf w) (offset-is : offset ≡ placeOf (kindOf w) (fieldsOf w)) where
   count : Counted s n
-  count = counted s n t (books .checked)
+  count = counted s n t (known .checked)
 
   sought : {r : Sought} → seekIn (keyOf extent kind offset) 1 (itemsOf s) ≡ r → seekIn (ownKey (nameIn extent w)) 1 (itemsOf s) ≡ r
   sought e = sym (λ j. seekIn (keyOf extent (kind-is j) (offset-is j)) 1 (itemsOf s)) ∙ e
@@ -58,7 +58,7 @@ module _ (s : List ℕ) (n : ℕ) (t : T (areBytes s)) (books : Books s n) (exte
       let bytes-is : d .hit .bytes ≡ dataOf s start end =
       ap (λ (x : Item). x .bytes) (item-there s (d .front) (d .hit) (d .back) start end (count .bytes-are) (f .same) sane-hit i) in
       let g : T (good (d .hit)) =
-      all-mid good (d .front) (d .hit) (d .back) (subst (λ (l : List Item). T (all good l)) (f .same) (balanced-out (itemsOf s) (books .balance) .goods)) in
+      all-mid good (d .front) (d .hit) (d .back) (subst (λ (l : List Item). T (all good l)) (f .same) (balanced-out (itemsOf s) (known .balance) .goods)) in
       record {
         ordered = i .ordered;
         within = i .within;

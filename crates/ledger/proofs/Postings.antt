@@ -30,7 +30,7 @@ use Rattle.item_list.specs.Seeks.{placeIn, recorded}
 use Rattle.item_list.proofs.Reading.{listed, sheet-refused}
 use Rattle.item_list.proofs.Places.{record-missing}
 use Rattle.item_write.proofs.Writes.{answered-no}
-use Rattle.ledger.specs.Books.{Books, Entered}
+use Rattle.ledger.specs.Known.{BalancedList, RecordAt}
 use Rattle.ledger.specs.Adding.{sharedRef, addChange, SharedWanted}
 
 -- ---- the name of a shared reference
@@ -66,9 +66,9 @@ pub as-change : (nodesize room : ℕ) (items : List Item) {r : Edited} {old new 
 as-change nodesize room items {r} {old} {new} change other e h =
     subst (λ (x : Change). Answered (heldSheet room (changed nodesize x items)) r old new) (sym e) h
 
-pub entered-as : {s : List ℕ} {start end : ℕ} (change : Change) {other : Change} → change ≡ other → Entered s (nameOf change .extent) start end
-    → Entered s (nameOf other .extent) start end
-entered-as {s} {start} {end} change e h = subst (λ (x : Change). Entered s (nameOf x .extent) start end) e h
+pub entered-as : {s : List ℕ} {start end : ℕ} (change : Change) {other : Change} → change ≡ other → RecordAt s (nameOf change .extent) start end
+    → RecordAt s (nameOf other .extent) start end
+entered-as {s} {start} {end} change e h = subst (λ (x : Change). RecordAt s (nameOf x .extent) start end) e h
 
 pub fits-as : (change : Change) {other : Change} → change ≡ other → T (kindFits change) → T (kindFits other)
 fits-as change e h = subst (λ (x : Change). T (kindFits x)) e h
@@ -112,7 +112,7 @@ module _ (s : List ℕ) (extent : ℕ) (change : Change) (is : extent ≡ nameOf
       (subst (λ (x : ℕ). cut (recordOf x) (itemsOf s) ≡ none) is (record-missing extent (itemsOf s) e)))
 
   pub entered : (number start end : ℕ) → placeIn (recorded extent) 0 1 (itemsOf s) ≡ At number start end
-      → Entered s (nameOf change .extent) start end
+      → RecordAt s (nameOf change .extent) start end
   entered number start end e =
       record { number = number; finds = subst (λ (x : ℕ). placeIn (recorded x) 0 1 (itemsOf s) ≡ At number start end) is e }
 
@@ -150,8 +150,8 @@ module _ (s : List ℕ) (nodesize : ℕ) (change : Change) (room : ℕ) where
       kind-yes = and-yes (nodesizeFits nodesize) (kindFits change) (subst T (sym yes ∙ f) tt) .1
 
       module _ (c : Bool) (g : c ≡ balanced (itemsOf s)) (q : c ≡ true) where
-        pub books : Books s n
-        books = record { checked = e; balance = subst T (sym q ∙ g) tt }
+        pub balanced-list : BalancedList s n
+        balanced-list = record { checked = e; balance = subst T (sym q ∙ g) tt }
 
         pub post-answered : (r : Edited) (old new : List ℕ) → Answered (heldSheet room (changed nodesize change (itemsOf s))) r old new
             → Answered (posted nodesize s change room) r old new

@@ -1,4 +1,4 @@
-pub mod Books
+pub mod Known
 pub mod Asked
 pub mod Adding
 pub mod Calls

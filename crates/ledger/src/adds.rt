@@ -16,7 +16,7 @@ ghost use Rattle.format.specs.Ledger.{notItsOwn, changed};
 ghost use Rattle.inline_refs.specs.Scans.{kindOf};
 ghost use Rattle.item_list.specs.Steps.{itemsOf};
 ghost use Rattle.backref_plan.specs.Plans.{Planned};
-ghost use Rattle.ledger.specs.Books.{Books, Entered, nameIn};
+ghost use Rattle.ledger.specs.Known.{BalancedList, RecordAt, nameIn};
 ghost use Rattle.ledger.specs.Asked.{AskedAdd};
 ghost use Rattle.ledger.specs.Adding.{addChange, addedBody, grownOnly};
 
@@ -43,7 +43,7 @@ fn plan_add(key: Key, body: &[u8], wanted: Wanted, amount: u32) -> Plan
 
 // Questions 9 and 10 of the added reference: no item of its own, and an amount above 0.
 fn ask_add(plan: Plan, sheet: &[u8], items: usize, extent: u64, wanted: Wanted, amount: u32) -> Plan
-    requires { ⌜ Books (now sheet) items ⌝ }
+    requires { ⌜ BalancedList (now sheet) items ⌝ }
     ensures { λ r. ⌜ AskedAdd plan (all (notItsOwn (nameIn extent wanted)) (itemsOf (now (sheet .entry)))) amount r ⌝ }
 {
     let none = owned::has_none(sheet, items, extent, wanted);
@@ -73,8 +73,8 @@ pub fn add(
     amount: u32,
     out: &mut [u8],
 ) -> Edited
-    requires { ⌜ Books (now sheet) (stand .items) ⌝ }
-    requires { ⌜ Entered (now sheet) extent (stand .start) (stand .end) ⌝ }
+    requires { ⌜ BalancedList (now sheet) (stand .items) ⌝ }
+    requires { ⌜ RecordAt (now sheet) extent (stand .start) (stand .end) ⌝ }
     requires { ⌜ (kindOf wanted ≡ 176 → amount ≡ 1) ⌝ }
     ensures { λ r. ⌜ Answered (heldSheet (length (now (out .entry))) (changed nodesize (addChange extent wanted amount) (itemsOf (now (sheet .entry))))) r (now (out .entry)) (now (out .exit)) ⌝ }
 {

@@ -11,19 +11,19 @@ ghost use Rattle.format.specs.Items.{heldSheet};
 ghost use Rattle.format.specs.Apply.{onRecord, dropTreeRef};
 ghost use Rattle.format.specs.Ledger.{dropDataRef, dropSharedRef};
 ghost use Rattle.item_list.specs.Steps.{itemsOf};
-ghost use Rattle.ledger.specs.Books.{Books, Entered};
+ghost use Rattle.ledger.specs.Known.{BalancedList, RecordAt};
 
 pub fn drop_block(sheet: &[u8], stand: Stand, extent: u64, name: BlockRef, out: &mut [u8]) -> Edited
-    requires { ⌜ Books (now sheet) (stand .items) ⌝ }
-    requires { ⌜ Entered (now sheet) extent (stand .start) (stand .end) ⌝ }
+    requires { ⌜ BalancedList (now sheet) (stand .items) ⌝ }
+    requires { ⌜ RecordAt (now sheet) extent (stand .start) (stand .end) ⌝ }
     ensures { λ r. ⌜ Answered (heldSheet (length (now (out .entry))) (onRecord extent (itemsOf (now (sheet .entry))) (dropTreeRef name false (itemsOf (now (sheet .entry)))))) r (now (out .entry)) (now (out .exit)) ⌝ }
 {
     record_drop::drop_tree_ref(sheet, stand.start, stand.end, stand.items, name, out)
 }
 
 pub fn drop_data(sheet: &[u8], stand: Stand, extent: u64, name: DataRef, out: &mut [u8]) -> Edited
-    requires { ⌜ Books (now sheet) (stand .items) ⌝ }
-    requires { ⌜ Entered (now sheet) extent (stand .start) (stand .end) ⌝ }
+    requires { ⌜ BalancedList (now sheet) (stand .items) ⌝ }
+    requires { ⌜ RecordAt (now sheet) extent (stand .start) (stand .end) ⌝ }
     ensures { λ r. ⌜ Answered (heldSheet (length (now (out .entry))) (onRecord extent (itemsOf (now (sheet .entry))) (dropDataRef name (itemsOf (now (sheet .entry)))))) r (now (out .entry)) (now (out .exit)) ⌝ }
 {
     record_drop::drop_data_ref(sheet, stand.start, stand.end, stand.items, name, out)
@@ -36,8 +36,8 @@ pub fn drop_shared(
     name: SharedRef,
     out: &mut [u8],
 ) -> Edited
-    requires { ⌜ Books (now sheet) (stand .items) ⌝ }
-    requires { ⌜ Entered (now sheet) extent (stand .start) (stand .end) ⌝ }
+    requires { ⌜ BalancedList (now sheet) (stand .items) ⌝ }
+    requires { ⌜ RecordAt (now sheet) extent (stand .start) (stand .end) ⌝ }
     ensures { λ r. ⌜ Answered (heldSheet (length (now (out .entry))) (onRecord extent (itemsOf (now (sheet .entry))) (dropSharedRef name (itemsOf (now (sheet .entry)))))) r (now (out .entry)) (now (out .exit)) ⌝ }
 {
     record_drop::drop_shared_ref(sheet, stand.start, stand.end, stand.items, name, out)

@@ -1,4 +1,4 @@
-// Document 01's books: one change posted to a balanced sheet.
+// The ledger (document 01's books): one change posted to a balanced item list.
 mod adds;
 mod also;
 mod drops;

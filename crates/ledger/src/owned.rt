@@ -1,4 +1,4 @@
-// Question 9 in books: has a name an item of its own?
+// Question 9 of the ledger: has a name an item of its own?
 use format::Key;
 use inline_refs::Wanted;
 use item_list::Sought;
@@ -11,7 +11,7 @@ ghost use Rattle.format.specs.References.{placeOf};
 ghost use Rattle.format.specs.Ledger.{notItsOwn};
 ghost use Rattle.inline_refs.specs.Scans.{kindOf, fieldsOf};
 ghost use Rattle.item_list.specs.Steps.{itemsOf};
-ghost use Rattle.ledger.specs.Books.{Books, nameIn, ownAt};
+ghost use Rattle.ledger.specs.Known.{BalancedList, nameIn, ownAt};
 
 // Where an item of that name stands: the hash of a triple, else the tree or the parent.
 fn own_offset(wanted: Wanted) -> u64
@@ -39,7 +39,7 @@ fn is_own(wanted: Wanted, bytes: &[u8]) -> bool
 }
 
 pub fn has_none(sheet: &[u8], items: usize, extent: u64, wanted: Wanted) -> bool
-    requires { ⌜ Books (now sheet) items ⌝ }
+    requires { ⌜ BalancedList (now sheet) items ⌝ }
     ensures { λ r. ⌜ r ≡ all (notItsOwn (nameIn extent wanted)) (itemsOf (now (sheet .entry))) ⌝ }
 {
     let key = Key {

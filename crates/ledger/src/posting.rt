@@ -17,7 +17,7 @@ ghost use Rattle.format.specs.Bodies.{sharedKind};
 ghost use Rattle.format.specs.Items.{nodesizeFits, heldSheet};
 ghost use Rattle.format.specs.Ledger.{nameOf, kindFits, changed, posted};
 ghost use Rattle.item_list.specs.Steps.{itemsOf};
-ghost use Rattle.ledger.specs.Books.{Books, Entered};
+ghost use Rattle.ledger.specs.Known.{BalancedList, RecordAt};
 ghost use Rattle.ledger.specs.Adding.{SharedWanted};
 
 fn kind_fits(change: Change) -> bool
@@ -84,8 +84,8 @@ fn shared_wanted(name: SharedRef) -> Wanted
 
 // The change to the record that stands there.
 fn change_at(sheet: &[u8], stand: Stand, nodesize: u32, change: Change, out: &mut [u8]) -> Edited
-    requires { ⌜ Books (now sheet) (stand .items) ⌝ }
-    requires { ⌜ Entered (now sheet) (nameOf change .extent) (stand .start) (stand .end) ⌝ }
+    requires { ⌜ BalancedList (now sheet) (stand .items) ⌝ }
+    requires { ⌜ RecordAt (now sheet) (nameOf change .extent) (stand .start) (stand .end) ⌝ }
     requires { ⌜ T (kindFits change) ⌝ }
     ensures { λ r. ⌜ Answered (heldSheet (length (now (out .entry))) (changed nodesize change (itemsOf (now (sheet .entry))))) r (now (out .entry)) (now (out .exit)) ⌝ }
 {
@@ -129,7 +129,7 @@ fn post_balanced(
     change: Change,
     out: &mut [u8],
 ) -> Edited
-    requires { ⌜ Books (now sheet) items ⌝ }
+    requires { ⌜ BalancedList (now sheet) items ⌝ }
     requires { ⌜ T (kindFits change) ⌝ }
     ensures { λ r. ⌜ Answered (heldSheet (length (now (out .entry))) (changed nodesize change (itemsOf (now (sheet .entry))))) r (now (out .entry)) (now (out .exit)) ⌝ }
 {

@@ -142,7 +142,7 @@ module _ {s : List ℕ} {c : Cut Item} {start end n : ℕ} (st : Stands s c star
         let l₅ = st .ends in
         omega arith
 
-    stands-at : (from to : ℕ) → seekIn key 1 (itemsOf s) ≡ Present from to → BehindAt s c end key from to
+    pub stands-at : (from to : ℕ) → seekIn key 1 (itemsOf s) ≡ Present from to → BehindAt s c end key from to
     stands-at from to e =
         let t : Sits key (itemsOf s) 1 from to = sits key 1 (itemsOf s) from to e in
         let k : Cut Item = t .at-cut in

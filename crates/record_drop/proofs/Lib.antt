@@ -6,3 +6,6 @@ pub mod Puts
 pub mod TreeRefs
 pub mod DataRefs
 pub mod SharedRefs
+pub mod Owned
+pub mod OwnDrops
+pub mod KeptRecords

@@ -4,7 +4,7 @@ use mathlib.Core.List.{List, _∷_, _++_, append-assoc}
 use Prim.Native.Nat.{ℕ, _+_, _-_, _≤_}
 use native.Mathlib.Omega.{arith}
 use lib.ListN.{length, take, drop, replicate, take-append-drop}
-use lib.Seq.{take-add, take-all, take-take, drop-at, drop-drop, drop-append-le}
+use lib.Seq.{take-add, take-take, drop-at, drop-drop, drop-append-le}
 use Rattle.fields.specs.Numbers.{leBytes}
 use Rattle.fields.specs.Parts.{part, written}
 use Rattle.fields.proofs.Parts.{length-part, length-written, part-add}
@@ -45,23 +45,23 @@ sheet-part items front i at new back e h =
     sheet-rewrite items front i (written at new (i .bytes)) back e (length-written at new (i .bytes) h)
     ∙ written-inside (itemAt front + 21) at new (i .bytes) (sheetBytes items) (sheet-data items front i back e) h
 
+-- a part of a part
+pub part-inside : (p n at m : ℕ) (all : List ℕ) → at + m ≤ n → p + at ≤ length all → part at m (part p n all) ≡ part (p + at) m all
+part-inside p n at m all h k =
+    let n-is : at + (n - at) ≡ n = omega arith in
+    let m≤ : m ≤ n - at = omega arith in
+    ap (λ (j : ℕ). part at m (part p j all)) (sym n-is)
+    ∙ ap (part at m) (part-add at (n - at) p all)
+    ∙ ap (take m) (drop-at (part p at all) (part (p + at) (n - at) all) at (length-part at p all k))
+    ∙ take-take m (n - at) (drop (p + at) all) m≤
+
 -- the last four bytes of 28
 pub last-four : (s : List ℕ) (from to : ℕ) → from + 21 ≤ to → to ≤ length s → length (dataOf s from to) ≡ 28
     → part 24 4 (dataOf s from to) ≡ part (to - 4) 4 s
 last-four s from to a b l =
     let long : length (dataOf s from to) ≡ to - (from + 21) = length-part (to - (from + 21)) (from + 21) s (omega arith) in
-    let size : to - (from + 21) ≡ 24 + 4 = omega arith in
     let at : from + 21 + 24 ≡ to - 4 = omega arith in
-    let inside : from + 21 + 24 ≤ length s = omega arith in
-    let ends : from + 21 + 24 + 4 ≤ length s = omega arith in
-    let q : List ℕ = part (from + 21 + 24) 4 s in
-    let four : length q ≡ 4 = length-part 4 (from + 21 + 24) s ends in
-    let four≤ : length q ≤ 4 = omega arith in
-    ap (λ (k : ℕ). part 24 4 (part (from + 21) k s)) size
-    ∙ ap (part 24 4) (part-add 24 4 (from + 21) s)
-    ∙ ap (take 4) (drop-at (part (from + 21) 24 s) q 24 (length-part 24 (from + 21) s inside))
-    ∙ take-all 4 q four≤
-    ∙ ap (λ (k : ℕ). part k 4 s) at
+    part-inside (from + 21) (to - (from + 21)) 24 4 s (omega arith) (omega arith) ∙ ap (λ (k : ℕ). part k 4 s) at
 
 -- a number of four bytes over four zeros
 pub four-bytes : (count : ℕ) → written 0 (leBytes 4 count) (replicate 4 0) ≡ leBytes 4 count

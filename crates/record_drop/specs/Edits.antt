@@ -2,10 +2,11 @@
 use mathlib.Core.Bool.{cond}
 use mathlib.Core.List.{List}
 use Prim.Native.Nat.{ℕ, _-_}
+use lib.Bits.{bitOr}
 use lib.Dec.{ltb}
 use lib.ListN.{length, replicate}
 use Rattle.fields.specs.Numbers.{le, leBytes}
-use Rattle.fields.specs.Parts.{part}
+use Rattle.fields.specs.Parts.{part, written}
 use Rattle.format.specs.Questions.{Answer, refused, absent, remove, accepted, bind}
 use Rattle.item_list.specs.declared.Sought.{Sought}
 use Rattle.item_list.specs.declared.Sought.the-variants.{Present, Absent}
@@ -48,3 +49,7 @@ heldAt room items s start end from to remove body =
     heldRecord room (items - 1) (length body) (editedSheet s (recordAt s start end) (gone from to) body)
 heldAt room items s start end from to (accepted item) body =
     heldRecord room items (length body) (editedSheet s (recordAt s start end) (counts to (le (part (to - 4) 4 s) - 1)) body)
+
+-- the own-flag, 256, in the flags that stand at a position
+abbrev pub ownAt : ℕ → List ℕ → List ℕ
+ownAt at bytes = written at (leBytes 8 (bitOr (le (part at 8 bytes)) 256)) bytes

@@ -30,6 +30,11 @@ pub record Stands (s : List ℕ) (c : Cut Item) (start end n : ℕ) : Type 0 whe
   pub ends : length (sheetBytes (c .front)) + (21 + length (c .hit .bytes)) ≡ end
   pub fit : T (all (λ i. dataFits (i .bytes)) (itemsOf s))
 
+-- at some cut
+pub record Stood (s : List ℕ) (start end n : ℕ) : Type 0 where
+  pub at-cut : Cut Item
+  pub stands : Stands s at-cut start end n
+
 -- at each cut where the record stands, the call's answer
 abbrev pub Dropped : (List Item → Cut Item → Answer (List Item)) → List ℕ → ℕ → ℕ → ℕ → Edited → List ℕ → List ℕ → Type 0
 Dropped call s start end n r old new =

@@ -2,8 +2,10 @@
 // item, which stands behind the record.
 mod drops;
 mod edits;
+mod kept;
 mod shared;
 
 pub use drops::drop_data_ref;
 pub use drops::drop_tree_ref;
+pub use kept::drop_kept_tree_ref;
 pub use shared::drop_shared_ref;

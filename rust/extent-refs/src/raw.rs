@@ -345,11 +345,6 @@ extern "C" {
         out_len: usize,
         len: *mut u64,
     ) -> u32;
-}
-
-// Declared, but not exported by the source yet. build.rs gives each a stand-in.
-// waits: transaction_drop_kept_tree_ref sheet:bytes bytenr:u64 level:u8 tree:u64 own:bool out:out len:lent
-extern "C" {
     pub fn transaction_drop_kept_tree_ref(
         sheet: *const u8,
         sheet_len: usize,

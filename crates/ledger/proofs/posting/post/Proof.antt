@@ -2,7 +2,7 @@ use mathlib.Core.Path.{sym, _∙_}
 use denote.Ref.{now}
 use lib.ListN.{length}
 use Rattle.item_list.proofs.Reading.{listed}
-use Rattle.ledger.proofs.Postings.{sheet-no, kind-no, balance-no, kind-yes, books, post-answered}
+use Rattle.ledger.proofs.Postings.{sheet-no, kind-no, balance-no, kind-yes, balanced-list, post-answered}
 use borrow.Author.Needs.{needs}
 use Rattle.ledger.proofs.posting.post.Statement.{statement}
 use Rattle.ledger.proofs.posting.post.Tie as tie
@@ -22,7 +22,7 @@ post-balanced-requires c κs =
     let e = sym (c .before .before .before .before .before .before .before .before .check .ensures) ∙ c .before .before .before .before .before .before .checked2 .given .1 in
     let three = c .before .before .before .before .change-fits .ensures in
     let yes = c .before .before .before .if1 .taken in
-    (books (now (a .sheet)) (a .nodesize) (a .change) 0 _ e _ three yes _ (c .before .before .balanced .ensures) (c .before .if2 .taken), kind-yes (now (a .sheet)) (a .nodesize) (a .change) 0 _ e _ three yes)
+    (balanced-list (now (a .sheet)) (a .nodesize) (a .change) 0 _ e _ three yes _ (c .before .before .balanced .ensures) (c .before .if2 .taken), kind-yes (now (a .sheet)) (a .nodesize) (a .change) 0 _ e _ three yes)
 
 returns-2 : tie.Need-returns-2
 returns-2 c =

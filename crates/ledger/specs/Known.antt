@@ -17,11 +17,11 @@ use Rattle.item_list.specs.declared.Checked.the-variants.{Count}
 use Rattle.item_list.specs.Steps.{checkedOf, itemsOf}
 use Rattle.item_list.specs.Seeks.{placeIn, recorded}
 
-pub record Books (s : List ℕ) (n : ℕ) : Type 0 where
+pub record BalancedList (s : List ℕ) (n : ℕ) : Type 0 where
   pub checked : checkedOf (readSheet s) ≡ Count n
   pub balance : T (balanced (itemsOf s))
 
-pub record Entered (s : List ℕ) (extent start end : ℕ) : Type 0 where
+pub record RecordAt (s : List ℕ) (extent start end : ℕ) : Type 0 where
   pub number : ℕ
   pub finds : placeIn (recorded extent) 0 1 (itemsOf s) ≡ At number start end
 

@@ -1,0 +1,81 @@
+// drop_kept_tree_ref: a block reference out of the record of type 169 whose offset is the level.
+use super::drops;
+use format::BlockRef;
+use format::Edited;
+use format::Key;
+use item_list::Checked;
+use item_list::Sought;
+ghost use mathlib.Core.Path.{_≡_};
+ghost use mathlib.Core.Bool.{true};
+ghost use Prim.Native.Nat.{_+_, _≤_};
+ghost use lib.ListN.{length};
+ghost use Rattle.format.specs.Questions.{Answered};
+ghost use Rattle.format.specs.Items.{heldSheet};
+ghost use Rattle.format.specs.Apply.{dropTreeRef, dropKeptTreeRefFrom};
+ghost use Rattle.record_drop.specs.Stands.{Stood, Dropped};
+ghost use Rattle.record_drop.specs.Edits.{ownAt};
+
+// The own-flag set in the flags that stand at `at`.
+fn set_own(out: &mut [u8], at: usize)
+    requires { ⌜ at + 8 ≤ length (now out) ⌝ }
+    ensures { λ _. ⌜ now (out .exit) ≡ ownAt at (now (out .entry)) ⌝ }
+{
+    let flags = fields::get_u64_le(out, at) | 256;
+    fields::put_u64_le(out, at, flags);
+}
+
+// The drop with the own-flag: no byte moves for it, so it is set in the list that was written.
+fn drop_owned(
+    sheet: &[u8],
+    start: usize,
+    end: usize,
+    items: usize,
+    name: BlockRef,
+    out: &mut [u8],
+) -> Edited
+    requires { ⌜ Stood (now sheet) start end items ⌝ }
+    ensures { λ r. ⌜ Dropped (dropTreeRef name true) (now (sheet .entry)) start end items r (now (out .entry)) (now (out .exit)) ⌝ }
+{
+    let edited = drops::drop_tree_ref(sheet, start, end, items, name, out);
+    match edited {
+        Edited::Absent => return Edited::Absent,
+        Edited::Remove => return Edited::Remove,
+        Edited::Refused(number) => return Edited::Refused(number),
+        Edited::Written(length) => {
+            set_own(out, start + 37);
+            return Edited::Written(length);
+        }
+    }
+}
+
+// A block reference, inline or else the item (bytenr, 176, tree), with one off the total.
+pub fn drop_kept_tree_ref(
+    sheet: &[u8],
+    bytenr: u64,
+    level: u8,
+    name: BlockRef,
+    own: bool,
+    out: &mut [u8],
+) -> Edited
+    ensures { λ r. ⌜ Answered (heldSheet (length (now (out .entry))) (dropKeptTreeRefFrom (now (sheet .entry)) bytenr level name own)) r (now (out .entry)) (now (out .exit)) ⌝ }
+{
+    let checked = item_list::check(sheet);
+    match checked {
+        Checked::Refused(number) => return Edited::Refused(number),
+        Checked::Count(items) => {
+            let key = Key {
+                objectid: bytenr,
+                kind: 169,
+                offset: level as u64,
+            };
+            let sought = item_list::seek(sheet, key);
+            let Sought::Present { start, end } = sought else {
+                return Edited::Refused(5);
+            };
+            if own {
+                return drop_owned(sheet, start, end, items, name, out);
+            }
+            return drops::drop_tree_ref(sheet, start, end, items, name, out);
+        }
+    }
+}
