@@ -1,5 +1,6 @@
 -- Laws of the calls that add references, one for each way out. Assumes nothing.
 use mathlib.Core.Path.{_≡_, refl, sym, ap, subst, _∙_}
+use mathlib.Core.Logic.{_⊎_, inl, inr}
 use mathlib.Core.Bool.{Bool, true, false, not, _&&_, _||_, cond}
 use mathlib.Core.List.{List, [], _∷_, _++_}
 use Prim.Native.Nat.{ℕ, _+_, _-_, _^_, _≤_, _<_}
@@ -10,6 +11,7 @@ use borrow.Author.Tests.{le-ltb, lt-ltb}
 use Rattle.fields.specs.Lists.{all, Cut, cut}
 use Rattle.fields.specs.Numbers.{le, areBytes}
 use Rattle.fields.specs.Parts.{part}
+use Rattle.fields.proofs.Lists.{lt-or}
 use Rattle.format.specs.Questions.{Answer, refused, accepted, ask, bind}
 use Rattle.format.specs.References.{payloadLength, counted, Ref, ref, refBytes, refsBytes, totalOf, startOf, Body, bodyWith, readBody, bodyBytes}
 use Rattle.format.specs.Bodies.{onBody, weighed, raisedBy, Spot, gap, standing, spotAnywhere, isGap, standingWeight, addedAt, addAt, keyedAt}
@@ -28,7 +30,7 @@ use Rattle.inline_refs.proofs.Spots.{SpotView, Stands, spot-anywhere, spot-by-s
 use Rattle.backref_plan.specs.declared.plan.Outcome.the-variants.{Refused}
 use Rattle.backref_plan.specs.declared.plan.Plan.{Plan}
 use Rattle.backref_plan.specs.Plans.{Planned}
-use Rattle.backref_plan.specs.Adds.{newRef, ownPlace, spotOf, siteOf, addInline, addKeyed}
+use Rattle.backref_plan.specs.Adds.{newRef, ownPlace, spotOf, siteOf, Raised, addInline, addKeyed}
 use Rattle.backref_plan.proofs.Writes.{Holds, wanted-small}
 use Rattle.backref_plan.proofs.Outcomes.{plan-refused, plan-same}
 use Rattle.backref_plan.proofs.Heads.{raised-yes, raised-no}
@@ -145,20 +147,27 @@ module _ (type : ℕ) (d : List ℕ) (w : Wanted) (place amount : ℕ) (byScan :
     give-ten h o = plan-refused plan d given 10 o (given-is ∙ add-ten (startOf type d) (r .from .refs) w amount (r .from) p spot (view-of (NewAt p) i) h)
 
     module _ (h : counted (kindOf w) || eqb amount 1 ≡ true) (small : amount < 4294967296) (t : ℕ) (is : t ≡ le (part 0 8 d)) where
-      pub give-full : 18446744073709551615 - amount < t → plan .outcome ≡ Refused 12 → Planned plan d given
+      give-full : 18446744073709551615 - amount < t → plan .outcome ≡ Refused 12 → Planned plan d given
       unfolding bind
       give-full k o =
           plan-refused plan d given 12 o
           (given-is ∙ add-gap (startOf type d) (r .from .refs) w amount (r .from) p spot (view-of (NewAt p) i) h small (refused 12)
           (ap (raisedBy amount) (sym (read-total type d (r .from) (r .read))) ∙ raised-no d t is amount k))
 
-      pub give-new : (size : ℕ) (new : List ℕ) → t ≤ 18446744073709551615 - amount → size ≡ 1 + payloadLength (kindOf w) → Holds w amount new
+      give-new : (size : ℕ) (new : List ℕ) → t ≤ 18446744073709551615 - amount → size ≡ 1 + payloadLength (kindOf w) → Holds w amount new
           → plan ≡ planOf p p new size (t + amount) 0 → Planned plan d given
       unfolding bind
       give-new size new k s n o =
           put-new type d w amount plan (r .from) (r .fits) (r .read) bytes (t + amount) size new s given p spot (view-of (NewAt p) i) n o
           (given-is ∙ add-gap (startOf type d) (r .from .refs) w amount (r .from) p spot (view-of (NewAt p) i) h small (accepted (t + amount))
           (ap (raisedBy amount) (sym (read-total type d (r .from) (r .read))) ∙ raised-yes d t is amount k (omega arith)))
+
+      pub give-gap : Raised p p w amount t amount plan → Planned plan d given
+      give-gap u = go (lt-or (18446744073709551615 - amount) t)
+        where
+          go : (18446744073709551615 - amount < t) ⊎ (t ≤ 18446744073709551615 - amount) → Planned plan d given
+          go (inl k) = give-full k (u .full k)
+          go (inr k) = give-new _ _ k refl (record { front = u .front k; long = u .long k }) (u .is k)
 
   module _ (p q x : ℕ) (i : Standing p q x ≡ siteOf byScan (length d) seen) where
     pub give-nine : counted (kindOf w) ≡ false → plan .outcome ≡ Refused 9 → Planned plan d given
@@ -171,20 +180,44 @@ module _ (type : ℕ) (d : List ℕ) (w : Wanted) (place amount : ℕ) (byScan :
           (given-is ∙ add-eleven (startOf type d) (r .from .refs) w amount (r .from) p q x spot (view-of (Standing p q x) i) h k)
 
       module _ (l : x ≤ 4294967295 - amount) (small : amount < 4294967296) (t : ℕ) (is : t ≡ le (part 0 8 d)) where
-        pub give-full-more : 18446744073709551615 - amount < t → plan .outcome ≡ Refused 12 → Planned plan d given
+        give-full-more : 18446744073709551615 - amount < t → plan .outcome ≡ Refused 12 → Planned plan d given
         unfolding bind
         give-full-more k o =
             plan-refused plan d given 12 o
             (given-is ∙ add-standing (startOf type d) (r .from .refs) w amount (r .from) p q x spot (view-of (Standing p q x) i) h l small (refused 12)
             (ap (raisedBy amount) (sym (read-total type d (r .from) (r .read))) ∙ raised-no d t is amount k))
 
-        pub give-more : (size : ℕ) (new : List ℕ) → t ≤ 18446744073709551615 - amount → size ≡ 1 + payloadLength (kindOf w) → Holds w (x + amount) new
+        give-more : (size : ℕ) (new : List ℕ) → t ≤ 18446744073709551615 - amount → size ≡ 1 + payloadLength (kindOf w) → Holds w (x + amount) new
             → plan ≡ planOf p q new size (t + amount) 0 → Planned plan d given
         unfolding bind
         give-more size new k s n o =
             put-more type d w amount plan (r .from) (r .fits) (r .read) bytes (t + amount) size new s given p q x spot (view-of (Standing p q x) i) n o
             (given-is ∙ add-standing (startOf type d) (r .from .refs) w amount (r .from) p q x spot (view-of (Standing p q x) i) h l small (accepted (t + amount))
             (ap (raisedBy amount) (sym (read-total type d (r .from) (r .read))) ∙ raised-yes d t is amount k (omega arith)))
+
+        pub give-standing : Raised p q w (x + amount) t amount plan → Planned plan d given
+        give-standing u = go (lt-or (18446744073709551615 - amount) t)
+          where
+            go : (18446744073709551615 - amount < t) ⊎ (t ≤ 18446744073709551615 - amount) → Planned plan d given
+            go (inl k) = give-full-more k (u .full k)
+            go (inr k) = give-more _ _ k refl (record { front = u .front k; long = u .long k }) (u .is k)
+
+-- ---- the edit where the total holds the sum, and where it does not
+
+module _ {from to : ℕ} {w : Wanted} {count total amount : ℕ} {p : Plan} where
+  pub raise-full : 18446744073709551615 - amount < total → p .outcome ≡ Refused 12 → Raised from to w count total amount p
+  raise-full h o = record { full = λ _. o; is = λ k. absurd (omega arith); front = λ k. absurd (omega arith); long = λ k. absurd (omega arith) }
+
+  pub raise-edit : (size : ℕ) (new : List ℕ) → total ≤ 18446744073709551615 - amount → size ≡ 1 + payloadLength (kindOf w) → Holds w count new
+      → p ≡ planOf from to new size (total + amount) 0 → Raised from to w count total amount p
+  raise-edit size new h s n e =
+      let is-new : new ≡ p .new = ap (λ (q : Plan). q .new) (sym e) in
+      record {
+        full = λ k. absurd (omega arith);
+        is = λ _. e ∙ (λ j. planOf from to (is-new j) (s j) (total + amount) 0);
+        front = λ _. ap (take (1 + payloadLength (kindOf w))) (sym is-new) ∙ n .front;
+        long = λ _. ap length (sym is-new) ∙ n .long;
+      }
 
 pub give-fault : (type : ℕ) (d : List ℕ) (w : Wanted) (place amount n : ℕ) (byScan : Bool) (plan : Plan)
     → Fault n ≡ scanOf w place (startOf type d) (Open false) (refsIn type d) → plan .outcome ≡ Refused n → Planned plan d (addInline type d w amount byScan)

@@ -1,15 +1,19 @@
 -- Where an added reference goes, by the wanted name. Assumes nothing.
+use mathlib.Core.Path.{_≡_}
 use mathlib.Core.Bool.{Bool, true, false, cond}
 use mathlib.Core.List.{List}
-use Prim.Native.Nat.{ℕ}
+use Prim.Native.Nat.{ℕ, _+_, _-_, _≤_, _<_}
+use lib.ListN.{length, take}
 use Rattle.format.specs.Questions.{Answer}
-use Rattle.format.specs.References.{Ref, ref, Body, placeOf}
+use Rattle.format.specs.References.{payloadLength, Ref, ref, refBytes, Body, placeOf}
 use Rattle.format.specs.Bodies.{onBody, Spot, spotAnywhere, spotByScan, addAt, keyedAt}
 use Rattle.inline_refs.specs.declared.wanted.Wanted.{Wanted}
 use Rattle.inline_refs.specs.declared.scan.Seen.{Seen}
 use Rattle.inline_refs.specs.declared.site.Site.{Site}
 use Rattle.inline_refs.specs.Scans.{kindOf, fieldsOf}
 use Rattle.inline_refs.specs.Sites.{siteAnywhere, siteByScan}
+use Rattle.backref_plan.specs.declared.plan.Outcome.the-variants.{Edit, Refused}
+use Rattle.backref_plan.specs.declared.plan.Plan.{Plan}
 
 -- the reference that is added
 abbrev pub newRef : Wanted → ℕ → Ref
@@ -35,3 +39,13 @@ addInline type body wanted amount byScan = onBody type body (λ b. addAt b (newR
 unfoldable pub addKeyed : ℕ → List ℕ → Wanted → ℕ → ℕ → Answer (List ℕ)
 addKeyed type body wanted place amount =
     onBody type body (λ b. keyedAt b (newRef wanted amount) (spotAnywhere (kindOf wanted) (fieldsOf wanted) place (b .refs)))
+
+-- a plan that puts a reference of that count between two positions and adds the amount to the total; 12 where the total cannot
+-- hold the sum
+pub record Raised (from to : ℕ) (wanted : Wanted) (count total amount : ℕ) (p : Plan) : Type 0 where
+  pub full : 18446744073709551615 - amount < total → p .outcome ≡ Refused 12
+  pub is : total ≤ 18446744073709551615 - amount
+      → p ≡ record { outcome = Edit; from = from; to = to; new = p .new; size = 1 + payloadLength (kindOf wanted); total = total + amount; count = 0 }
+  pub front : total ≤ 18446744073709551615 - amount
+      → take (1 + payloadLength (kindOf wanted)) (p .new) ≡ refBytes (newRef wanted count)
+  pub long : total ≤ 18446744073709551615 - amount → length (p .new) ≡ 29

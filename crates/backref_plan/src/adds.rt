@@ -12,7 +12,7 @@ ghost use lib.Dec.{eqb};
 ghost use Rattle.format.specs.References.{counted};
 ghost use Rattle.inline_refs.specs.Scans.{kindOf, fieldsOf};
 ghost use Rattle.backref_plan.specs.Plans.{Planned};
-ghost use Rattle.backref_plan.specs.Adds.{ownPlace, siteOf, addInline, addKeyed};
+ghost use Rattle.backref_plan.specs.Adds.{ownPlace, siteOf, Raised, addInline, addKeyed};
 
 // Whether references of the wanted kind have a count.
 fn counts(wanted: Wanted) -> bool
@@ -57,6 +57,19 @@ fn site_of(seen: Seen, end: usize, by_scan: bool) -> Site
     inline_refs::site_anywhere(seen, end)
 }
 
+// The reference with its count between two positions, and the amount added to the total if that holds the sum.
+fn edit_raised(from: usize, to: usize, wanted: Wanted, count: u32, total: u64, amount: u32) -> Plan
+    ensures { λ r. ⌜ Raised from to wanted count total amount r ⌝ }
+{
+    let more = amount as u64;
+    if 18446744073709551615 - more < total {
+        return refuse(12);
+    }
+    let new = crate::bytes::bytes_of(wanted, count);
+    let size = crate::bytes::size_of(wanted);
+    edit(from, to, new, size, total + more, 0)
+}
+
 // The amount is added at one name, and to the total.
 pub fn plan_add_inline(
     item_type: u8,
@@ -71,17 +84,12 @@ pub fn plan_add_inline(
         Scan::Fault(number) => refuse(number),
         Scan::Read(seen) => {
             let total = fields::get_u64_le(body, 0);
-            let more = amount as u64;
             match site_of(seen, body.len(), by_scan) {
                 Site::Gap(at) => {
                     if !may_add(wanted, amount) {
                         return refuse(10);
                     }
-                    if 18446744073709551615 - more < total {
-                        return refuse(12);
-                    }
-                    let new = crate::bytes::bytes_of(wanted, amount);
-                    edit(at, at, new, crate::bytes::size_of(wanted), total + more, 0)
+                    edit_raised(at, at, wanted, amount, total, amount)
                 }
                 Site::Standing { at, next, weight } => {
                     if !counts(wanted) {
@@ -90,18 +98,7 @@ pub fn plan_add_inline(
                     if 4294967295 - amount < weight {
                         return refuse(11);
                     }
-                    if 18446744073709551615 - more < total {
-                        return refuse(12);
-                    }
-                    let new = crate::bytes::bytes_of(wanted, weight + amount);
-                    edit(
-                        at,
-                        next,
-                        new,
-                        crate::bytes::size_of(wanted),
-                        total + more,
-                        0,
-                    )
+                    edit_raised(at, next, wanted, weight + amount, total, amount)
                 }
             }
         }

@@ -15,12 +15,14 @@ use Rattle.fields.proofs.Lists.{eqb-same, lt-or}
 use Rattle.format.specs.Questions.{Answer, refused, absent, remove, accepted, bind}
 use Rattle.format.specs.References.{rowIn, known, payloadLength, countPosition, counted, fieldCount, Ref, refAt, place, falls}
 use Rattle.format.specs.Bodies.{named, triple}
+use Rattle.distinct_triples.specs.Triples.{tripleOf, Distinct}
+use Rattle.distinct_triples.proofs.Orders.{none-twice}
 use Rattle.balance_laws.specs.Runs.{Run, start, joins, kept, after, apart, weighs, admits, sound}
 use Rattle.balance_laws.specs.Tally.{weightIn}
 use Rattle.balance.specs.declared.record.Run.{Run as Passed}
 use Rattle.balance.specs.declared.record.Admitted.{Admitted}
 use Rattle.balance.specs.declared.record.Admitted.the-variants.{Yes, No}
-use Rattle.balance.specs.Spans.{spanRefs, clear, runOf, Reaches, Admitting}
+use Rattle.balance.specs.Spans.{spanRefs, clear, runOf, Reaches, Apart, Admitting}
 
 pub payload-178 : payloadLength 178 ≡ 28
 unfolding payloadLength rowIn
@@ -70,6 +72,27 @@ module _ (body : List ℕ) (at p left : ℕ) (name : List ℕ) (is : name ≡ wo
 pub clear-none : (body : List ℕ) (at p : ℕ) → clear body at p 0 ≡ true
 unfolding clear spanRefs
 clear-none body at p = refl
+
+-- those that are known to differ from one another differ from one more of them
+module _ (body : List ℕ) (from n known : ℕ) (d : Distinct body from known) (h : n < known) where
+  differs : (i : ℕ) → i < n → same (refAt 178 (drop (from + 29 * i + 1) body) .fields) (refAt 178 (drop (from + 29 * n + 1) body) .fields) ≡ false
+  unfolding tripleOf
+  differs i l = ap₂ same (fields-178 _) (fields-178 _) ∙ d .differ i n l h
+
+  clear-from : (m i : ℕ) → i + m ≡ n → clear body (from + 29 * n) (from + 29 * i) m ≡ true
+  unfolding clear spanRefs
+  clear-from zero i e = refl
+  clear-from (suc m) i e =
+      let l : i < n = omega arith in
+      let p : from + 29 * i + 29 ≡ from + 29 * suc i = omega arith in
+      let f : suc i + m ≡ n = omega arith in
+      simp (differs i l, payload-178, p) (clear-from m (suc i) f)
+
+  pub clear-by : (at : ℕ) → from + 29 * n ≡ at → clear body at from n ≡ true
+  clear-by at e =
+      let z : from + 29 * 0 ≡ from = omega arith in
+      let f : 0 + n ≡ n = omega arith in
+      subst (λ (q : ℕ). clear body q from n ≡ true) e (subst (λ (q : ℕ). clear body (from + 29 * n) q n ≡ true) z (clear-from n 0 f))
 
 -- ---- the answer, from the tests
 
@@ -248,7 +271,7 @@ module _ (body : List ℕ) (p : Passed) (at kind start : ℕ) (s : start ≡ at 
 
   module _ (weight spot : ℕ) (w : weight ≡ here .weight) (o : spot ≡ place here) where
     abbrev pub alone : Passed
-    alone = record { kind = kind; spot = spot; from = at; n = 1 }
+    alone = record { kind = kind; spot = spot; from = at; n = 1; known = 0 }
 
     alone-is : runOf body alone ≡ record { kind = here .kind; spot = place here; back = here ∷ [] }
     unfolding runOf spanRefs refAt
@@ -259,7 +282,7 @@ module _ (body : List ℕ) (p : Passed) (at kind start : ℕ) (s : start ≡ at 
 
     says-alone : Begins (runOf body p) here → Admitting body p here (start + payloadLength kind) (Yes alone weight)
     unfolding Admitting
-    says-alone b = (b .0, (alone-is ∙ b .1, (alone-reaches, w)))
+    says-alone b = (b .0, (alone-is ∙ b .1, (alone-reaches, (w, none-twice body at))))
 
     pub says-owner : p .kind ≤ kind → kind ≡ 172 → Admitting body p here (start + payloadLength kind) (Yes alone weight)
     unfolding runOf refAt Admitting
@@ -308,8 +331,8 @@ module _ (body : List ℕ) (p : Passed) (at kind start : ℕ) (s : start ≡ at 
               unfolding runOf refAt Admitting
               says-twice c = admits-twice (runOf body p) here same-kind d spot-is (clear-is false c)
 
-              abbrev pub grown : Passed
-              grown = record { kind = kind; spot = spot; from = p .from; n = p .n + 1 }
+              abbrev pub grown : ℕ → Passed
+              grown k = record { kind = kind; spot = spot; from = p .from; n = p .n + 1; known = k }
 
               ends-here : p .from + p .n * (1 + payloadLength (p .kind)) + 1 ≡ start
               ends-here =
@@ -317,27 +340,28 @@ module _ (body : List ℕ) (p : Passed) (at kind start : ℕ) (s : start ≡ at 
                   let z : p .n * (1 + payloadLength (p .kind)) ≡ p .n * 29 = ap (λ (j : ℕ). p .n * (1 + payloadLength j)) k ∙ ap (λ (j : ℕ). p .n * (1 + j)) payload-178 in
                   omega (arith, reach k)
 
-              grown-is : runOf body grown ≡ record { kind = runOf body p .kind; spot = runOf body p .spot; back = runOf body p .back ++ here ∷ [] }
+              grown-is : (k : ℕ) → runOf body (grown k) ≡ record { kind = runOf body p .kind; spot = runOf body p .spot; back = runOf body p .back ++ here ∷ [] }
               unfolding runOf
-              grown-is =
+              grown-is k =
                   (λ i. record { kind = sym same-kind i; spot = e i; back = spanRefs (sym same-kind i) body (p .from) (p .n + 1) })
                   ∙ ap (λ (l : List Ref). record { kind = p .kind; spot = p .spot; back = l })
                   (span-snoc (p .kind) body (p .from) (p .n)
                   ∙ (λ i. spanRefs (p .kind) body (p .from) (p .n) ++ refAt (same-kind i) (drop (ends-here i) body) ∷ []))
 
-              grown-reaches : Reaches grown (start + payloadLength kind)
-              grown-reaches k = rw (d, payload-178) (omega (arith, reach (same-kind ∙ d)))
+              grown-reaches : (k : ℕ) → Reaches (grown k) (start + payloadLength kind)
+              grown-reaches k z = rw (d, payload-178) (omega (arith, reach (same-kind ∙ d)))
 
-              pub says-joins : clear body at (p .from) (p .n) ≡ true → Admitting body p here (start + payloadLength kind) (Yes grown weight)
+              pub says-joins : (k : ℕ) → Distinct body (p .from) k → clear body at (p .from) (p .n) ≡ true
+                  → Admitting body p here (start + payloadLength kind) (Yes (grown k) weight)
               unfolding runOf refAt Admitting
-              says-joins c =
+              says-joins k a c =
                   let j = admits-joins (runOf body p) here same-kind d spot-is (clear-is true c) some-weight in
-                  (j .0, (grown-is ∙ j .1, (grown-reaches, w)))
+                  (j .0, (grown-is k ∙ j .1, (grown-reaches k, (w, a))))
 
 -- ---- and back
 
 pub admitted-yes : (body : List ℕ) (p : Passed) (r : Ref) (next : ℕ) (a : Admitted) (q : Passed) (weight : ℕ) → a ≡ Yes q weight → Admitting body p r next a
-    → (admits (runOf body p) r ≡ true) × ((runOf body q ≡ kept (runOf body p) r) × (Reaches q next × (weight ≡ r .weight)))
+    → (admits (runOf body p) r ≡ true) × ((runOf body q ≡ kept (runOf body p) r) × (Reaches q next × ((weight ≡ r .weight) × Apart body q)))
 unfolding Admitting
 admitted-yes body p r next a q weight e h = subst (Admitting body p r next) e h
 

@@ -17,7 +17,7 @@ use Rattle.balance.specs.declared.record.Weighed.the-variants.{Of, Bad}
 use Rattle.balance.specs.Spans.{spanRefs, runOf, weighing, weighedOf}
 
 pub weigh-start : (body : List ℕ) (from : ℕ) (a : Answer (List Ref))
-    → weighing (runOf body (record { kind = 0; spot = 0; from = from; n = 0 })) 0 a ≡ weighedOf a
+    → weighing (runOf body (record { kind = 0; spot = 0; from = from; n = 0; known = 0 })) 0 a ≡ weighedOf a
 unfolding weighedOf runOf spanRefs
 weigh-start body from a = refl
 

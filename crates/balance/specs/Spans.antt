@@ -8,6 +8,7 @@ use lib.ListN.{length, drop}
 use Rattle.fields.specs.Lists.{sum, all, same}
 use Rattle.format.specs.Questions.{Answer, refused, absent, remove, accepted}
 use Rattle.format.specs.References.{payloadLength, Ref, refAt}
+use Rattle.distinct_triples.specs.Triples.{Distinct}
 use Rattle.balance_laws.specs.Runs.{Run, start, kept, admits, sound}
 use Rattle.balance_laws.specs.Tally.{weightIn}
 use Rattle.balance.specs.declared.record.Run.{Run as Passed}
@@ -32,11 +33,15 @@ runOf body p = record { kind = p .kind; spot = p .spot; back = spanRefs (p .kind
 abbrev pub Reaches : Passed → ℕ → Type 0
 Reaches p at = p .kind ≡ 178 → p .from + 29 * p .n ≡ at
 
+-- the triples of so many from the first on differ
+abbrev pub Apart : List ℕ → Passed → Type 0
+Apart body p = Distinct body (p .from) (p .known)
+
 -- what the answer says of the reference that ends at `next`
 unfoldable pub Admitting : List ℕ → Passed → Ref → ℕ → Admitted → Type 0
 Admitting body p r next No = admits (runOf body p) r ≡ false
 Admitting body p r next (Yes q weight) =
-    (admits (runOf body p) r ≡ true) × ((runOf body q ≡ kept (runOf body p) r) × (Reaches q next × (weight ≡ r .weight)))
+    (admits (runOf body p) r ≡ true) × ((runOf body q ≡ kept (runOf body p) r) × (Reaches q next × ((weight ≡ r .weight) × Apart body q)))
 
 -- the weight of the references that are left, after those of a run and their weight
 unfoldable pub weighing : Run → ℕ → Answer (List Ref) → Weighed

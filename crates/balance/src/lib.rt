@@ -6,6 +6,7 @@ mod record;
 mod reference;
 mod search;
 mod span;
+mod together;
 mod turning;
 mod walk;
 

@@ -1,5 +1,5 @@
 // The references of one record: in order, counting, no name twice among them; and their weight.
-use format::DataRef;
+use crate::together;
 use inline_refs::Cursor;
 use inline_refs::Step;
 use inline_refs::Wanted;
@@ -8,19 +8,19 @@ ghost use mathlib.Core.Bool.{not};
 ghost use Prim.Native.Nat.{_+_, _*_, _≤_};
 ghost use lib.Dec.{T};
 ghost use lib.ListN.{length, drop};
-ghost use Rattle.fields.specs.Numbers.{words};
-ghost use Rattle.format.specs.Bodies.{triple};
 ghost use Rattle.format.specs.References.{kinds, known, payloadLength, countPosition, refAt, place};
 ghost use Rattle.inline_refs.specs.Steps.{readFrom};
-ghost use Rattle.balance.specs.Spans.{clear, Admitting, Reaches, weighedOf, Light};
+ghost use Rattle.distinct_triples.specs.Triples.{Distinct};
+ghost use Rattle.balance.specs.Spans.{clear, Admitting, Reaches, Apart, weighedOf, Light};
 
-// The references passed last: their type, what they are ordered by, where the first of them stands, and how many there are.
-// Only data references of one hash are more than one.
+// The references passed last: their type, what they are ordered by, where the first of them stands, how many there are, and of
+// how many from the first on it is known that their triples differ. Only data references of one hash are more than one.
 pub struct Run {
     pub kind: u8,
     pub spot: u64,
     pub from: usize,
     pub n: usize,
+    pub known: usize,
 }
 
 // Whether one more reference may stand there: the references passed with it, and its weight.
@@ -35,23 +35,12 @@ pub enum Weighed {
     Bad,
 }
 
-pub fn triple_at(body: &[u8], start: usize) -> DataRef
-    requires { ⌜ start + 24 ≤ length (now body) ⌝ }
-    ensures { λ r. ⌜ triple r ≡ words 3 (drop start (now (body .entry))) ⌝ }
-{
-    DataRef {
-        tree: fields::get_u64_le(body, start),
-        objectid: fields::get_u64_le(body, start + 8),
-        offset: fields::get_u64_le(body, start + 16),
-    }
-}
-
 // Whether the triple of the data reference at `at` stands among the `n` data references from `from` on.
 fn repeated(body: &[u8], from: usize, n: usize, at: usize) -> bool
     requires { ⌜ (from + 29 * n ≤ at) × (at + 29 ≤ length (now body)) ⌝ }
     ensures { λ r. ⌜ r ≡ not (clear (now (body .entry)) at from n) ⌝ }
 {
-    let wanted = Wanted::Data(triple_at(body, at + 1));
+    let wanted = Wanted::Data(distinct_triples::triple_at(body, at + 1));
     let mut p = from;
     let mut left = n;
     while 0 < left {
@@ -64,17 +53,31 @@ fn repeated(body: &[u8], from: usize, n: usize, at: usize) -> bool
     false
 }
 
+// The same where the first `known` data references from `from` on are known to differ, and `at` is where one more stands.
+fn stands_twice(body: &[u8], from: usize, n: usize, known: usize, at: usize) -> bool
+    requires { ⌜ (from + 29 * n ≡ at) × (at + 29 ≤ length (now body)) ⌝ }
+    requires { ⌜ Distinct (now body) from known ⌝ }
+    ensures { λ r. ⌜ r ≡ not (clear (now (body .entry)) at from n) ⌝ }
+{
+    if n < known {
+        return false;
+    }
+    repeated(body, from, n, at)
+}
+
 // A data reference whose hash is not below that of the data references passed.
 fn join(body: &[u8], run: Run, at: usize, start: usize, spot: u64, weight: u32) -> Admitted
     requires { ⌜ (run .kind ≡ 178) × ((run .spot ≤ spot) × (weight ≡ 0 → ⊥)) ⌝ }
     requires { ⌜ (start ≡ at + 1) × ((start + 28 ≤ length (now body)) × Reaches run at) ⌝ }
     requires { ⌜ (weight ≡ refAt 178 (drop start (now body)) .weight) × (spot ≡ place (refAt 178 (drop start (now body)))) ⌝ }
+    requires { ⌜ (length (now body) ≤ 262144) × Apart (now body) run ⌝ }
     ensures { λ r. ⌜ Admitting (now (body .entry)) run (refAt 178 (drop start (now (body .entry)))) (start + payloadLength 178) r ⌝ }
 {
     if run.spot < spot {
         return Admitted::No;
     }
-    if repeated(body, run.from, run.n, at) {
+    let known = together::known_in(body, run.from, run.n, run.known, spot);
+    if stands_twice(body, run.from, run.n, known, at) {
         return Admitted::No;
     }
     let n = run.n + 1;
@@ -84,6 +87,7 @@ fn join(body: &[u8], run: Run, at: usize, start: usize, spot: u64, weight: u32) 
             spot,
             from: run.from,
             n,
+            known,
         },
         weight,
     }
@@ -93,6 +97,7 @@ fn join(body: &[u8], run: Run, at: usize, start: usize, spot: u64, weight: u32) 
 fn admit(body: &[u8], run: Run, at: usize, kind: u8, start: usize, count: usize) -> Admitted
     requires { ⌜ T (known kind) × (start + payloadLength kind ≤ length (now body)) × (count ≡ countPosition kind) ⌝ }
     requires { ⌜ (start ≡ at + 1) × Reaches run at ⌝ }
+    requires { ⌜ (length (now body) ≤ 262144) × Apart (now body) run ⌝ }
     ensures { λ r. ⌜ Admitting (now (body .entry)) run (refAt kind (drop start (now (body .entry)))) (start + payloadLength kind) r ⌝ }
 {
     if kind < run.kind {
@@ -105,6 +110,7 @@ fn admit(body: &[u8], run: Run, at: usize, kind: u8, start: usize, count: usize)
         spot,
         from: at,
         n: 1,
+        known: 0,
     };
     if kind == 172 {
         return Admitted::Yes { run: alone, weight };
@@ -136,6 +142,7 @@ pub fn weigh_refs(rows: &[[u8; 3]; 5], body: &[u8], start: usize) -> Weighed
         spot: 0,
         from: start,
         n: 0,
+        known: 0,
     };
     let mut sum: u64 = 0;
     loop {

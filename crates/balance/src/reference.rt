@@ -1,5 +1,4 @@
 // A reference as an item of its own.
-use crate::record;
 use format::BlockRef;
 use format::Key;
 use inline_refs::Wanted;
@@ -26,7 +25,7 @@ fn data_name(key: Key, payload: &[u8]) -> Named
     }
     Named::Of {
         weight: fields::get_u32_le(payload, 24),
-        wanted: Wanted::Data(record::triple_at(payload, 0)),
+        wanted: Wanted::Data(distinct_triples::triple_at(payload, 0)),
     }
 }
 

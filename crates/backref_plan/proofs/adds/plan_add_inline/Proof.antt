@@ -5,7 +5,7 @@ use borrow.Author.Tests.{not-true, not-false}
 use Rattle.fields.proofs.Numbers.{areBytes-in}
 use Rattle.format.proofs.Bodies.{read-long}
 use Rattle.backref_plan.proofs.Sites.{scan-reads}
-use Rattle.backref_plan.proofs.Gives.{give-fault, give-ten, give-full, give-new, give-nine, give-eleven, give-full-more, give-more}
+use Rattle.backref_plan.proofs.Gives.{give-fault, give-ten, give-gap, give-nine, give-eleven, give-standing}
 use borrow.Author.Needs.{needs}
 use Rattle.backref_plan.proofs.adds.plan_add_inline.Statement.{statement}
 use Rattle.backref_plan.proofs.adds.plan_add_inline.Tie as tie
@@ -33,19 +33,6 @@ returns c =
 
 returns-2 : tie.Need-returns-2
 returns-2 c =
-    let site = c .before .before .before .before .before .before .before in
-    let got = site .before in
-    let seen = got .before .before in
-    let scan = seen .before .before in
-    let own = scan .before in
-    let a = own .before .before .args in
-    let r = scan-reads (a .item-type) (now (a .body)) (a .wanted) _ _ (sym (seen .seen .given .1) ∙ scan .scan-body .ensures) in
-    let bytes = areBytes-in (now (a .body)) (λ i. own .before .shared-slice-known .given i .fits) in
-    give-full (a .item-type) (now (a .body)) (a .wanted) _ (a .amount) (a .by-scan) _ _ r bytes (own .own-place .ensures) _ (sym (c .before .before .before .before .before .at .given .1) ∙ site .site-of .ensures)
-    (sym (c .before .before .before .may-add .ensures) ∙ not-false _ (c .before .before .if1 .left)) (omega arith) _ (got .get-u64-le .ensures) (c .before .if2 .taken) (c .refuse3 .ensures)
-
-returns-3 : tie.Need-returns-3
-returns-3 c =
     let site = c .before .before .before .before .before .before in
     let got = site .before in
     let seen = got .before .before in
@@ -55,10 +42,10 @@ returns-3 c =
     let r = scan-reads (a .item-type) (now (a .body)) (a .wanted) _ _ (sym (seen .seen .given .1) ∙ scan .scan-body .ensures) in
     let bytes = areBytes-in (now (a .body)) (λ i. own .before .shared-slice-known .given i .fits) in
     give-nine (a .item-type) (now (a .body)) (a .wanted) _ (a .amount) (a .by-scan) _ _ r bytes (own .own-place .ensures) _ _ _ (sym (c .before .before .before .before .at2 .given .1) ∙ site .site-of .ensures)
-    (sym (c .before .before .counts .ensures) ∙ not-true _ (c .before .if3 .taken)) (c .refuse4 .ensures)
+    (sym (c .before .before .counts .ensures) ∙ not-true _ (c .before .if2 .taken)) (c .refuse3 .ensures)
 
-returns-4 : tie.Need-returns-4
-returns-4 c =
+returns-3 : tie.Need-returns-3
+returns-3 c =
     let site = c .before .before .before .before .before .before .before in
     let got = site .before in
     let seen = got .before .before in
@@ -68,30 +55,17 @@ returns-4 c =
     let r = scan-reads (a .item-type) (now (a .body)) (a .wanted) _ _ (sym (seen .seen .given .1) ∙ scan .scan-body .ensures) in
     let bytes = areBytes-in (now (a .body)) (λ i. own .before .shared-slice-known .given i .fits) in
     give-eleven (a .item-type) (now (a .body)) (a .wanted) _ (a .amount) (a .by-scan) _ _ r bytes (own .own-place .ensures) _ _ _ (sym (c .before .before .before .before .before .at2 .given .1) ∙ site .site-of .ensures)
-    (sym (c .before .before .before .counts .ensures) ∙ not-false _ (c .before .before .if3 .left)) (c .before .if4 .taken) (c .refuse5 .ensures)
+    (sym (c .before .before .before .counts .ensures) ∙ not-false _ (c .before .before .if2 .left)) (c .before .if3 .taken) (c .refuse4 .ensures)
 
-returns-5 : tie.Need-returns-5
-returns-5 c =
-    let site = c .before .before .before .before .before .before .before .before in
-    let got = site .before in
-    let seen = got .before .before in
-    let scan = seen .before .before in
-    let own = scan .before in
-    let a = own .before .before .args in
-    let r = scan-reads (a .item-type) (now (a .body)) (a .wanted) _ _ (sym (seen .seen .given .1) ∙ scan .scan-body .ensures) in
-    let bytes = areBytes-in (now (a .body)) (λ i. own .before .shared-slice-known .given i .fits) in
-    give-full-more (a .item-type) (now (a .body)) (a .wanted) _ (a .amount) (a .by-scan) _ _ r bytes (own .own-place .ensures) _ _ _ (sym (c .before .before .before .before .before .before .at2 .given .1) ∙ site .site-of .ensures)
-    (sym (c .before .before .before .before .counts .ensures) ∙ not-false _ (c .before .before .before .if3 .left)) (c .before .before .if4 .left) (omega arith) _ (got .get-u64-le .ensures) (c .before .if5 .taken) (c .refuse6 .ensures)
-
-returns-6 : tie.Need-returns-6
-returns-6 c =
+returns-4 : tie.Need-returns-4
+returns-4 c =
     let scan = c .before .before .before .before in
     let a = scan .before .before .before .args in
     give-fault (a .item-type) (now (a .body)) (a .wanted) _ (a .amount) _ (a .by-scan) _ (sym (c .before .before .number .given .1) ∙ scan .scan-body .ensures) (c .refuse .ensures)
 
-returns-7 : tie.Need-returns-7
-returns-7 c =
-    let site = c .before .before .before .before .before .before .before .before .before in
+returns-5 : tie.Need-returns-5
+returns-5 c =
+    let site = c .before .before .before .before .before .before in
     let got = site .before in
     let seen = got .before .before in
     let scan = seen .before .before in
@@ -99,13 +73,12 @@ returns-7 c =
     let a = own .before .before .args in
     let r = scan-reads (a .item-type) (now (a .body)) (a .wanted) _ _ (sym (seen .seen .given .1) ∙ scan .scan-body .ensures) in
     let bytes = areBytes-in (now (a .body)) (λ i. own .before .shared-slice-known .given i .fits) in
-    give-new (a .item-type) (now (a .body)) (a .wanted) _ (a .amount) (a .by-scan) _ _ r bytes (own .own-place .ensures) _ (sym (c .before .before .before .before .before .before .before .at .given .1) ∙ site .site-of .ensures)
-    (sym (c .before .before .before .before .before .may-add .ensures) ∙ not-false _ (c .before .before .before .before .if1 .left)) (omega arith) _ (got .get-u64-le .ensures) _ _ (c .before .before .before .if2 .left)
-    (c .before .size-of .ensures) (record { front = c .before .before .bytes-of .ensures .0; long = c .before .before .bytes-of .ensures .1 }) (c .edit .ensures)
+    give-gap (a .item-type) (now (a .body)) (a .wanted) _ (a .amount) (a .by-scan) _ _ r bytes (own .own-place .ensures) _ (sym (c .before .before .before .before .at .given .1) ∙ site .site-of .ensures)
+    (sym (c .before .before .may-add .ensures) ∙ not-false _ (c .before .if1 .left)) (omega arith) _ (got .get-u64-le .ensures) (c .edit-raised .ensures)
 
-returns-8 : tie.Need-returns-8
-returns-8 c =
-    let site = c .before .before .before .before .before .before .before .before .before .before in
+returns-6 : tie.Need-returns-6
+returns-6 c =
+    let site = c .before .before .before .before .before .before .before in
     let got = site .before in
     let seen = got .before .before in
     let scan = seen .before .before in
@@ -113,11 +86,10 @@ returns-8 c =
     let a = own .before .before .args in
     let r = scan-reads (a .item-type) (now (a .body)) (a .wanted) _ _ (sym (seen .seen .given .1) ∙ scan .scan-body .ensures) in
     let bytes = areBytes-in (now (a .body)) (λ i. own .before .shared-slice-known .given i .fits) in
-    give-more (a .item-type) (now (a .body)) (a .wanted) _ (a .amount) (a .by-scan) _ _ r bytes (own .own-place .ensures) _ _ _ (sym (c .before .before .before .before .before .before .before .before .at2 .given .1) ∙ site .site-of .ensures)
-    (sym (c .before .before .before .before .before .before .counts .ensures) ∙ not-false _ (c .before .before .before .before .before .if3 .left)) (c .before .before .before .before .if4 .left) (omega arith) _ (got .get-u64-le .ensures) _ _ (c .before .before .before .if5 .left)
-    (c .before .size-of2 .ensures) (record { front = c .before .before .bytes-of2 .ensures .0; long = c .before .before .bytes-of2 .ensures .1 }) (c .edit2 .ensures)
+    give-standing (a .item-type) (now (a .body)) (a .wanted) _ (a .amount) (a .by-scan) _ _ r bytes (own .own-place .ensures) _ _ _ (sym (c .before .before .before .before .before .at2 .given .1) ∙ site .site-of .ensures)
+    (sym (c .before .before .before .counts .ensures) ∙ not-false _ (c .before .before .if2 .left)) (c .before .if3 .left) (omega arith) _ (got .get-u64-le .ensures) (c .edit-raised2 .ensures)
 
 pub plan-add-inline-spec : {M : Type 1} → statement M
 plan-add-inline-spec =
     tie.close
-    (tie.spec (λ c κs. search needs) (λ c κs. search needs) (λ c. search needs) (λ c κs. search needs) (λ c. search needs) get-u64-le-requires (λ c κs. search needs) (λ c. search needs) (λ c κs. search needs) (λ c κs. search needs) returns (λ c. search needs) (λ c κs. search needs) returns-2 (λ c κs. search needs) (λ c κs. search needs) (λ c. search needs) (λ c κs. search needs) (λ c. search needs) (λ c κs. search needs) (λ c κs. search needs) returns-3 (λ c. search needs) (λ c κs. search needs) returns-4 (λ c. search needs) (λ c κs. search needs) returns-5 (λ c. search needs) (λ c κs. search needs) (λ c κs. search needs) (λ c. search needs) (λ c κs. search needs) returns-6 returns-7 returns-8)
+    (tie.spec (λ c κs. search needs) (λ c κs. search needs) (λ c. search needs) (λ c κs. search needs) (λ c. search needs) get-u64-le-requires (λ c κs. search needs) (λ c. search needs) (λ c κs. search needs) (λ c κs. search needs) returns (λ c κs. search needs) (λ c. search needs) (λ c κs. search needs) (λ c κs. search needs) returns-2 (λ c. search needs) (λ c κs. search needs) returns-3 (λ c. search needs) (λ c κs. search needs) returns-4 returns-5 returns-6)

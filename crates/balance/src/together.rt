@@ -1,0 +1,41 @@
+// Data references of one hash that are shown to differ all at once, since comparing each with each takes too long where many
+// stand together.
+ghost use mathlib.Core.Path.{_≡_};
+ghost use Prim.Native.Nat.{_+_, _*_, _≤_};
+ghost use lib.ListN.{length};
+ghost use Rattle.distinct_triples.specs.Triples.{Distinct};
+
+// How many data references of that hash stand side by side from `from` on.
+fn count(body: &[u8], from: usize, spot: u64) -> usize
+    requires { ⌜ (length (now body) ≤ 262144) × (from ≤ length (now body)) ⌝ }
+    ensures { λ r. ⌜ (from + 29 * r ≤ length (now (body .entry))) × (r ≤ 2259) ⌝ }
+{
+    let size = body.len();
+    let mut n: usize = 0;
+    while n < 2259 {
+        let at = from + 29 * n;
+        if size < at + 29 {
+            return n;
+        }
+        if body[at] != 178 {
+            return n;
+        }
+        if inline_refs::place_at(body, 178, at + 1) != spot {
+            return n;
+        }
+        n += 1;
+    }
+    n
+}
+
+// Of how many from `from` on it is known that their triples differ, once n of them were passed. Few are sooner compared each
+// with each, so they are looked at together when there are fifteen.
+pub fn known_in(body: &[u8], from: usize, n: usize, known: usize, spot: u64) -> usize
+    requires { ⌜ (length (now body) ≤ 262144) × ((from ≤ length (now body)) × Distinct (now body) from known) ⌝ }
+    ensures { λ r. ⌜ Distinct (now (body .entry)) from r ⌝ }
+{
+    if n != 15 {
+        return known;
+    }
+    distinct_triples::distinct_front(body, from, count(body, from, spot))
+}
