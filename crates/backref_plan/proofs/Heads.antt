@@ -80,7 +80,7 @@ total-only t body =
     ap (written 0 (leBytes 8 t)) (sym (take-append-drop 8 body) ∙ ap (λ (l : List ℕ). l ++ drop 8 body) (sym (append-nil (take 8 body))))
 
 abbrev pub totalPlan : ℕ → Plan
-totalPlan t = record { outcome = Edit; from = 8; to = 8; new = replicate 29 0; size = 0; total = t; count = 0 }
+totalPlan t = record { outcome = Edit; from = 8; to = 8; new = replicate 32 0; size = 0; total = t; count = 0 }
 
 module _ (body : List ℕ) (n : ℕ) (q : n ≡ headOf body) (p : Plan) where
   pub total-plan : (t : ℕ) (next : ℕ → Answer ℕ) → n ≡ 0 → p ≡ totalPlan t → next (totalOf body) ≡ accepted t → Planned p body (onTotal body next)
@@ -159,16 +159,16 @@ module _ (body word new : List ℕ) (t at size : ℕ) (b : T (areBytes body)) (e
       ∙ sym (total-kept t at (at + size) (take size new) body b low h e)
 
 -- a word in front of zeros
-pub word-front : (word new : List ℕ) (size : ℕ) → length word ≡ size → size ≤ 29 → new ≡ written 0 word (replicate 29 0)
-    → (take size new ≡ word) × (length new ≡ 29)
+pub word-front : (word new : List ℕ) (size : ℕ) → length word ≡ size → size ≤ 29 → new ≡ written 0 word (replicate 32 0)
+    → (take size new ≡ word) × (length new ≡ 32)
 word-front word new size n h e =
-    let z : 0 + length word ≤ length (replicate {A = ℕ} 29 0) = omega arith in (
-      ap (take size) (e ∙ written-front word (replicate 29 0)) ∙ take-at word (drop (length word) (replicate 29 0)) size n,
-      ap length e ∙ length-written 0 word (replicate 29 0) z,
+    let z : 0 + length word ≤ length (replicate {A = ℕ} 32 0) = omega arith in (
+      ap (take size) (e ∙ written-front word (replicate 32 0)) ∙ take-at word (drop (length word) (replicate 32 0)) size n,
+      ap length e ∙ length-written 0 word (replicate 32 0) z,
     )
 
 pub flags-plan : (body : List ℕ) (n t f set : ℕ) (p : Plan) (new : List ℕ) → n ≡ headOf body → n ≡ 0 → T (areBytes body) → t ≡ le (part 0 8 body)
-    → f ≡ le (part 16 8 body) → new ≡ written 0 (leBytes 8 (bitOr f set)) (replicate 29 0)
+    → f ≡ le (part 16 8 body) → new ≡ written 0 (leBytes 8 (bitOr f set)) (replicate 32 0)
     → p ≡ record { outcome = Edit; from = 16; to = 24; new = new; size = 8; total = t; count = 0 }
     → Planned p body (withFlags body set)
 unfolding withFlags flagsOf edited

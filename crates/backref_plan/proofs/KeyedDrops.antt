@@ -52,7 +52,7 @@ module _ (item : List ℕ) (d : DataRef) (p : Plan) where
           plan-remove p item (dropKeyedDataRef item d) o (simp (le-leb _ _ fits, eq-eqb _ _ n, sym is ∙ t, ← q, le-leb _ _ k, eq-eqb _ _ z))
 
       pub keyed-less : (tree : ℕ) (new : List ℕ) → T (areBytes item) → (count ≡ 0 → ⊥) → (count ≡ 1 → ⊥) → tree ≡ le (part 0 8 item)
-          → new ≡ written 0 (leBytes 4 (count - 1)) (replicate 29 0)
+          → new ≡ written 0 (leBytes 4 (count - 1)) (replicate 32 0)
           → p ≡ record { outcome = Edit; from = 24; to = 28; new = new; size = 4; total = tree; count = 0 }
           → Planned p item (dropKeyedDataRef item d)
       unfolding dropKeyedDataRef ask bodyFits keyedCount edited

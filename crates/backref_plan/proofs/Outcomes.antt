@@ -2,6 +2,7 @@
 use mathlib.Core.Path.{_≡_, refl, sym, ap, subst, _∙_}
 use mathlib.Core.List.{List}
 use Prim.Native.Nat.{ℕ, _+_, _-_, _≤_, _<_}
+use native.Mathlib.Omega.{arith}
 use lib.ListN.{length, take, drop}
 use Rattle.fields.specs.Numbers.{leBytes}
 use Rattle.fields.specs.Parts.{written, spliced}
@@ -48,10 +49,13 @@ module _ (p : Plan) (body : List ℕ) where
       subst (λ (a : Answer (List ℕ)). Answered (heldBody room a) (Denied n) old old) (sym (plan-is e)) (record { result = refl; output = refl })
 
   module _ (h : EditIn p body) where
+    new-in : p .size ≤ length (p .new)
+    new-in = let s = h .small in let f = h .full in omega arith
+
     pub length-edited : length (edited p body) ≡ p .from + p .size + (length body - p .to)
     unfolding edited
     length-edited =
-        length-edit (p .from) (p .to) (p .size) (p .total) (p .new) body body (h .low) (h .order) (h .high) (subst (λ (k : ℕ). p .size ≤ k) (sym (h .full)) (h .small))
+        length-edit (p .from) (p .to) (p .size) (p .total) (p .new) body body (h .low) (h .order) (h .high) new-in
 
     module _ (old : List ℕ) (n : ℕ) (e : n ≡ p .from + p .size + (length body - p .to)) where
       pub edit-no-room : length old < n → Answered (heldBody (length old) (accepted (edited p body))) (Denied 21) old old
@@ -78,7 +82,7 @@ module _ (p : Plan) (body : List ℕ) where
         → o₄ ≡ written 0 (edited p body) out
     unfolding edited
     four-edited out o₁ o₂ o₃ o₄ room e₁ e₂ e₃ e₄ =
-        four (p .from) (p .to) (p .size) (p .total) (p .new) body out (h .low) (h .order) (h .high) (subst (λ (k : ℕ). p .size ≤ k) (sym (h .full)) (h .small))
+        four (p .from) (p .to) (p .size) (p .total) (p .new) body out (h .low) (h .order) (h .high) new-in
         o₁ o₂ o₃ o₄ room e₁ e₂ e₃ e₄
 
     pub same-edited : (out o₁ o₂ o₃ : List ℕ) → p .from + p .size ≡ p .to
@@ -88,7 +92,7 @@ module _ (p : Plan) (body : List ℕ) where
         → o₃ ≡ written 0 (edited p body) out
     unfolding edited
     same-edited out o₁ o₂ o₃ whole e₁ e₂ e₃ =
-        same (p .from) (p .to) (p .size) (p .total) (p .new) body out o₁ o₂ o₃ (h .low) whole (h .high) (subst (λ (k : ℕ). p .size ≤ k) (sym (h .full)) (h .small)) e₁ e₂ e₃
+        same (p .from) (p .to) (p .size) (p .total) (p .new) body out o₁ o₂ o₃ (h .low) whole (h .high) new-in e₁ e₂ e₃
 
 -- ---- the contract of a plan, by its outcome
 

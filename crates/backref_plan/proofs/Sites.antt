@@ -151,7 +151,7 @@ planOf p q new size t count = record { outcome = Edit; from = p; to = q; new = n
 pub site-plan : (plan : Plan) (d : List ℕ) (b : Body) (front old back : List Ref) (p q : ℕ) (bytes : List ℕ) (size t count : ℕ) (new : List Ref)
     (answer : Answer (List ℕ)) → Place d b front old back p q → length d ≤ 65535
     → plan ≡ planOf p q bytes size t count
-    → take size bytes ≡ refsBytes new → length bytes ≡ 29 → size ≤ 29
+    → take size bytes ≡ refsBytes new → length bytes ≡ 32 → size ≤ 29
     → answer ≡ accepted (bodyBytes (bodyWith b t (front ++ (new ++ back))))
     → Planned plan d answer
 unfolding edited

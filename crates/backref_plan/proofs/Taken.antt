@@ -128,13 +128,13 @@ module _ (type : ℕ) (d : List ℕ) (w : Wanted) (plan : Plan) where
       unfolding totalOf
       total-is = sym (is ∙ read-total type d (r .from) (r .read))
 
-      pub take-gone : T (areBytes d) → plan ≡ planOf p q (replicate 29 0) 0 t x → PlannedTaken plan d taken
+      pub take-gone : T (areBytes d) → plan ≡ planOf p q (replicate 32 0) 0 t x → PlannedTaken plan d taken
       unfolding refsBytes
       take-gone bytes o =
           let c = hit .parts in
           let counts : plan .count ≡ c .hit .weight = ap (λ (y : Plan). y .count) o ∙ hit .weighs in
           taken-edit plan d taken (left t)
-          (site-plan plan d (r .from) (c .front) (c .hit ∷ []) (c .back) p q (replicate 29 0) 0 t x [] (accepted (left t))
+          (site-plan plan d (r .from) (c .front) (c .hit ∷ []) (c .back) p q (replicate 32 0) 0 t x [] (accepted (left t))
           (placed type d (r .from) bytes (r .read) (c .front) (c .hit ∷ []) (c .back) p q (cut-between (isWanted w) (startOf type d) (r .from .refs) p q x hit))
           (r .fits) o refl refl (omega arith) refl)
           (take-found ∙ ap (λ (m : ℕ). with-count m (left (r .from .total))) (sym counts) ∙ ap (λ (m : ℕ). with-count (plan .count) (left m)) total-is)

@@ -74,13 +74,13 @@ module _ (type : ℕ) (d : List ℕ) (w : Wanted) (plan : Plan) where
           (ap loweredByOne (sym (read-total type d (r .from) (r .read))) ∙ lowered-yes d t is h)
 
       module _ (bytes : T (areBytes d)) (h : 2 ≤ t) where
-        pub drop-gone : x < 2 → plan ≡ planOf p q (replicate 29 0) 0 (t - 1) 0 → Planned plan d dropped
+        pub drop-gone : x < 2 → plan ≡ planOf p q (replicate 32 0) 0 (t - 1) 0 → Planned plan d dropped
         unfolding less refsBytes
         drop-gone k o =
             let c = hit .parts in
             let z : c .hit .weight ≤ 1 = omega (arith, hit .weighs) in
             let none-left : less (c .hit) 1 ≡ [] = simp (le-ltb _ _ z) in
-            site-plan plan d (r .from) (c .front) (c .hit ∷ []) (c .back) p q (replicate 29 0) 0 (t - 1) 0 [] dropped
+            site-plan plan d (r .from) (c .front) (c .hit ∷ []) (c .back) p q (replicate 32 0) 0 (t - 1) 0 [] dropped
             (placed type d (r .from) bytes (r .read) (c .front) (c .hit ∷ []) (c .back) p q (cut-between (isWanted w) (startOf type d) (r .from .refs) p q x hit))
             (r .fits) o refl refl (omega arith)
             (drop-edit h ∙ ap (λ (l : List Ref). accepted (bodyBytes (bodyWith (r .from) (t - 1) (c .front ++ (l ++ c .back))))) none-left)

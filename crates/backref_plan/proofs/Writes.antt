@@ -19,17 +19,17 @@ use Rattle.inline_refs.specs.declared.wanted.Wanted.the-variants.{Block, Data, 
 -- ---- the bytes of a reference
 
 abbrev pub fieldBytes : ℕ → ℕ → ℕ → List ℕ
-fieldBytes kind field count = written 9 (leBytes 4 count) (written 1 (leBytes 8 field) (written 0 (kind ∷ []) (replicate 29 0)))
+fieldBytes kind field count = written 9 (leBytes 4 count) (written 1 (leBytes 8 field) (written 0 (kind ∷ []) (replicate 32 0)))
 
 abbrev pub tripleBytes : DataRef → ℕ → List ℕ
 tripleBytes name count =
     written 25 (leBytes 4 count)
-    (written 17 (leBytes 8 (name .offset)) (written 9 (leBytes 8 (name .objectid)) (written 1 (leBytes 8 (name .tree)) (written 0 (178 ∷ []) (replicate 29 0)))))
+    (written 17 (leBytes 8 (name .offset)) (written 9 (leBytes 8 (name .objectid)) (written 1 (leBytes 8 (name .tree)) (written 0 (178 ∷ []) (replicate 32 0)))))
 
 -- so many bytes in front are the reference's
 pub record Holds (w : Wanted) (count : ℕ) (new : List ℕ) : Type 0 where
   pub front : take (1 + payloadLength (kindOf w)) new ≡ refBytes (ref (kindOf w) (fieldsOf w) count)
-  pub long : length new ≡ 29
+  pub long : length new ≡ 32
 
 abbrev pub made : Wanted → ℕ → List ℕ
 made (Block name) count = fieldBytes 176 (name .tree) count

@@ -48,4 +48,4 @@ pub record Raised (from to : ℕ) (wanted : Wanted) (count total amount : ℕ) (
       → p ≡ record { outcome = Edit; from = from; to = to; new = p .new; size = 1 + payloadLength (kindOf wanted); total = total + amount; count = 0 }
   pub front : total ≤ 18446744073709551615 - amount
       → take (1 + payloadLength (kindOf wanted)) (p .new) ≡ refBytes (newRef wanted count)
-  pub long : total ≤ 18446744073709551615 - amount → length (p .new) ≡ 29
+  pub long : total ≤ 18446744073709551615 - amount → length (p .new) ≡ 32

@@ -34,7 +34,7 @@ pub record EditIn (p : Plan) (body : List ℕ) : Type 0 where
   pub high : p .to ≤ length body
   pub fits : length body ≤ 65535
   pub small : p .size ≤ 29
-  pub full : length (p .new) ≡ 29
+  pub full : length (p .new) ≡ 32
 
 abbrev pub within : Outcome → Plan → List ℕ → Type 0
 within Edit p body = EditIn p body

@@ -23,20 +23,20 @@ pub fn size_of(wanted: Wanted) -> usize
 }
 
 // A kind with one field, and a count behind it.
-fn field_bytes(kind: u8, field: u64, count: u32) -> [u8; 29]
-    ensures { λ r. ⌜ r ≡ written 9 (leBytes 4 count) (written 1 (leBytes 8 field) (written 0 (kind ∷ []) (replicate 29 0))) ⌝ }
+fn field_bytes(kind: u8, field: u64, count: u32) -> [u8; 32]
+    ensures { λ r. ⌜ r ≡ written 9 (leBytes 4 count) (written 1 (leBytes 8 field) (written 0 (kind ∷ []) (replicate 32 0))) ⌝ }
 {
-    let mut new = [0; 29];
+    let mut new = [0; 32];
     fields::put_u8(&mut new, 0, kind);
     fields::put_u64_le(&mut new, 1, field);
     fields::put_u32_le(&mut new, 9, count);
     new
 }
 
-fn triple_bytes(name: DataRef, count: u32) -> [u8; 29]
-    ensures { λ r. ⌜ r ≡ written 25 (leBytes 4 count) (written 17 (leBytes 8 (name .offset)) (written 9 (leBytes 8 (name .objectid)) (written 1 (leBytes 8 (name .tree)) (written 0 (178 ∷ []) (replicate 29 0))))) ⌝ }
+fn triple_bytes(name: DataRef, count: u32) -> [u8; 32]
+    ensures { λ r. ⌜ r ≡ written 25 (leBytes 4 count) (written 17 (leBytes 8 (name .offset)) (written 9 (leBytes 8 (name .objectid)) (written 1 (leBytes 8 (name .tree)) (written 0 (178 ∷ []) (replicate 32 0))))) ⌝ }
 {
-    let mut new = [0; 29];
+    let mut new = [0; 32];
     fields::put_u8(&mut new, 0, 178);
     fields::put_u64_le(&mut new, 1, name.tree);
     fields::put_u64_le(&mut new, 9, name.objectid);
@@ -45,9 +45,9 @@ fn triple_bytes(name: DataRef, count: u32) -> [u8; 29]
     new
 }
 
-pub fn bytes_of(wanted: Wanted, count: u32) -> [u8; 29]
+pub fn bytes_of(wanted: Wanted, count: u32) -> [u8; 32]
     ensures { λ r. ⌜ take (1 + payloadLength (kindOf wanted)) r ≡ refBytes (ref (kindOf wanted) (fieldsOf wanted) count) ⌝ }
-    ensures { λ r. ⌜ length r ≡ 29 ⌝ }
+    ensures { λ r. ⌜ length r ≡ 32 ⌝ }
 {
     match wanted {
         Wanted::Block(name) => field_bytes(176, name.tree, count),

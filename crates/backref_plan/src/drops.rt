@@ -28,7 +28,7 @@ pub fn plan_drop_inline(item_type: u8, body: &[u8], wanted: Wanted) -> Plan
                 return refuse(13);
             }
             if weight < 2 {
-                return edit(at, next, [0; 29], 0, total - 1, 0);
+                return edit(at, next, [0; 32], 0, total - 1, 0);
             }
             let new = crate::bytes::bytes_of(wanted, weight - 1);
             edit(at, next, new, crate::bytes::size_of(wanted), total - 1, 0)
@@ -47,7 +47,7 @@ pub fn plan_take_inline(item_type: u8, body: &[u8], wanted: Wanted) -> Plan
                 return without(Outcome::Absent);
             };
             let total = fields::get_u64_le(body, 0);
-            edit(at, next, [0; 29], 0, total, weight)
+            edit(at, next, [0; 32], 0, total, weight)
         }
     }
 }

@@ -13,10 +13,10 @@ ghost use Rattle.format.specs.Bodies.{dropKeyedDataRef};
 ghost use Rattle.backref_plan.specs.Plans.{Planned};
 
 // A number of four bytes in front of zeros.
-fn count_bytes(count: u32) -> [u8; 29]
-    ensures { λ r. ⌜ r ≡ written 0 (leBytes 4 count) (replicate 29 0) ⌝ }
+fn count_bytes(count: u32) -> [u8; 32]
+    ensures { λ r. ⌜ r ≡ written 0 (leBytes 4 count) (replicate 32 0) ⌝ }
 {
-    let mut new = [0; 29];
+    let mut new = [0; 32];
     fields::put_u32_le(&mut new, 0, count);
     new
 }

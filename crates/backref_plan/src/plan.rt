@@ -11,12 +11,13 @@ pub enum Outcome {
 }
 
 // What becomes of a body: the bytes from `from` up to `to` give way to the first `size` of `new`, and the first eight are
-// `total`. `count` is the count of a reference that is taken out.
+// `total`. `count` is the count of a reference that is taken out. `new` is longer than the longest reference, 29 bytes, since two
+// whole moves of 16 bytes cost less than two that overlap.
 pub struct Plan {
     pub outcome: Outcome,
     pub from: usize,
     pub to: usize,
-    pub new: [u8; 29],
+    pub new: [u8; 32],
     pub size: usize,
     pub total: u64,
     pub count: u32,
@@ -30,7 +31,7 @@ pub fn without(outcome: Outcome) -> Plan
         outcome,
         from: 8,
         to: 8,
-        new: [0; 29],
+        new: [0; 32],
         size: 0,
         total: 0,
         count: 0,
@@ -43,7 +44,7 @@ pub fn refuse(number: u32) -> Plan
     without(Outcome::Refused(number))
 }
 
-pub fn edit(from: usize, to: usize, new: [u8; 29], size: usize, total: u64, count: u32) -> Plan
+pub fn edit(from: usize, to: usize, new: [u8; 32], size: usize, total: u64, count: u32) -> Plan
     ensures { λ r. ⌜ r ≡ record { outcome = Outcome.Edit; from = from; to = to; new = new; size = size; total = total; count = count } ⌝ }
 {
     Plan {

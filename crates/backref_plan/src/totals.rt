@@ -27,9 +27,9 @@ fn head_fault(body: &[u8]) -> u32
 
 // Another total.
 fn set_total(total: u64) -> Plan
-    ensures { λ r. ⌜ r ≡ record { outcome = Outcome.Edit; from = 8; to = 8; new = replicate 29 0; size = 0; total = total; count = 0 } ⌝ }
+    ensures { λ r. ⌜ r ≡ record { outcome = Outcome.Edit; from = 8; to = 8; new = replicate 32 0; size = 0; total = total; count = 0 } ⌝ }
 {
-    edit(8, 8, [0; 29], 0, total, 0)
+    edit(8, 8, [0; 32], 0, total, 0)
 }
 
 pub fn plan_raise_total(body: &[u8], amount: u64) -> Plan
@@ -75,10 +75,10 @@ pub fn plan_reduce_total(body: &[u8], amount: u64) -> Plan
 }
 
 // A number of eight bytes in front of zeros.
-fn word_bytes(word: u64) -> [u8; 29]
-    ensures { λ r. ⌜ r ≡ written 0 (leBytes 8 word) (replicate 29 0) ⌝ }
+fn word_bytes(word: u64) -> [u8; 32]
+    ensures { λ r. ⌜ r ≡ written 0 (leBytes 8 word) (replicate 32 0) ⌝ }
 {
-    let mut new = [0; 29];
+    let mut new = [0; 32];
     fields::put_u64_le(&mut new, 0, word);
     new
 }

@@ -49,7 +49,7 @@ front-of size new = let e : size - 0 ≡ size = omega arith in ap (λ (n : ℕ).
 
 module _ (p : Plan) (body : List ℕ) (h : EditIn p body) where
   size-in : p .size ≤ length (p .new)
-  size-in = subst (λ (k : ℕ). p .size ≤ k) (sym (h .full)) (h .small)
+  size-in = let s = h .small in let f = h .full in omega arith
 
   pub edit-writes : (out o₁ o₂ o₃ o₄ : List ℕ) (at r₂ r₃ r₄ : ℕ) → at + editLength p (length body) ≤ length out
       → o₁ ≡ written at (leBytes 8 (p .total)) out

@@ -75,8 +75,8 @@ pub fn show() {
     for (text, extent, change) in postings() {
         match post(NODESIZE, &items, extent, change) {
             Ok(next) => {
-                println!("  {text}: done");
                 items = next;
+                println!("  {text}: done, now used {}", words::used(&items, extent));
             }
             Err(e) => println!("  {text}: refused, {}", e.sentence()),
         }

@@ -1,6 +1,7 @@
 //! Items and references in words.
 use extent_refs::backref;
 use extent_refs::leaf_edit::OwnedItem;
+use extent_refs::transaction::record_of;
 
 fn number(bytes: &[u8]) -> u64 {
     bytes.iter().rev().fold(0, |n, &b| n * 256 + u64::from(b))
@@ -47,6 +48,11 @@ pub fn total(item: &OwnedItem) -> u64 {
 
 pub fn is_record(item: &OwnedItem) -> bool {
     item.key.key_type == 168 || item.key.key_type == 169
+}
+
+/// How often an extent of a list is used, in words.
+pub fn used(items: &[OwnedItem], extent: u64) -> String {
+    times(record_of(items, extent).map_or(0, total))
 }
 
 pub fn print(items: &[OwnedItem]) {
