@@ -37,7 +37,7 @@ fn may_add(wanted: Wanted, amount: u32) -> bool
 }
 
 // What the wanted reference is ordered by.
-fn own_place(wanted: Wanted) -> u64
+pub fn own_place(wanted: Wanted) -> u64
     ensures { λ r. ⌜ r ≡ ownPlace wanted ⌝ }
 {
     match wanted {

@@ -58,6 +58,14 @@ pub bind-yes : {A B : Type 0} (r : Answer A) (next : A → Answer B) {a : A} →
 unfolding bind
 bind-yes r next e = ap (λ x. bind x next) e
 
+-- one after the other, from the left or from the right
+pub bind-next : {A B C : Type 0} (a : Answer A) (f : A → Answer B) (g : B → Answer C) → bind a (λ x. bind (f x) g) ≡ bind (bind a f) g
+unfolding bind
+bind-next (refused n) f g = refl
+bind-next absent f g = refl
+bind-next remove f g = refl
+bind-next (accepted x) f g = refl
+
 pub needed-ok : {A : Type 0} (n : ℕ) (o : Option A) {a : A} → needed n o ≡ accepted a → o ≡ some a
 unfolding needed
 needed-ok n none e = refused-not e

@@ -65,7 +65,7 @@ fn print_data_extent(generation: u64, root: u64, ino: u64, offset: u64, out: &mu
     print_bytes(out);
 }
 
-fn main() {
+fn print_hashes() {
     print_hash(5, 257, 0);
     print_hash(0, 0, 0);
     print_hash(5, 257, 4096);
@@ -76,6 +76,9 @@ fn main() {
         18446744073709551615,
         18446744073709551615,
     );
+}
+
+fn print_tree_blocks() {
     let t = extent_write::TreeBlockAllocation {
         bytenr: 30474240,
         level: 1,
@@ -95,6 +98,9 @@ fn main() {
     print_tree_block(u, &mut room_33);
     let mut room_35 = [0xeeu8; 35];
     print_tree_block(u, &mut room_35);
+}
+
+fn print_data_extents() {
     let mut room_52 = [0xeeu8; 52];
     print_data_extent(7, 5, 257, 0, &mut room_52);
     let mut room_53 = [0xeeu8; 53];
@@ -107,4 +113,10 @@ fn main() {
         0x3132333435363738,
         &mut room_55,
     );
+}
+
+fn main() {
+    print_hashes();
+    print_tree_blocks();
+    print_data_extents();
 }

@@ -117,6 +117,18 @@ module _ (type : ℕ) (s : List ℕ) where
 
 -- ---- what an open body says of the reading
 
+-- a call that looks at the references alone
+pub on-refs : {A : Type 0} (type : ℕ) (s : List ℕ) (f : List Ref → Answer A) → onBody type s (λ b. f (b .refs)) ≡ bind (refsIn type s) f
+unfolding refsIn onBody ask bind
+on-refs {A} type s f = go (bodyFits s) (readBody type s)
+  where
+    go : (t : Bool) (x : Answer Body) → ask t 3 (bind x (λ b. f (b .refs))) ≡ bind (ask t 3 (bind x (λ b. accepted (b .refs)))) f
+    go false x = refl
+    go true (refused number) = refl
+    go true absent = refl
+    go true remove = refl
+    go true (accepted b) = refl
+
 pub record Opens (type : ℕ) (s : List ℕ) (start : ℕ) : Type 0 where
   pub at : start ≡ startOf type s
   pub fits : length s ≤ 65535

@@ -7,23 +7,10 @@ ghost use mathlib.Core.Bool.{true};
 ghost use Prim.Native.Nat.{_+_, _≤_};
 ghost use lib.ListN.{length};
 ghost use Rattle.fields.specs.Lists.{all};
-ghost use Rattle.format.specs.References.{placeOf};
 ghost use Rattle.format.specs.Ledger.{notItsOwn};
-ghost use Rattle.inline_refs.specs.Scans.{kindOf, fieldsOf};
+ghost use Rattle.inline_refs.specs.Scans.{kindOf};
 ghost use Rattle.item_list.specs.Steps.{itemsOf};
 ghost use Rattle.ledger.specs.Known.{BalancedList, nameIn, ownAt};
-
-// Where an item of that name stands: the hash of a triple, else the tree or the parent.
-fn own_offset(wanted: Wanted) -> u64
-    ensures { λ r. ⌜ r ≡ placeOf (kindOf wanted) (fieldsOf wanted) ⌝ }
-{
-    match wanted {
-        Wanted::Block(name) => name.tree,
-        Wanted::Data(name) => extent_write::data_ref_hash(name.tree, name.objectid, name.offset),
-        Wanted::SharedBlock(parent) => parent,
-        Wanted::SharedData(parent) => parent,
-    }
-}
 
 // Whether an item with these bytes that stands there is of that name. Two triples may have one hash.
 fn is_own(wanted: Wanted, bytes: &[u8]) -> bool
@@ -45,7 +32,7 @@ pub fn has_none(sheet: &[u8], items: usize, extent: u64, wanted: Wanted) -> bool
     let key = Key {
         objectid: extent,
         kind: inline_refs::kind_of(wanted),
-        offset: own_offset(wanted),
+        offset: backref_plan::own_place(wanted),
     };
     let sought = item_list::seek(sheet, key);
     match sought {

@@ -26,6 +26,7 @@ use Rattle.format.specs.Sheets.{hasKey}
 use Rattle.format.specs.Apply.{isRecord, replaced}
 use Rattle.format.specs.Names.{isRefItem, inForm, viewRefItem, viewOf, wellFormed, good}
 use Rattle.format.specs.Ledger.{sharedCount, dropSharedRef}
+use Rattle.format.proofs.Answers.{bind-next}
 use Rattle.format.proofs.Keys.{sameKey-yes}
 use Rattle.item_list.specs.declared.Sought.the-variants.{Present, Absent as Missing}
 use Rattle.item_list.specs.Steps.{itemsOf, itemAt}
@@ -39,7 +40,7 @@ use Rattle.backref.proofs.Takings.{taken-whole}
 use Rattle.record_edit.specs.Records.{dataOf}
 use Rattle.record_drop.specs.Stands.{Stands}
 use Rattle.record_drop.specs.Edits.{nothing, gone, heldPlan, behindOf}
-use Rattle.record_drop.proofs.Turns.{accepted-absent, ask-absent, bind-absent, is-absent, turns, bind-next}
+use Rattle.record_drop.proofs.Turns.{accepted-absent, ask-absent, bind-absent, is-absent, turns}
 use Rattle.record_drop.proofs.Behind.{BehindAt, behind-at, behind-none}
 use Rattle.record_drop.proofs.Puts.{put-answered, inline-answered, item-bytes, without-it, replaced-without}
 

@@ -76,11 +76,3 @@ stays (accepted d) f other there = refl
 pub turns : {A B : Type 0} (a : Answer A) (f : A → Answer B) (other : Answer B) → a ≡ absent → ifAbsent (bind a f) other ≡ other
 unfolding ifAbsent bind
 turns a f other e = ap (λ (x : Answer _). ifAbsent (bind x f) other) e
-
--- one after the other, from the left or from the right
-pub bind-next : {A B C : Type 0} (a : Answer A) (f : A → Answer B) (g : B → Answer C) → bind a (λ x. bind (f x) g) ≡ bind (bind a f) g
-unfolding bind
-bind-next (refused n) f g = refl
-bind-next absent f g = refl
-bind-next remove f g = refl
-bind-next (accepted x) f g = refl

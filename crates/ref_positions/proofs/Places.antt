@@ -22,7 +22,7 @@ use Rattle.format.proofs.Rows.{payload-fields}
 use Rattle.inline_refs.specs.Steps.{readFrom}
 use Rattle.inline_refs.specs.Scans.{refsIn}
 use Rattle.inline_refs.proofs.Steps.{At}
-use Rattle.inline_refs.proofs.Notes.{Opens}
+use Rattle.inline_refs.proofs.Notes.{Opens, on-refs}
 use Rattle.ref_positions.specs.declared.Counted.{Counted}
 use Rattle.ref_positions.specs.declared.Counted.the-variants.{Count, Refused}
 use Rattle.ref_positions.specs.Counts.{countOf, placesIn}
@@ -187,19 +187,10 @@ module _ (s lent₀ : List ℕ) (start : ℕ) where
 
 -- ---- the call
 
-refs-then : (t : Bool) (x : Answer Body) (f : List Ref → Answer (List ℕ))
-    → ask t 3 (bind x (λ b. f (b .refs))) ≡ bind (ask t 3 (bind x (λ b. accepted (b .refs)))) f
-unfolding ask bind
-refs-then false x f = refl
-refs-then true (refused number) f = refl
-refs-then true absent f = refl
-refs-then true remove f = refl
-refs-then true (accepted b) f = refl
-
 module _ (type : ℕ) (s : List ℕ) where
   calls : inlineRefs type s ≡ bind (refsIn type s) (λ refs. accepted (positions (startOf type s) refs))
-  unfolding inlineRefs refsIn onBody
-  calls = refs-then (bodyFits s) (readBody type s) (λ refs. accepted (positions (startOf type s) refs))
+  unfolding inlineRefs
+  calls = on-refs type s (λ refs. accepted (positions (startOf type s) refs))
 
   pub call-shut : (n : ℕ) (old : List ℕ) → refsIn type s ≡ refused n → Answered (heldCuts (length old) (inlineRefs type s)) (Denied n) old old
   unfolding heldCuts held bind

@@ -13,7 +13,7 @@ use Rattle.format.specs.Bodies.{bodyFits, onBody}
 use Rattle.inline_refs.specs.Steps.{readFrom}
 use Rattle.inline_refs.specs.Scans.{refsIn}
 use Rattle.inline_refs.proofs.Steps.{At}
-use Rattle.inline_refs.proofs.Notes.{Opens}
+use Rattle.inline_refs.proofs.Notes.{Opens, on-refs}
 
 -- how many references were read
 abbrev pub counted : Answer (List Ref) → Told
@@ -53,19 +53,9 @@ counts-fault x n number e = ap (λ (y : Answer (List Ref)). plus n (counted y)) 
 
 -- ---- the call
 
-refs-then : (t : Bool) (x : Answer Body) (f : List Ref → Answer ℕ)
-    → ask t 3 (bind x (λ b. f (b .refs))) ≡ bind (ask t 3 (bind x (λ b. accepted (b .refs)))) f
-unfolding ask bind
-refs-then false x f = refl
-refs-then true (refused number) f = refl
-refs-then true absent f = refl
-refs-then true remove f = refl
-refs-then true (accepted b) f = refl
-
 module _ (type : ℕ) (s : List ℕ) where
   calls : onBody type s (λ b. accepted (length (b .refs))) ≡ bind (refsIn type s) (λ refs. accepted (length refs))
-  unfolding refsIn onBody
-  calls = refs-then (bodyFits s) (readBody type s) (λ refs. accepted (length refs))
+  calls = on-refs type s (λ refs. accepted (length refs))
 
   pub call-counts : (start : ℕ) → Opens type s start → (t : Told) → t ≡ counted (readFrom s start)
       → t ≡ toldOf (onBody type s (λ b. accepted (length (b .refs))))

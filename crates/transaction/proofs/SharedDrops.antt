@@ -20,7 +20,7 @@ use Rattle.format.specs.References.{totalOf}
 use Rattle.format.specs.Bodies.{bodyFits, onHead, sharedKind, reducedBy, onTotal, reduceTotal, takeInlineShared}
 use Rattle.format.specs.Items.{Item, readSheet, heldSheet, putBack}
 use Rattle.format.specs.Apply.{sharedRest, applySharedDrop, applySharedDropTo}
-use Rattle.format.proofs.Answers.{ask-ok, bind-ok, accepted-inj}
+use Rattle.format.proofs.Answers.{ask-ok, bind-ok, bind-next, accepted-inj}
 use Rattle.item_list.specs.Steps.{itemAt}
 use Rattle.item_write.proofs.Writes.{answered-no}
 use Rattle.backref_plan.specs.declared.plan.Plan.{Plan}
@@ -75,14 +75,6 @@ dropped-fits : (a : Answer (List ℕ)) (amount : ℕ) (d : List ℕ) → bind a 
 dropped-fits a amount d e =
     let r = bind-ok a _ e in
     sym (le-leb _ _ (reduced-fits (r .0) amount d (r .2)))
-
--- one after the other, from the left or from the right
-pub bind-next : {A B C : Type 0} (a : Answer A) (f : A → Answer B) (g : B → Answer C) → bind a (λ x. bind (f x) g) ≡ bind (bind a f) g
-unfolding bind
-bind-next (refused n) f g = refl
-bind-next absent f g = refl
-bind-next remove f g = refl
-bind-next (accepted x) f g = refl
 
 pub shared-drop-refused : (s : List ℕ) (extent : ℕ) (name : SharedRef) (count : ℕ) (asItem : Bool) (room k : ℕ) (old : List ℕ)
     → spotOf extent (sharedKind (name .kind)) (readSheet s) ≡ Refused k

@@ -2,6 +2,7 @@ use mathlib.Core.Path.{sym, _∙_}
 use native.Mathlib.Omega.{arith}
 use denote.Ref.{now}
 use Rattle.fields.proofs.Numbers.{areBytes-in}
+use Rattle.backref_plan.specs.Adds.{ownPlace}
 use Rattle.item_list.proofs.Reading.{listed}
 use Rattle.ledger.proofs.OwnItems.{Seat, no-seat, seat}
 use borrow.Author.Needs.{needs}
@@ -12,17 +13,19 @@ seek-requires : tie.Need-seek-requires
 seek-requires c κs = listed _ _ (c .before .before .before .pre .checked)
 
 returns : tie.Need-returns
+unfolding ownPlace
 returns c =
     let a = c .before .before .before .before .before .before .args in
     no-seat _ _ (areBytes-in (now (a .sheet)) (λ i. c .before .before .before .before .before .shared-slice-known .given i .fits)) (c .before .before .before .before .before .before .pre) _ _ _ _
-    (c .before .before .before .before .kind-of .ensures) (c .before .before .before .own-offset .ensures) _ (sym (c .before .before .seek .ensures) ∙ c .enum-told .given .1)
+    (c .before .before .before .before .kind-of .ensures) (c .before .before .before .own-place .ensures) _ (sym (c .before .before .seek .ensures) ∙ c .enum-told .given .1)
 
 -- an item stands at the key
 stands : (c : tie.After-known-told) → Seat (now (c .before .before .before .before .before .before .before .args .sheet)) (c .before .before .before .before .before .before .before .args .extent) (c .before .before .before .before .before .before .before .args .wanted) (c .before .sought .given .0 .0) (c .before .sought .given .0 .1 .0)
+unfolding ownPlace
 stands c =
     let a = c .before .before .before .before .before .before .before .args in
     seat _ _ (areBytes-in (now (a .sheet)) (λ i. c .before .before .before .before .before .before .shared-slice-known .given i .fits)) (c .before .before .before .before .before .before .before .pre) _ _ _ _
-    (c .before .before .before .before .before .kind-of .ensures) (c .before .before .before .before .own-offset .ensures) _ _ (sym (c .before .before .before .seek .ensures) ∙ c .before .sought .given .1)
+    (c .before .before .before .before .before .kind-of .ensures) (c .before .before .before .before .own-place .ensures) _ _ (sym (c .before .before .before .seek .ensures) ∙ c .before .sought .given .1)
 
 add-is-own : tie.Need-add-is-own
 add-is-own c = let p = stands c .ordered in let q = stands c .within in omega arith
