@@ -1,19 +1,17 @@
 -- The plans by wanted name, as the definitions have them; and a planned call's answer. Assumes nothing.
-use mathlib.Core.Path.{_≡_, refl, sym, subst, _∙_}
-use mathlib.Core.Bool.{true, false}
+use mathlib.Core.Path.{_≡_, refl, subst}
+use mathlib.Core.Bool.{false}
 use mathlib.Core.List.{List}
 use Prim.Native.Nat.{ℕ}
 use borrow.Author.Tests.{ne-eqb}
 use Rattle.format.specs.declared.Edited.{Edited}
 use Rattle.format.specs.declared.Taken.{Taken}
-use Rattle.format.specs.declared.BlockRef.{BlockRef}
-use Rattle.format.specs.declared.DataRef.{DataRef}
 use Rattle.format.specs.declared.SharedRef.{SharedRef}
-use Rattle.format.specs.Questions.{Answer, refused, ask, TakenOut, Answered, AnsweredTaken}
+use Rattle.format.specs.Questions.{Answer, ask, TakenOut, Answered, AnsweredTaken}
 use Rattle.format.specs.References.{placeOf}
-use Rattle.format.specs.Bodies.{heldBody, sharedKind, dropInlineTreeRef, dropInlineDataRef, addInlineTreeRef, addInlineData, addInlineShared, heldTaken, takeInlineShared}
+use Rattle.format.specs.Bodies.{heldBody, sharedKind, addInlineShared, heldTaken, takeInlineShared}
 use Rattle.inline_refs.specs.Scans.{kindOf, fieldsOf}
-use Rattle.inline_refs.specs.declared.wanted.Wanted.the-variants.{Block, Data, SharedBlock, SharedData}
+use Rattle.inline_refs.specs.declared.wanted.Wanted.the-variants.{SharedBlock, SharedData}
 use Rattle.backref_plan.specs.declared.plan.Plan.{Plan}
 use Rattle.backref_plan.specs.declared.plan.Outcome.the-variants.{Refused}
 use Rattle.backref_plan.specs.Plans.{planAnswer, planTaken, Planned, PlannedTaken}

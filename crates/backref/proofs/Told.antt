@@ -1,17 +1,17 @@
 -- Laws of the calls that only ask, one for each way out. Assumes nothing.
-use mathlib.Core.Path.{_≡_, refl, sym, ap, _∙_}
+use mathlib.Core.Path.{_≡_, sym, ap, _∙_}
 use mathlib.Core.Bool.{true, false}
-use mathlib.Core.Option.{Option, none, some}
+use mathlib.Core.Option.{Option}
 use mathlib.Core.List.{List}
 use Prim.Native.Nat.{ℕ, _≤_, _<_}
 use borrow.Author.Tests.{le-leb, lt-leb}
-use Rattle.fields.specs.Lists.{Cut, cut}
+use Rattle.fields.specs.Lists.{Cut}
 use Rattle.fields.specs.Numbers.{le}
 use Rattle.fields.specs.Parts.{part}
 use Rattle.format.specs.declared.DataRef.{DataRef}
 use Rattle.format.specs.declared.Told.the-variants.{Value, Refused as Untold}
 use Rattle.format.specs.declared.Judged.the-variants.{Says, Refused as Unjudged}
-use Rattle.format.specs.Questions.{Answer, refused, accepted, ask, toldOf, judgedOf}
+use Rattle.format.specs.Questions.{accepted, ask, toldOf, judgedOf}
 use Rattle.format.specs.References.{Ref, flagsOf, startOf}
 use Rattle.format.specs.Bodies.{bodyFits, onHead, flags, isFound, holdsInlineDataRef}
 use Rattle.inline_refs.specs.declared.wanted.Wanted.the-variants.{Data}

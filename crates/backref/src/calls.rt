@@ -5,7 +5,6 @@ use format::Edited;
 use format::Keyed;
 use format::SharedRef;
 use format::Taken;
-ghost use mathlib.Core.Path.{_≡_};
 ghost use lib.ListN.{length};
 ghost use Rattle.format.specs.Questions.{Answered, AnsweredTaken};
 ghost use Rattle.format.specs.Bodies.{heldBody, raiseTotal, lowerTotal, reduceTotal, withFlags, dropInlineTreeRef, dropInlineDataRef, addInlineTreeRef, addInlineDataRef, addInlineShared, addInlineKeyed, heldTaken, takeInlineShared};

@@ -1,7 +1,6 @@
 // The calls on a data reference's item.
 use format::DataRef;
 use format::Edited;
-ghost use mathlib.Core.Path.{_≡_};
 ghost use lib.ListN.{length};
 ghost use Rattle.format.specs.Questions.{Answered, accepted};
 ghost use Rattle.format.specs.Bodies.{heldBody, keyedDataRefBody, dropKeyedDataRef};

@@ -5,7 +5,6 @@ use format::DataRef;
 use format::Keyed;
 use format::SharedRef;
 use inline_refs::Wanted;
-ghost use mathlib.Core.Path.{_≡_};
 ghost use Rattle.format.specs.Bodies.{dropInlineTreeRef, dropInlineDataRef, addInlineTreeRef, addInlineData, addInlineShared, addInlineKeyed, takeInlineShared};
 ghost use Rattle.backref_plan.specs.Plans.{Planned, PlannedTaken};
 

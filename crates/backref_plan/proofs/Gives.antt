@@ -1,40 +1,40 @@
 -- Laws of the calls that add references, one for each way out. Assumes nothing.
 use mathlib.Core.Path.{_≡_, refl, sym, ap, subst, _∙_}
 use mathlib.Core.Logic.{_⊎_, inl, inr}
-use mathlib.Core.Bool.{Bool, true, false, not, _&&_, _||_, cond}
-use mathlib.Core.List.{List, [], _∷_, _++_}
+use mathlib.Core.Bool.{Bool, true, false, not, _&&_, _||_}
+use mathlib.Core.List.{List, [], _∷_}
 use Prim.Native.Nat.{ℕ, _+_, _-_, _^_, _≤_, _<_}
 use native.Mathlib.Omega.{arith}
-use lib.Dec.{T, eqb, ltb, lt→ltb, le→leb}
+use lib.Dec.{T, eqb}
 use lib.ListN.{length, take}
 use borrow.Author.Tests.{le-ltb, lt-ltb}
-use Rattle.fields.specs.Lists.{all, Cut, cut}
+use Rattle.fields.specs.Lists.{all}
 use Rattle.fields.specs.Numbers.{le, areBytes}
 use Rattle.fields.specs.Parts.{part}
 use Rattle.fields.proofs.Lists.{lt-or}
 use Rattle.format.specs.Questions.{Answer, refused, accepted, ask, bind}
-use Rattle.format.specs.References.{payloadLength, counted, Ref, ref, refBytes, refsBytes, totalOf, startOf, Body, bodyWith, readBody, bodyBytes}
-use Rattle.format.specs.Bodies.{onBody, weighed, raisedBy, Spot, gap, standing, spotAnywhere, isGap, standingWeight, addedAt, addAt, keyedAt}
-use Rattle.format.proofs.Bodies.{read-total, read-long}
+use Rattle.format.specs.References.{payloadLength, counted, Ref, refBytes, totalOf, startOf, Body, bodyWith, readBody, bodyBytes}
+use Rattle.format.specs.Bodies.{weighed, raisedBy, Spot, gap, standing, spotAnywhere, isGap, standingWeight, addedAt, addAt, keyedAt}
+use Rattle.format.proofs.Bodies.{read-total}
 use Rattle.format.proofs.Splices.{refsBytes-one}
 use Rattle.inline_refs.specs.declared.wanted.Wanted.{Wanted}
 use Rattle.inline_refs.specs.declared.scan.Seen.{Seen}
 use Rattle.inline_refs.specs.declared.scan.Seen.the-variants.{Open, Gap, Hit, Late}
-use Rattle.inline_refs.specs.declared.scan.Scan.the-variants.{Fault, Read as Scanned}
+use Rattle.inline_refs.specs.declared.scan.Scan.the-variants.{Fault}
 use Rattle.inline_refs.specs.declared.site.Site.{Site}
 use Rattle.inline_refs.specs.declared.site.Site.the-variants.{Gap as NewAt, Standing}
-use Rattle.inline_refs.specs.Scans.{kindOf, fieldsOf, isWanted, scanOf, refsIn}
-use Rattle.inline_refs.specs.Sites.{siteAnywhere, siteByScan, kinIn}
+use Rattle.inline_refs.specs.Scans.{kindOf, fieldsOf, scanOf, refsIn}
+use Rattle.inline_refs.specs.Sites.{siteAnywhere, kinIn}
 use Rattle.inline_refs.proofs.Views.{View, anyKin}
-use Rattle.inline_refs.proofs.Spots.{SpotView, Stands, spot-anywhere, spot-by-scan}
+use Rattle.inline_refs.proofs.Spots.{SpotView, spot-anywhere, spot-by-scan}
 use Rattle.backref_plan.specs.declared.plan.Outcome.the-variants.{Refused}
 use Rattle.backref_plan.specs.declared.plan.Plan.{Plan}
 use Rattle.backref_plan.specs.Plans.{Planned}
 use Rattle.backref_plan.specs.Adds.{newRef, ownPlace, spotOf, siteOf, Raised, addInline, addKeyed}
 use Rattle.backref_plan.proofs.Writes.{Holds, wanted-small}
-use Rattle.backref_plan.proofs.Outcomes.{plan-refused, plan-same}
+use Rattle.backref_plan.proofs.Outcomes.{plan-refused}
 use Rattle.backref_plan.proofs.Heads.{raised-yes, raised-no}
-use Rattle.backref_plan.proofs.Sites.{ReadIn, scan-reads, scan-faults, on-body, ends, placed, planOf, site-plan, wanted-is}
+use Rattle.backref_plan.proofs.Sites.{ReadIn, scan-faults, on-body, ends, placed, planOf, site-plan, wanted-is}
 
 or-true : (b : Bool) → b || true ≡ true
 or-true true = refl

@@ -1,6 +1,5 @@
 -- Laws of the calls that read no references. Assumes nothing.
 use mathlib.Core.Path.{_≡_, refl, sym, ap, subst, _∙_}
-use mathlib.Core.Bool.{true, false, cond}
 use mathlib.Core.List.{List, [], _++_, append-nil}
 use Prim.Native.Nat.{ℕ, _+_, _-_, _^_, _≤_, _<_}
 use native.Mathlib.Omega.{arith}
@@ -15,11 +14,11 @@ use Rattle.fields.proofs.Numbers.{areBytes-take, leBytes-le-at, length-leBytes}
 use Rattle.fields.proofs.Parts.{length-written, written-front, spliced-written}
 use Rattle.format.specs.Questions.{Answer, refused, accepted, ask, bind}
 use Rattle.format.specs.References.{totalOf, flagsOf}
-use Rattle.format.specs.Bodies.{bodyFits, onHead, raisedBy, loweredByOne, reducedBy, onTotal, raiseTotal, lowerTotal, reduceTotal, withFlags}
+use Rattle.format.specs.Bodies.{bodyFits, onHead, raisedBy, loweredByOne, reducedBy, onTotal, withFlags}
 use Rattle.inline_refs.proofs.Steps.{by-test}
 use Rattle.backref_plan.specs.declared.plan.Outcome.the-variants.{Edit, Refused}
 use Rattle.backref_plan.specs.declared.plan.Plan.{Plan}
-use Rattle.backref_plan.specs.Plans.{edited, EditIn, Planned}
+use Rattle.backref_plan.specs.Plans.{edited, Planned}
 use Rattle.backref_plan.specs.Heads.{headOf}
 use Rattle.backref_plan.proofs.Outcomes.{plan-edit, plan-refused}
 

@@ -1,22 +1,22 @@
 -- Laws of the call on a data reference's item, one for each way out. Assumes nothing.
-use mathlib.Core.Path.{_≡_, refl, sym, ap, subst, _∙_}
-use mathlib.Core.Bool.{Bool, true, false, not, _&&_, cond}
+use mathlib.Core.Path.{_≡_, refl, sym, subst, _∙_}
+use mathlib.Core.Bool.{Bool, true, false}
 use mathlib.Core.List.{List}
-use Prim.Native.Nat.{ℕ, _+_, _-_, _≤_, _<_}
+use Prim.Native.Nat.{ℕ, _-_, _≤_, _<_}
 use native.Mathlib.Omega.{arith}
 use lib.Dec.{T}
-use lib.ListN.{length, take, replicate}
+use lib.ListN.{length, replicate}
 use borrow.Author.Tests.{le-leb, lt-leb, eq-eqb, ne-eqb}
 use Rattle.fields.specs.Lists.{same}
 use Rattle.fields.specs.Numbers.{le, leBytes, words, areBytes}
 use Rattle.fields.specs.Parts.{part, written}
 use Rattle.fields.proofs.Numbers.{length-leBytes}
 use Rattle.format.specs.declared.DataRef.{DataRef}
-use Rattle.format.specs.Questions.{Answer, refused, remove, accepted, ask}
+use Rattle.format.specs.Questions.{ask}
 use Rattle.format.specs.Bodies.{bodyFits, triple, keyedCount, dropKeyedDataRef}
 use Rattle.backref_plan.specs.declared.plan.Outcome.the-variants.{Edit, Remove, Refused}
 use Rattle.backref_plan.specs.declared.plan.Plan.{Plan}
-use Rattle.backref_plan.specs.Plans.{edited, EditIn, Planned}
+use Rattle.backref_plan.specs.Plans.{edited, Planned}
 use Rattle.backref_plan.proofs.Outcomes.{plan-edit, plan-refused, plan-remove}
 use Rattle.backref_plan.proofs.Heads.{rewritten, word-front}
 

@@ -5,7 +5,7 @@ use Prim.Native.Nat.{ℕ, _+_, _-_, _≤_, _<_}
 use native.Mathlib.Omega.{arith}
 use lib.ListN.{length, take, drop}
 use Rattle.fields.specs.Numbers.{leBytes}
-use Rattle.fields.specs.Parts.{written, spliced}
+use Rattle.fields.specs.Parts.{written}
 use Rattle.format.specs.declared.Edited.{Edited}
 use Rattle.format.specs.declared.Edited.the-variants.{Written, Absent as NoMatch, Remove as Gone, Refused as Denied}
 use Rattle.format.specs.Questions.{Answer, refused, absent, remove, accepted, bind, held, lent, editedOf, Answered}

@@ -1,35 +1,34 @@
 -- Laws of a scanned body: what the scan says of the reading, and an edit of the references as a splice of the bytes.
 -- Assumes nothing.
 use mathlib.Core.Path.{_≡_, refl, sym, ap, subst, _∙_}
-use mathlib.Core.Bool.{Bool, true, false, not, _&&_, cond}
+use mathlib.Core.Bool.{true, false, _&&_}
 use mathlib.Core.List.{List, [], _∷_, _++_}
-use Prim.Native.Nat.{ℕ, _+_, _-_, _≤_, _<_}
+use Prim.Native.Nat.{ℕ, _+_, _≤_}
 use native.Mathlib.Omega.{arith}
-use lib.Dec.{T, eqb, leb, eqb→eq, leb→le}
-use lib.ListN.{length, take, drop, length-append}
+use lib.Dec.{T, eqb, leb, eqb→eq}
+use lib.ListN.{length, take, length-append}
 use mir.Facts.{and-yes}
-use Rattle.fields.specs.Lists.{sum, all, same, Cut, cut}
+use Rattle.fields.specs.Lists.{sum, all, same, cut}
 use Rattle.fields.specs.Numbers.{leBytes, areBytes}
 use Rattle.fields.specs.Parts.{written, spliced}
 use Rattle.fields.proofs.Lists.{all-left, all-right, same-yes}
-use Rattle.format.specs.Questions.{Answer, refused, absent, remove, accepted, ask, bind}
+use Rattle.format.specs.Questions.{Answer, refused, accepted, ask, bind}
 use Rattle.format.specs.References.{Ref, ref, refBytes, refsBytes, startOf, Body, bodyWith, readBody, bodyBytes}
 use Rattle.format.specs.Bodies.{bodyFits, onBody, named}
-use Rattle.format.proofs.Answers.{accepted-inj}
-use Rattle.format.proofs.Refs.{whole, whole-out, length-refBytes, refsBytes-append}
-use Rattle.format.proofs.Bodies.{Read, read-out, read-start, read-sound, bodyBytes-read, length-bodyBytes, start-least, ReadsBody, body, short, strange, cutOff, readBody-decides}
+use Rattle.format.proofs.Refs.{whole, length-refBytes, refsBytes-append}
+use Rattle.format.proofs.Bodies.{read-start, read-sound, bodyBytes-read, length-bodyBytes, start-least, ReadsBody, body, short, strange, cutOff, readBody-decides}
 use Rattle.format.proofs.Splices.{body-edit}
 use Rattle.inline_refs.specs.declared.wanted.Wanted.{Wanted}
 use Rattle.inline_refs.specs.declared.scan.Seen.{Seen}
 use Rattle.inline_refs.specs.declared.scan.Seen.the-variants.{Open}
 use Rattle.inline_refs.specs.declared.scan.Scan.the-variants.{Fault, Read as Scanned}
-use Rattle.inline_refs.specs.Scans.{kindOf, fieldsOf, isWanted, sizeOf, walk, scanOf, refsIn}
+use Rattle.inline_refs.specs.Scans.{kindOf, fieldsOf, isWanted, sizeOf, scanOf, refsIn}
 use borrow.Author.Tests.{le-leb, leb-true}
 use Rattle.inline_refs.proofs.Steps.{by-test}
 use Rattle.inline_refs.proofs.Views.{Between, View, viewed}
 use Rattle.backref_plan.specs.declared.plan.Outcome.the-variants.{Edit}
 use Rattle.backref_plan.specs.declared.plan.Plan.{Plan}
-use Rattle.backref_plan.specs.Plans.{edited, EditIn, Planned}
+use Rattle.backref_plan.specs.Plans.{edited, Planned}
 use Rattle.backref_plan.proofs.Outcomes.{plan-edit}
 
 -- ---- a body is read, or a question is answered "no"

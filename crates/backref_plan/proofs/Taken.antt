@@ -1,33 +1,31 @@
 -- Laws of a plan that takes a reference out whole: its ways out, and what the writer of it answers. Assumes nothing.
-use mathlib.Core.Path.{_≡_, refl, sym, ap, subst, _∙_}
+use mathlib.Core.Path.{_≡_, refl, sym, ap, _∙_}
 use mathlib.Core.Bool.{Bool, true, false, _&&_}
 use mathlib.Core.List.{List, [], _∷_, _++_}
-use mathlib.Core.Option.{none, some}
 use Prim.Native.Nat.{ℕ}
 use native.Mathlib.Omega.{arith}
 use lib.Dec.{T, leb}
 use lib.ListN.{length, replicate}
-use Rattle.fields.specs.Lists.{Cut, cut}
 use Rattle.fields.specs.Numbers.{le, areBytes}
 use Rattle.fields.specs.Parts.{part}
 use Rattle.format.specs.declared.Edited.{Edited}
 use Rattle.format.specs.declared.Taken.{Taken}
 use Rattle.format.specs.Questions.{Answer, refused, absent, remove, accepted, ask, bind, found, held, lent, editedOf, takenOf, bytesOf, TakenOut, Answered, AnsweredTaken}
-use Rattle.format.specs.References.{Ref, refsBytes, totalOf, startOf, Body, bodyWith, bodyBytes}
-use Rattle.format.specs.Bodies.{bodyFits, heldBody, heldTaken, onBody}
+use Rattle.format.specs.References.{refsBytes, totalOf, startOf, bodyWith, bodyBytes}
+use Rattle.format.specs.Bodies.{bodyFits, heldBody, heldTaken}
 use Rattle.format.proofs.Bodies.{read-total}
 use Rattle.inline_refs.specs.declared.wanted.Wanted.{Wanted}
 use Rattle.inline_refs.specs.declared.scan.Seen.{Seen}
 use Rattle.inline_refs.specs.declared.scan.Seen.the-variants.{Open}
 use Rattle.inline_refs.specs.declared.scan.Scan.the-variants.{Fault}
 use Rattle.inline_refs.specs.declared.site.Found.the-variants.{At, Nothing}
-use Rattle.inline_refs.specs.Scans.{kindOf, fieldsOf, isWanted, scanOf, refsIn}
+use Rattle.inline_refs.specs.Scans.{isWanted, scanOf, refsIn}
 use Rattle.inline_refs.specs.Sites.{hitOf}
 use Rattle.inline_refs.proofs.Views.{CutAt}
 use Rattle.inline_refs.proofs.Spots.{cut-between, found-view}
 use Rattle.backref_plan.specs.declared.plan.Outcome.the-variants.{Absent, Refused}
 use Rattle.backref_plan.specs.declared.plan.Plan.{Plan}
-use Rattle.backref_plan.specs.Plans.{planAnswer, planTaken, PlanIn, Planned, PlannedTaken}
+use Rattle.backref_plan.specs.Plans.{planAnswer, planTaken, Planned, PlannedTaken}
 use Rattle.backref_plan.specs.Takes.{takeInline, takenFrom}
 use Rattle.backref_plan.proofs.Outcomes.{plan-refused, plan-absent}
 use Rattle.backref_plan.proofs.Sites.{ReadIn, scan-faults, on-body, placed, planOf, site-plan}

@@ -1,25 +1,24 @@
 -- Laws of the calls that take references away, one for each way out. Assumes nothing.
-use mathlib.Core.Path.{_≡_, refl, sym, ap, subst, _∙_}
-use mathlib.Core.Bool.{Bool, true, false, cond}
-use mathlib.Core.Option.{none, some}
+use mathlib.Core.Path.{_≡_, refl, sym, ap, _∙_}
+use mathlib.Core.Bool.{false}
 use mathlib.Core.List.{List, [], _∷_, _++_}
 use Prim.Native.Nat.{ℕ, _+_, _-_, _≤_, _<_}
 use native.Mathlib.Omega.{arith}
-use lib.Dec.{T, ltb}
-use lib.ListN.{length, take, replicate}
-use borrow.Author.Tests.{le-leb, lt-leb, lt-ltb, le-ltb}
-use Rattle.fields.specs.Lists.{Cut, cut}
+use lib.Dec.{T}
+use lib.ListN.{take, replicate}
+use borrow.Author.Tests.{lt-ltb, le-ltb}
+use Rattle.fields.specs.Lists.{Cut}
 use Rattle.fields.specs.Numbers.{le, areBytes}
 use Rattle.fields.specs.Parts.{part}
-use Rattle.format.specs.Questions.{Answer, refused, absent, accepted, ask, bind, found}
-use Rattle.format.specs.References.{payloadLength, Ref, ref, refBytes, refsBytes, totalOf, startOf, Body, bodyWith, readBody, bodyBytes}
-use Rattle.format.specs.Bodies.{onBody, less, weighed, loweredByOne, dropInline}
-use Rattle.format.proofs.Bodies.{read-total, read-long}
+use Rattle.format.specs.Questions.{Answer, accepted, bind, found}
+use Rattle.format.specs.References.{payloadLength, Ref, ref, refBytes, refsBytes, startOf, Body, bodyWith, bodyBytes}
+use Rattle.format.specs.Bodies.{less, weighed, loweredByOne, dropInline}
+use Rattle.format.proofs.Bodies.{read-total}
 use Rattle.format.proofs.Splices.{refsBytes-one}
 use Rattle.inline_refs.specs.declared.wanted.Wanted.{Wanted}
 use Rattle.inline_refs.specs.declared.scan.Seen.{Seen}
 use Rattle.inline_refs.specs.declared.scan.Seen.the-variants.{Open}
-use Rattle.inline_refs.specs.declared.scan.Scan.the-variants.{Fault, Read as Scanned}
+use Rattle.inline_refs.specs.declared.scan.Scan.the-variants.{Fault}
 use Rattle.inline_refs.specs.declared.site.Found.the-variants.{At, Nothing}
 use Rattle.inline_refs.specs.Scans.{kindOf, fieldsOf, isWanted, scanOf, refsIn}
 use Rattle.inline_refs.specs.Sites.{hitOf}
@@ -31,7 +30,7 @@ use Rattle.backref_plan.specs.Plans.{Planned}
 use Rattle.backref_plan.proofs.Writes.{Holds}
 use Rattle.backref_plan.proofs.Outcomes.{plan-absent, plan-refused}
 use Rattle.backref_plan.proofs.Heads.{lowered-yes, lowered-no}
-use Rattle.backref_plan.proofs.Sites.{ReadIn, scan-reads, scan-faults, on-body, placed, planOf, site-plan, wanted-is}
+use Rattle.backref_plan.proofs.Sites.{ReadIn, scan-faults, on-body, placed, planOf, site-plan, wanted-is}
 
 module _ (type : ℕ) (d : List ℕ) (w : Wanted) (plan : Plan) where
   abbrev dropped : Answer (List ℕ)

@@ -10,7 +10,7 @@ use Rattle.fields.specs.Parts.{part, written, spliced}
 use Rattle.fields.proofs.Numbers.{length-leBytes}
 use Rattle.fields.proofs.Parts.{part-all, part-rest, length-part, length-written, written-next, written-front, spliced-written}
 use Rattle.format.specs.References.{rowIn, payloadLength, countPosition, counted, ref, refBytes}
-use Rattle.format.specs.Bodies.{one, triple}
+use Rattle.format.specs.Bodies.{one}
 use Rattle.format.specs.declared.DataRef.{DataRef}
 use Rattle.inline_refs.specs.Scans.{kindOf, fieldsOf}
 use Rattle.inline_refs.specs.declared.wanted.Wanted.{Wanted}

@@ -1,11 +1,11 @@
 -- Where an added reference goes, by the wanted name. Assumes nothing.
 use mathlib.Core.Path.{_≡_}
-use mathlib.Core.Bool.{Bool, true, false, cond}
+use mathlib.Core.Bool.{Bool, true, false}
 use mathlib.Core.List.{List}
 use Prim.Native.Nat.{ℕ, _+_, _-_, _≤_, _<_}
 use lib.ListN.{length, take}
 use Rattle.format.specs.Questions.{Answer}
-use Rattle.format.specs.References.{payloadLength, Ref, ref, refBytes, Body, placeOf}
+use Rattle.format.specs.References.{payloadLength, Ref, ref, refBytes, placeOf}
 use Rattle.format.specs.Bodies.{onBody, Spot, spotAnywhere, spotByScan, addAt, keyedAt}
 use Rattle.inline_refs.specs.declared.wanted.Wanted.{Wanted}
 use Rattle.inline_refs.specs.declared.scan.Seen.{Seen}

@@ -1,7 +1,7 @@
 -- A planned edit of a body: what it answers on the body that it was planned for. Assumes nothing.
 use mathlib.Core.Path.{_≡_}
 use mathlib.Core.List.{List}
-use Prim.Native.Nat.{ℕ, _+_, _≤_}
+use Prim.Native.Nat.{ℕ, _≤_}
 use lib.ListN.{length, take}
 use Rattle.fields.specs.Numbers.{leBytes}
 use Rattle.fields.specs.Parts.{written, spliced}

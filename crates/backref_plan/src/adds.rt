@@ -10,7 +10,7 @@ ghost use mathlib.Core.Path.{_≡_};
 ghost use mathlib.Core.Bool.{_||_, not};
 ghost use lib.Dec.{eqb};
 ghost use Rattle.format.specs.References.{counted};
-ghost use Rattle.inline_refs.specs.Scans.{kindOf, fieldsOf};
+ghost use Rattle.inline_refs.specs.Scans.{kindOf};
 ghost use Rattle.backref_plan.specs.Plans.{Planned};
 ghost use Rattle.backref_plan.specs.Adds.{ownPlace, siteOf, Raised, addInline, addKeyed};
 

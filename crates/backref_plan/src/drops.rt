@@ -7,7 +7,6 @@ use crate::plan::without;
 use inline_refs::Found;
 use inline_refs::Scan;
 use inline_refs::Wanted;
-ghost use mathlib.Core.Path.{_≡_};
 ghost use Rattle.format.specs.Bodies.{dropInline};
 ghost use Rattle.inline_refs.specs.Scans.{kindOf, fieldsOf};
 ghost use Rattle.backref_plan.specs.Plans.{Planned, PlannedTaken};

@@ -1,6 +1,5 @@
 // Planned edits of a body: an edit is planned first and written later, so that a call on a sheet needs no second buffer.
 ghost use mathlib.Core.Path.{_≡_};
-ghost use lib.ListN.{take};
 ghost use Rattle.backref_plan.specs.Plans.{planned};
 
 pub enum Outcome {

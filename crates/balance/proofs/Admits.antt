@@ -6,19 +6,17 @@ use native.Mathlib.Nat.{suc-mul, zero-mul, add-comm}
 use mathlib.Core.Logic.{_⊎_, inl, inr}
 use mathlib.Core.Bool.{Bool, true, false, not, _&&_, _||_, cond}
 use mathlib.Core.List.{List, [], _∷_, _++_}
-use lib.Dec.{T, leb, ltb, eqb}
-use lib.ListN.{length, drop}
+use lib.Dec.{T, leb, eqb}
+use lib.ListN.{drop}
 use borrow.Author.Tests.{eq-eqb, ne-eqb, le-leb, lt-leb, lt-ltb, le-ltb}
-use Rattle.fields.specs.Lists.{sum, all, same}
+use Rattle.fields.specs.Lists.{all, same}
 use Rattle.fields.specs.Numbers.{words}
-use Rattle.fields.proofs.Lists.{eqb-same, lt-or}
-use Rattle.format.specs.Questions.{Answer, refused, absent, remove, accepted, bind}
+use Rattle.fields.proofs.Lists.{lt-or}
 use Rattle.format.specs.References.{rowIn, known, payloadLength, countPosition, counted, fieldCount, Ref, refAt, place, falls}
-use Rattle.format.specs.Bodies.{named, triple}
+use Rattle.format.specs.Bodies.{named}
 use Rattle.distinct_triples.specs.Triples.{tripleOf, Distinct}
 use Rattle.distinct_triples.proofs.Orders.{none-twice}
-use Rattle.balance_laws.specs.Runs.{Run, start, joins, kept, after, apart, weighs, admits, sound}
-use Rattle.balance_laws.specs.Tally.{weightIn}
+use Rattle.balance_laws.specs.Runs.{Run, start, joins, kept, after, apart, weighs, admits}
 use Rattle.balance.specs.declared.record.Run.{Run as Passed}
 use Rattle.balance.specs.declared.record.Admitted.{Admitted}
 use Rattle.balance.specs.declared.record.Admitted.the-variants.{Yes, No}

@@ -1,28 +1,27 @@
 -- The form of a reference item, as code tests it. Assumes nothing.
-use mathlib.Core.Path.{_≡_, refl, sym, ap, ap₂, _∙_, subst}
-use Prim.Native.Nat.{ℕ, _+_, _≤_}
+use mathlib.Core.Path.{_≡_, refl, sym, ap, ap₂, _∙_}
+use Prim.Native.Nat.{ℕ}
 use native.Mathlib.Omega.{arith}
-use mathlib.Core.Bool.{Bool, true, false, not, _&&_, cond}
-use mathlib.Core.List.{List, [], _∷_}
-use lib.Dec.{T, eqb}
+use mathlib.Core.Bool.{Bool, true, false, _&&_}
+use mathlib.Core.List.{List}
+use lib.Dec.{T}
 use lib.ListN.{length, take, drop}
 use lib.Seq.{take-all}
 use borrow.Author.Tests.{eq-eqb, ne-eqb}
 use Rattle.fields.specs.Numbers.{le, words}
 use Rattle.fields.specs.Parts.{part}
 use Rattle.format.specs.declared.DataRef.{DataRef}
-use Rattle.format.specs.References.{known, rowIn, payloadLength, countPosition, counted, fieldCount, weightOf, Ref, ref, refAt, place, placeOf}
+use Rattle.format.specs.References.{rowIn, countPosition, counted, fieldCount, weightOf, ref, refAt, place, placeOf}
 use Rattle.format.specs.Bodies.{one, triple}
 use Rattle.format.specs.Items.{Item}
-use Rattle.format.specs.Names.{reference, malformed, isRefItem, inForm, viewRefItem}
+use Rattle.format.specs.Names.{reference, isRefItem, inForm, viewRefItem}
 use Rattle.inline_refs.specs.declared.wanted.Wanted.{Wanted}
 use Rattle.inline_refs.specs.declared.wanted.Wanted.the-variants.{Block, Data, SharedBlock, SharedData}
 use Rattle.inline_refs.specs.Scans.{kindOf, fieldsOf}
 use Rattle.balance_laws.proofs.Says.{naming-of}
 use Rattle.history.proofs.Naming.{Naming as Kinds, is176, is178, is182, is184}
-use Rattle.balance.specs.declared.reference.Named.{Named}
 use Rattle.balance.specs.declared.reference.Named.the-variants.{Of, Bad}
-use Rattle.balance.specs.Groups.{NameOf, Naming}
+use Rattle.balance.specs.Groups.{Naming}
 
 and-false : (b : Bool) → (b && false) ≡ false
 and-false true = refl

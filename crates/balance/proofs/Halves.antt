@@ -1,19 +1,18 @@
 -- The search by halves among references of one type, and the scan over those of one place. Assumes nothing.
 use mathlib.Core.Path.{_≡_, refl, sym, ap, ap₂, _∙_, subst}
 use mathlib.Core.Logic.{_≢_, _⊎_, inl, inr}
-use Prim.Native.Nat.{ℕ, zero, suc, _+_, _-_, _*_, _≤_, _<_}
+use Prim.Native.Nat.{ℕ, _+_, _-_, _*_, _≤_, _<_}
 use native.Mathlib.Nat.{mul-le-mul-right}
 use native.Mathlib.Omega.{arith}
-use mathlib.Core.Bool.{Bool, true, false, not, _&&_, cond}
-use mathlib.Core.List.{List, [], _∷_}
+use mathlib.Core.Bool.{Bool, true, false, not, cond}
+use mathlib.Core.List.{List}
 use lib.Dec.{T, ltb}
 use lib.ListN.{length, drop}
 use borrow.Author.Tests.{ltb-true, ltb-false}
 use mir.Facts.{T-not, not-T}
 use Rattle.fields.specs.Lists.{all}
 use Rattle.fields.proofs.Lists.{T-eq, lt-or}
-use Rattle.format.specs.References.{known, payloadLength, Ref, refAt, place, placeOf}
-use Rattle.format.specs.Bodies.{named}
+use Rattle.format.specs.References.{payloadLength, Ref, refAt, place, placeOf}
 use Rattle.history.proofs.Order.{named-yes}
 use Rattle.inline_refs.specs.declared.wanted.Wanted.{Wanted}
 use Rattle.inline_refs.specs.Scans.{kindOf, fieldsOf, isWanted}

@@ -1,11 +1,11 @@
 -- A record as code reads it, and what it says to the pass. Assumes nothing.
-use mathlib.Core.Path.{_≡_, refl, sym, ap, ap₂, _∙_, subst}
-use Prim.Native.Nat.{ℕ, _+_, _-_, _*_, _≤_, _<_}
+use mathlib.Core.Path.{_≡_, refl, sym, ap, _∙_, subst}
+use Prim.Native.Nat.{ℕ, _+_, _-_, _≤_}
 use native.Mathlib.Nat.{le-refl}
 use native.Mathlib.Omega.{arith}
-use mathlib.Core.Bool.{Bool, true, false, not, _&&_, _||_, cond}
-use mathlib.Core.Option.{Option, none, some}
-use mathlib.Core.List.{List, [], _∷_}
+use mathlib.Core.Bool.{Bool, true, false, not, _&&_, cond}
+use mathlib.Core.Option.{none, some}
+use mathlib.Core.List.{List}
 use lib.Dec.{T, leb}
 use lib.ListN.{length, take, drop, length-drop}
 use borrow.Author.Tests.{le-leb}
@@ -20,10 +20,9 @@ use Rattle.format.specs.References.{Ref, Body, totalOf, startOf, readRefs, read
 use Rattle.format.specs.Bodies.{bodyFits, onBody}
 use Rattle.format.specs.Items.{Item}
 use Rattle.format.specs.Apply.{isRecord}
-use Rattle.format.specs.Names.{View, extentRecord, malformed, unrelated, isRefItem, viewRecord, viewRefItem, viewOf}
+use Rattle.format.specs.Names.{viewRecord, viewOf}
 use Rattle.format.proofs.Answers.{refused-not, absent-not, remove-not, accepted-inj}
 use Rattle.format.proofs.Refs.{readRefs-enough}
-use Rattle.inline_refs.specs.declared.start.Start.{Start}
 use Rattle.inline_refs.specs.declared.start.Start.the-variants.{From, Refused as Shut}
 use Rattle.inline_refs.specs.Steps.{readFrom, openOf}
 use Rattle.inline_refs.specs.Scans.{refsIn}
@@ -36,8 +35,8 @@ use Rattle.balance.specs.declared.record.Weighed.the-variants.{Of, Bad a
 use Rattle.balance.specs.declared.group.Group.{Group}
 use Rattle.balance.specs.declared.group.Turn.the-variants.{Next, Bad}
 use Rattle.balance.specs.Spans.{weighing, weighedOf, Light}
-use Rattle.balance.specs.Places.{refsRead, refsFrom, Readable}
-use Rattle.balance.specs.Groups.{itemOf, bodyOf, tallyOf, afterRecord, Body as Stored, Kept, Taking}
+use Rattle.balance.specs.Places.{refsRead, refsFrom}
+use Rattle.balance.specs.Groups.{itemOf, tallyOf, afterRecord, Taking}
 use Rattle.balance.proofs.Steps.{read-is}
 
 -- ---- a weight comes from references that read

@@ -1,39 +1,32 @@
 -- A reference item as code reads it, and what it says to the pass. Assumes nothing.
-use mathlib.Core.Path.{_≡_, refl, sym, ap, ap₂, _∙_, subst}
+use mathlib.Core.Path.{_≡_, refl, sym, ap, _∙_, subst}
 use mathlib.Core.Logic.{_≢_}
-use Prim.Native.Nat.{ℕ, _+_, _-_, _*_, _≤_, _<_}
+use Prim.Native.Nat.{ℕ, _+_, _≤_, _<_}
 use native.Mathlib.Omega.{arith}
-use mathlib.Core.Bool.{Bool, true, false, not, _&&_, _||_, cond}
-use mathlib.Core.Option.{Option, none, some}
-use mathlib.Core.List.{List, [], _∷_}
-use lib.Dec.{T, leb, eqb, eqb→eq}
-use lib.ListN.{length}
-use mir.Facts.{and-yes, T-not, not-T, yes-eqb}
+use mathlib.Core.Bool.{Bool, true, false, not, _&&_, cond}
+use mathlib.Core.Option.{none, some}
+use mathlib.Core.List.{List}
+use lib.Dec.{T, leb}
+use mir.Facts.{not-T}
 use borrow.Author.Tests.{le-leb, lt-leb}
-use Rattle.fields.specs.Lists.{all}
-use Rattle.fields.specs.Parts.{part}
-use Rattle.fields.proofs.Lists.{T-eq}
 use Rattle.format.specs.declared.Key.{Key}
-use Rattle.format.specs.References.{known, payloadLength, Ref, ref, ordered}
-use Rattle.format.specs.Bodies.{named}
+use Rattle.format.specs.References.{known, payloadLength, Ref, ref}
 use Rattle.format.specs.Items.{Item}
-use Rattle.format.specs.Apply.{isRecord}
-use Rattle.format.specs.Names.{View, reference, malformed, unrelated, isRefItem, viewRefItem, viewOf}
-use Rattle.history.proofs.Naming.{Naming as Kinds, above-172, naming-known}
+use Rattle.format.specs.Names.{View, reference, malformed, isRefItem, viewRefItem, viewOf}
+use Rattle.history.proofs.Naming.{above-172, naming-known}
 use Rattle.history.proofs.Order.{named-yes}
 use Rattle.history.proofs.Facts.{view-item}
 use Rattle.inline_refs.specs.declared.wanted.Wanted.{Wanted}
 use Rattle.inline_refs.specs.Scans.{kindOf, fieldsOf, isWanted}
-use Rattle.balance_laws.specs.Tally.{Tally, taken, unnamed}
+use Rattle.balance_laws.specs.Tally.{taken, unnamed}
 use Rattle.balance_laws.proofs.Says.{naming-of}
 use Rattle.balance.specs.declared.span.Span.{Span}
 use Rattle.balance.specs.declared.group.Group.{Group}
 use Rattle.balance.specs.declared.group.Turn.the-variants.{Next, Bad}
 use Rattle.balance.specs.declared.reference.Named.{Named}
 use Rattle.balance.specs.declared.reference.Named.the-variants.{Of, Bad as NoForm}
-use Rattle.balance.specs.Spans.{spanRefs}
-use Rattle.balance.specs.Places.{refsFrom, Spanned, absentIn}
-use Rattle.balance.specs.Groups.{itemOf, bodyOf, tallyOf, Body as Stored, NameOf, Naming, Kept, Taking}
+use Rattle.balance.specs.Places.{Spanned, absentIn}
+use Rattle.balance.specs.Groups.{itemOf, bodyOf, tallyOf, NameOf, Naming, Kept, Taking}
 
 pub ref-known : (i : Item) → T (isRefItem i) → T (known (i .key .kind))
 ref-known i t = naming-known (i .key .kind) (naming-of i t)

@@ -1,5 +1,5 @@
 -- The size of a reference from the row of its type. Assumes nothing.
-use mathlib.Core.Path.{_≡_, refl, sym, ap, _∙_}
+use mathlib.Core.Path.{_≡_}
 use Prim.Native.Nat.{ℕ, _≤_}
 use native.Mathlib.Omega.{arith}
 use mathlib.Core.List.{List, [], _∷_}
@@ -7,7 +7,6 @@ use lib.Dec.{T, leb}
 use lib.ListN.{length, getD}
 use Rattle.format.specs.References.{kinds, rowIn, known, payloadLength}
 use Rattle.format.proofs.Rows.{Kind, k172, k176, k178, k182, k184, known-kind}
-use Rattle.inline_refs.specs.declared.kinds.Row.{Row}
 use Rattle.inline_refs.specs.declared.kinds.Row.the-variants.{Known, Unknown}
 use Rattle.inline_refs.specs.Steps.{rowFrom}
 

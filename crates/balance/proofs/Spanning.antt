@@ -2,21 +2,20 @@
 -- Assumes nothing.
 use mathlib.Core.Path.{_≡_, refl, sym, ap, ap₂, _∙_, subst}
 use mathlib.Core.Logic.{_≢_, _⊎_, inl, inr}
-use Prim.Native.Nat.{ℕ, zero, suc, _+_, _-_, _*_, _≤_, _<_}
-use native.Mathlib.Nat.{suc-mul, zero-mul, add-comm, mul-le-mul-right}
+use Prim.Native.Nat.{ℕ, zero, suc, _+_, _≤_, _<_}
+use native.Mathlib.Nat.{suc-mul, zero-mul}
 use native.Mathlib.Omega.{arith}
-use mathlib.Core.Bool.{Bool, true, false, not, _&&_, _||_, cond}
+use mathlib.Core.Bool.{Bool, true, false, _&&_, cond}
 use mathlib.Core.List.{List, [], _∷_, _++_}
-use lib.Dec.{T, leb, ltb, eqb, eqb-refl, eqb→eq, leb→le, le→leb, ltb→lt, lt→ltb}
-use lib.ListN.{length, drop}
-use mir.Facts.{and-yes, yes-and, T-not, not-T, yes-eqb, no-eqb}
+use lib.Dec.{T, leb, ltb, eqb, eqb-refl, eqb→eq, leb→le, le→leb, ltb→lt}
+use lib.ListN.{drop}
+use mir.Facts.{and-yes, yes-and, T-not, yes-eqb}
 use Rattle.fields.specs.Lists.{all}
-use Rattle.fields.proofs.Lists.{T-eq, all-left, all-right, all-both, all-map, all-two}
+use Rattle.fields.proofs.Lists.{T-eq, all-right, all-map, all-two}
 use Rattle.format.specs.References.{known, payloadLength, Ref, refAt, place, falls, follows, leads, ordered}
 use Rattle.history.proofs.Order.{follows-out, ordered-back, follows-trans}
-use Rattle.balance.specs.declared.span.Span.{Span}
 use Rattle.balance.specs.Spans.{spanRefs}
-use Rattle.balance.specs.Places.{refsRead, refsFrom, reached, left, Skips, Counts, payloadAt, placeAt, Falling, Spanned}
+use Rattle.balance.specs.Places.{refsFrom, reached, left, Skips, Counts, payloadAt, placeAt, Spanned}
 
 -- ---- those of a span, by number
 

@@ -1,26 +1,23 @@
 -- One step over the references of a body, and the references of one type among them. Assumes nothing.
-use mathlib.Core.Path.{_≡_, refl, sym, ap, ap₂, _∙_, subst}
-use mathlib.Core.Logic.{_≢_, _⊎_, inl, inr}
-use Prim.Native.Nat.{ℕ, zero, suc, _+_, _-_, _*_, _≤_, _<_}
-use native.Mathlib.Nat.{suc-mul, zero-mul, add-comm, mul-le-mul-right}
+use mathlib.Core.Path.{_≡_, refl, sym, ap, _∙_, subst}
+use Prim.Native.Nat.{ℕ, _+_, _*_, _≤_, _<_}
+use native.Mathlib.Nat.{suc-mul, zero-mul}
 use native.Mathlib.Numerals.{add-one}
 use native.Mathlib.Omega.{arith}
-use mathlib.Core.Bool.{Bool, true, false, not, _&&_, _||_, cond}
-use mathlib.Core.List.{List, [], _∷_, _++_, append-assoc, append-nil}
-use lib.Dec.{T, leb, ltb, eqb, eqb→eq, leb→le, le→leb, ltb→lt, lt→ltb}
+use mathlib.Core.Bool.{true}
+use mathlib.Core.List.{List, [], _∷_, _++_, append-assoc}
+use lib.Dec.{T, leb, ltb, le→leb, lt→ltb}
 use lib.ListN.{length, drop}
-use mir.Facts.{and-yes, yes-and, T-not, not-T, yes-eqb, no-eqb}
+use mir.Facts.{yes-and, no-eqb}
 use Rattle.fields.specs.Lists.{all}
-use Rattle.fields.proofs.Lists.{T-eq, all-left, all-right, all-both, all-map}
-use Rattle.format.specs.Questions.{Answer, refused, absent, remove, accepted, bind}
-use Rattle.format.specs.References.{known, payloadLength, Ref, refAt, place, falls, follows, leads, ordered}
+use Rattle.fields.proofs.Lists.{all-both}
+use Rattle.format.specs.Questions.{Answer, refused, accepted}
+use Rattle.format.specs.References.{payloadLength, Ref, refAt}
 use Rattle.format.proofs.Answers.{refused-not, accepted-inj, bind-ok}
-use Rattle.history.proofs.Order.{follows-out, ordered-back, follows-trans}
 use Rattle.inline_refs.specs.Steps.{readFrom}
 use Rattle.inline_refs.proofs.Steps.{At}
-use Rattle.balance.specs.declared.span.Span.{Span}
 use Rattle.balance.specs.Spans.{spanRefs}
-use Rattle.balance.specs.Places.{refsRead, refsFrom, Readable, reached, left, Skips, Counts, payloadAt, placeAt, Falling, Spanned}
+use Rattle.balance.specs.Places.{refsRead, refsFrom, reached, left, Skips, Counts, payloadAt}
 use Rattle.balance.proofs.Admits.{span-snoc}
 
 pub mul-next : (n k : ℕ) → (n + 1) * k ≡ n * k + k

@@ -1,19 +1,15 @@
 -- One more item of a sheet, as code takes it, and the pass. Assumes nothing.
 use mathlib.Core.Path.{_≡_, refl, sym, ap, ap₂, _∙_, subst}
-use mathlib.Core.Logic.{_≢_}
-use Prim.Native.Nat.{ℕ, _+_, _-_, _*_, _≤_, _<_}
+use Prim.Native.Nat.{ℕ, _+_, _≤_}
 use native.Mathlib.Omega.{arith}
-use mathlib.Core.Bool.{Bool, true, false, not, _&&_, _||_, cond}
-use mathlib.Core.Option.{Option, none, some}
+use mathlib.Core.Bool.{Bool, true, false, not, cond}
+use mathlib.Core.Option.{Option}
 use mathlib.Core.List.{List, [], _∷_}
 use lib.Dec.{T, eqb}
 use lib.ListN.{length}
-use mir.Facts.{not-T}
 use borrow.Author.Tests.{eq-eqb, ne-eqb}
 use Rattle.fields.specs.Numbers.{areBytes}
-use Rattle.fields.specs.Parts.{part}
 use Rattle.format.specs.declared.Key.{Key}
-use Rattle.format.specs.Questions.{accepted}
 use Rattle.format.specs.References.{rowIn, known}
 use Rattle.format.specs.Items.{Item}
 use Rattle.format.specs.Apply.{isRecord}

@@ -1,18 +1,17 @@
 -- The pass over a record's references, a step at a time. Assumes nothing.
-use mathlib.Core.Path.{_≡_, refl, sym, ap, ap₂, _∙_, subst}
-use Prim.Native.Nat.{ℕ, _+_, _*_, _≤_, _<_}
+use mathlib.Core.Path.{_≡_, refl, sym, ap, ap₂, _∙_}
+use Prim.Native.Nat.{ℕ, _+_}
 use native.Mathlib.Omega.{arith}
-use mathlib.Core.Bool.{Bool, true, false, _&&_, cond}
+use mathlib.Core.Bool.{true, false}
 use mathlib.Core.List.{List, [], _∷_}
-use lib.ListN.{length, drop}
+use lib.ListN.{drop}
 use Rattle.fields.specs.Lists.{sum}
 use Rattle.format.specs.Questions.{Answer, refused, absent, remove, accepted, bind}
 use Rattle.format.specs.References.{Ref, refAt}
 use Rattle.inline_refs.specs.Steps.{readFrom}
 use Rattle.inline_refs.proofs.Steps.{At}
-use Rattle.balance_laws.specs.Runs.{Run, start, kept, admits, sound}
+use Rattle.balance_laws.specs.Runs.{Run, kept, admits, sound}
 use Rattle.balance_laws.specs.Tally.{weightIn}
-use Rattle.balance.specs.declared.record.Weighed.{Weighed}
 use Rattle.balance.specs.declared.record.Weighed.the-variants.{Of, Bad}
 use Rattle.balance.specs.Spans.{spanRefs, runOf, weighing, weighedOf}
 

@@ -1,14 +1,14 @@
 -- What code keeps of the extent at hand, as the tally of the pass; and what its functions say of an item. Assumes nothing.
 use mathlib.Core.Path.{_≡_}
-use mathlib.Core.Bool.{Bool, true, false, not, cond}
-use mathlib.Core.Option.{Option, none, some}
+use mathlib.Core.Bool.{true, false, cond}
+use mathlib.Core.Option.{none, some}
 use mathlib.Core.List.{List, [], _∷_}
 use Prim.Native.Nat.{ℕ, _+_, _-_, _*_, _≤_}
 use lib.Dec.{T}
 use lib.ListN.{length}
 use Rattle.fields.specs.Parts.{part}
 use Rattle.format.specs.declared.Key.{Key}
-use Rattle.format.specs.References.{Ref, ref, placeOf, ordered}
+use Rattle.format.specs.References.{ref, placeOf, ordered}
 use Rattle.format.specs.Items.{Item}
 use Rattle.format.specs.Names.{reference, malformed, viewRefItem, viewOf}
 use Rattle.inline_refs.specs.declared.wanted.Wanted.{Wanted}

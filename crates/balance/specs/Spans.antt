@@ -1,10 +1,9 @@
 -- References of one type that stand side by side, and the pass over a record's references as code makes it. Assumes nothing.
 use mathlib.Core.Path.{_≡_}
-use mathlib.Core.Bool.{Bool, true, false, not, _&&_, _||_, cond}
-use mathlib.Core.List.{List, [], _∷_, _++_}
+use mathlib.Core.Bool.{Bool, true, false, not, cond}
+use mathlib.Core.List.{List, [], _∷_}
 use Prim.Native.Nat.{ℕ, zero, suc, _+_, _*_, _≤_}
-use lib.Dec.{T, leb, ltb, eqb}
-use lib.ListN.{length, drop}
+use lib.ListN.{drop}
 use Rattle.fields.specs.Lists.{sum, all, same}
 use Rattle.format.specs.Questions.{Answer, refused, absent, remove, accepted}
 use Rattle.format.specs.References.{payloadLength, Ref, refAt}

@@ -3,7 +3,7 @@ use inline_refs::Cursor;
 use inline_refs::Row;
 use inline_refs::Step;
 ghost use mathlib.Core.Path.{_≡_};
-ghost use Prim.Native.Nat.{_+_, _*_, _≤_};
+ghost use Prim.Native.Nat.{_+_, _≤_};
 ghost use lib.Dec.{T};
 ghost use lib.ListN.{length};
 ghost use Rattle.format.specs.References.{kinds, known as isKnown, payloadLength, ordered};

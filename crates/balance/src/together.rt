@@ -1,6 +1,5 @@
 // Data references of one hash that are shown to differ all at once, since comparing each with each takes too long where many
 // stand together.
-ghost use mathlib.Core.Path.{_≡_};
 ghost use Prim.Native.Nat.{_+_, _*_, _≤_};
 ghost use lib.ListN.{length};
 ghost use Rattle.distinct_triples.specs.Triples.{Distinct};

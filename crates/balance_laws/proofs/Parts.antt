@@ -1,19 +1,19 @@
 -- Balance as facts about each extent and each name, over what was passed and what is left. Assumes nothing.
-use mathlib.Core.Path.{_≡_, refl, sym, ap, ap₂, _∙_, subst}
+use mathlib.Core.Path.{_≡_, refl, sym, ap, _∙_, subst}
 use mathlib.Core.Logic.{_⊎_, inl, inr}
-use Prim.Native.Nat.{ℕ, _+_, _≤_, _<_}
+use Prim.Native.Nat.{ℕ, _+_, _≤_}
 use native.Mathlib.Omega.{arith}
 use mathlib.Core.Bool.{Bool, true, false, not, _&&_, _||_, cond}
-use mathlib.Core.List.{List, [], _∷_, _++_}
+use mathlib.Core.List.{List, [], _∷_}
 use lib.Dec.{T, eqb, eqb-refl, eqb→eq}
-use mir.Facts.{and-yes, yes-and, T-not, yes-eqb}
+use mir.Facts.{and-yes, yes-and, yes-eqb}
 use Rattle.fields.specs.Lists.{sum, all}
-use Rattle.fields.proofs.Lists.{imp-out, imp-in, or-left, or-right, cond-yes, cond-no, sum-append, all-left, all-right, all-both}
+use Rattle.fields.proofs.Lists.{imp-in, cond-yes, sum-append, all-left, all-right, all-both}
 use Rattle.format.specs.Items.{Item}
 use Rattle.format.specs.Apply.{isRecord, recordOf}
-use Rattle.format.specs.Names.{Name, Entry, isRefItem, viewOf, itemEntries, entries, good, isRecordOf, records, paired, stands, counts, ofExtent, viewTotal, totalled, balanced}
+use Rattle.format.specs.Names.{Name, Entry, isRefItem, viewOf, itemEntries, entries, good, isRecordOf, records, stands, counts, ofExtent, viewTotal, balanced}
 use Rattle.history.proofs.Sums.{counts-out, counts-in}
-use Rattle.history.proofs.Edit.{Balanced, balanced-out, balanced-in}
+use Rattle.history.proofs.Edit.{balanced-out, balanced-in}
 
 -- ---- what an item adds for an extent
 

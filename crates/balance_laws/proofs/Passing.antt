@@ -1,26 +1,25 @@
 -- The pass over the items of a rising list says exactly whether they are balanced. Assumes nothing.
-use mathlib.Core.Path.{_≡_, refl, sym, ap, _∙_, subst}
+use mathlib.Core.Path.{_≡_, refl, sym, _∙_, subst}
 use mathlib.Core.Logic.{_≢_, _⊎_, inl, inr}
-use Prim.Native.Nat.{ℕ, _+_, _≤_, _<_}
+use Prim.Native.Nat.{ℕ, _≤_}
 use native.Mathlib.Omega.{arith}
 use mathlib.Core.Bool.{Bool, true, false, not, _&&_, _||_, cond}
 use mathlib.Core.Option.{Option, none, some}
 use mathlib.Core.List.{List, [], _∷_}
 use lib.Dec.{T, leb, eqb, eqb→eq, le→leb}
 use mir.Facts.{and-yes, yes-and, or-yes, T-not, yes-eqb}
-use Rattle.fields.specs.Lists.{sum, all}
-use Rattle.fields.proofs.Lists.{T-eq, or-left, or-right, cond-yes, cond-no, all-map}
-use Rattle.format.specs.References.{Ref, Body}
+use Rattle.fields.specs.Lists.{all}
+use Rattle.fields.proofs.Lists.{or-left, or-right, cond-yes, cond-no, all-map}
 use Rattle.format.specs.Items.{Item, above, rising}
-use Rattle.format.specs.Names.{Name, View, extentRecord, reference, unrelated, malformed, viewOf, refEntries, entries, wellFormed, good, balanced}
+use Rattle.format.specs.Names.{View, malformed, viewOf, refEntries, entries, wellFormed, good, balanced}
 use Rattle.format.proofs.Refs.{yes-or-no}
 use Rattle.format.proofs.Keys.{Before, below-out, beyond, rising-after}
 use Rattle.format.proofs.Items.{sane, sane-out}
 use Rattle.balance_laws.specs.Runs.{start, sound}
 use Rattle.balance_laws.specs.Tally.{Tally, fresh, closed, unnamed, taken, here, entered, entry, onward, pass}
-use Rattle.balance_laws.proofs.Parts.{Facts, nil, none-named, balanced-facts, facts-balanced, facts-same}
+use Rattle.balance_laws.proofs.Parts.{nil, none-named, balanced-facts, facts-balanced, facts-same}
 use Rattle.balance_laws.proofs.Says.{Says, aRecord, aReference, nothing, bad, says}
-use Rattle.balance_laws.proofs.Extents.{recs, tots, sums, nams, Of, Valid, zero-cond, fresh-valid, far-all, ahead, past, leave, return}
+use Rattle.balance_laws.proofs.Extents.{Of, Valid, zero-cond, fresh-valid, far-all, ahead, past, leave, return}
 use Rattle.balance_laws.proofs.Taking.{marked-by, take-record, record-sound, record-taken, record-first, marked-valid, weighed-by, take-ref, ref-marked, ref-heavy, ref-unnamed, ref-taken, weighed-valid, take-none, none-taken}
 
 ahead-of : (t : Tally) (i : Item) (rest : List Item) → i .key .objectid ≡ t .extent → T (rising (i ∷ rest)) → T (all (ahead t) rest)

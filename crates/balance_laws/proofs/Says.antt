@@ -2,24 +2,24 @@
 -- Assumes nothing.
 use mathlib.Core.Path.{_≡_, refl, sym, ap, ap₂, _∙_, subst}
 use mathlib.Core.Logic.{_≢_, _⊎_, inl, inr}
-use Prim.Native.Nat.{ℕ, _+_, _≤_, _<_}
+use Prim.Native.Nat.{ℕ, _+_, _<_}
 use native.Mathlib.Omega.{arith}
 use mathlib.Core.Bool.{Bool, true, false, not, _&&_, _||_, cond}
-use mathlib.Core.List.{List, [], _∷_, _++_, append-nil}
+use mathlib.Core.List.{List, [], _∷_, append-nil}
 use lib.ListN.{length}
-use lib.Dec.{T, leb, ltb, eqb, eqb-refl, eqb→eq, lt→ltb}
-use mir.Facts.{and-yes, yes-and, or-yes, T-not, not-T, yes-eqb, no-eqb}
+use lib.Dec.{T, leb, ltb, eqb, eqb→eq, lt→ltb}
+use mir.Facts.{and-yes, yes-and, or-yes, T-not, yes-eqb}
 use Rattle.fields.specs.Lists.{sum, all}
 use Rattle.fields.specs.Numbers.{le, areBytes}
-use Rattle.fields.proofs.Lists.{cond-yes, cond-no, T-eq, sum-append, all-both, all-left, all-right, all-map}
+use Rattle.fields.proofs.Lists.{sum-append, all-both, all-left, all-right, all-map}
 use Rattle.format.specs.Questions.{Answer, refused, absent, remove, accepted}
-use Rattle.format.specs.References.{known, payloadLength, countPosition, counted, rowIn, kinds, weightOf, Ref, ref, refAt, Body, readBody, place, placeOf}
+use Rattle.format.specs.References.{known, countPosition, counted, rowIn, weightOf, Ref, ref, refAt, Body, readBody, place, placeOf}
 use Rattle.format.specs.Bodies.{one}
 use Rattle.format.specs.Items.{Item}
 use Rattle.format.specs.Apply.{isRecord}
-use Rattle.format.specs.Names.{Name, Entry, View, extentRecord, reference, unrelated, malformed, isRefItem, viewRecord, inForm, viewRefItem, viewOf, refEntry, refEntries, viewEntries, itemEntries, entries, stands, counts, ofExtent, viewTotal}
+use Rattle.format.specs.Names.{Name, View, extentRecord, reference, unrelated, malformed, isRefItem, viewRecord, inForm, viewRefItem, viewOf, refEntry, refEntries, viewEntries, itemEntries, counts, ofExtent}
 use Rattle.format.proofs.Rows.{Kind, k172, k176, k178, k182, k184, known-kind}
-use Rattle.format.proofs.Refs.{yes-or-no, whole, whole-out}
+use Rattle.format.proofs.Refs.{whole, whole-out}
 use Rattle.format.proofs.Bodies.{read-sound}
 use Rattle.history.proofs.Naming.{Naming, is176, is178, is182, is184}
 use Rattle.balance_laws.specs.Runs.{weighs}

@@ -6,16 +6,15 @@ use Prim.Native.Nat.{ℕ, _+_, _≤_, _<_}
 use native.Mathlib.Omega.{arith}
 use mathlib.Core.Bool.{Bool, true, false, not, _&&_, _||_, cond}
 use mathlib.Core.List.{List, [], _∷_, _++_}
-use lib.Dec.{T, leb, ltb, eqb, eqb-refl, eqb→eq, leb→le, le→leb, ltb→lt, lt→ltb}
+use lib.Dec.{T, leb, ltb, eqb, eqb-refl, eqb→eq, leb→le, ltb→lt, lt→ltb}
 use mir.Facts.{and-yes, yes-and, or-yes, T-not, not-T, yes-eqb, no-eqb}
 use Rattle.fields.specs.Lists.{sum, all, same}
-use Rattle.fields.proofs.Lists.{T-eq, imp-out, imp-in, or-left, or-right, cond-yes, cond-no, sum-append, all-both, all-map, same-yes, same-refl}
+use Rattle.fields.proofs.Lists.{imp-out, imp-in, or-left, or-right, cond-yes, cond-no, sum-append, all-both, all-map, same-yes}
 use Rattle.format.specs.References.{Ref, place, placeOf, falls, follows, leads, ordered}
 use Rattle.format.specs.Bodies.{named}
-use Rattle.format.specs.Names.{Name, sameName, Entry, refEntry, refEntries, stands}
+use Rattle.format.specs.Names.{Name, sameName, refEntry, refEntries, stands}
 use Rattle.history.proofs.Sums.{sameName-yes, sameName-refl, refEntries-append}
 use Rattle.history.proofs.Order.{follows-out, named-yes, yes-named}
-use Rattle.history.proofs.Facts.{refs-none}
 use Rattle.format.proofs.Refs.{yes-or-no}
 use Rattle.balance_laws.specs.Runs.{Run, start, joins, kept, after, apart, weighs, admits, sound}
 

@@ -1,7 +1,6 @@
 -- A run over the bytes of a number at once: the number is xored into the register, and as many steps follow as it has bits.
 -- For any polynomial `p`. Assumes nothing.
 use mathlib.Core.Path.{_≡_, sym, ap, ap₂, subst⁻¹, _∙_}
-use mathlib.Core.List.{[], _∷_}
 use Prim.Native.Nat.{ℕ, zero, suc, _+_, _*_, _/_, _%_, _^_, _≤_, _<_}
 use native.Mathlib.Omega.{arith}
 use native.Mathlib.Nat.{mod-lt, mod-mod, mod-eq-of-lt, pow-succ', add-suc, lt-of-lt-of-le}

@@ -6,7 +6,7 @@ use Prim.Native.Nat.{ℕ}
 use lib.ListN.{replicate}
 use Rattle.fields.specs.Numbers.{leBytes, wordBytes}
 use Rattle.fields.specs.Parts.{written}
-use Rattle.format.specs.References.{rowIn, payloadLength, countPosition, counted, refBytes, refsBytes, bodyBytes}
+use Rattle.format.specs.References.{rowIn, countPosition, counted, refBytes, refsBytes, bodyBytes}
 use Rattle.format.specs.Bodies.{treeBlockBody, dataExtentBody}
 
 -- what `put_head` writes into so many zeros

@@ -1,6 +1,6 @@
 -- Numbers as bytes, over the width: the lowest byte first, as btrfs has them inside data, or the highest first, as an item
 -- list has its lengths and keys. Assumes nothing.
-use mathlib.Core.Bool.{Bool, _&&_}
+use mathlib.Core.Bool.{Bool}
 use mathlib.Core.List.{List, [], _∷_, _++_, reverse}
 use Prim.Native.Nat.{ℕ, zero, suc, _+_, _*_, _/_, _%_}
 use lib.Dec.{ltb}

@@ -2,19 +2,18 @@
 -- says, two of the eleven refused. A definition that refuses every posting, hands the sheet back, finds nothing, keeps a dropped
 -- reference or sorts otherwise gives another list. Assumes nothing.
 use mathlib.Core.Path.{_≡_, refl}
-use mathlib.Core.List.{List, [], _∷_, _++_, map}
-use mathlib.Core.Bool.{Bool, true, false}
-use Prim.Native.Nat.{ℕ, zero, suc, _+_}
+use mathlib.Core.List.{List, [], _∷_, _++_}
+use Prim.Native.Nat.{ℕ, _+_}
 use lib.Dec.{T}
 use Rattle.fields.specs.Lists.{same}
 use Rattle.fields.specs.Numbers.{le, leBytes, be, beBytes, words, wordBytes}
 use Rattle.crc32c.specs.Register.{step, steps, byteStep}
 use Rattle.crc32c.specs.Register.{run as crcRun}
 use Rattle.format.specs.declared.Change.{Change}
-use Rattle.format.specs.declared.Change.the-variants.{AddBlock, AddData, AddShared, DropBlock, DropData, DropShared}
-use Rattle.format.specs.Questions.{Answer, refused, absent, remove, accepted, ask, bind, needed, found, ifAbsent, also, held, codeOf}
+use Rattle.format.specs.declared.Change.the-variants.{AddBlock, AddShared, DropBlock, DropData, DropShared}
+use Rattle.format.specs.Questions.{refused, accepted, ask, bind, needed, found, ifAbsent, also, held, codeOf}
 use Rattle.format.specs.Hash.{dataRefHash}
-use Rattle.format.specs.References.{rowIn, known, payloadLength, countPosition, counted, fieldCount, Ref, ref, weightOf, refAt, readRefs, refBytes, refsBytes, totalOf, flagsOf, startOf, Body, readBody, bodyBytes, placeOf, place, falls, follows}
+use Rattle.format.specs.References.{rowIn, known, payloadLength, countPosition, counted, fieldCount, Ref, ref, weightOf, refAt, readRefs, refBytes, refsBytes, totalOf, flagsOf, startOf, readBody, bodyBytes, placeOf, place, falls, follows}
 use Rattle.format.specs.Bodies.{bodyFits, sharedKind, onBody, onHead, named, raisedBy, loweredByOne, reducedBy, onTotal, raiseTotal, lowerTotal, reduceTotal, less, dropInline, dropInlineTreeRef, dropInlineDataRef, takeInlineShared, keyedCount, dropKeyedDataRef, stops, gapAt, insertPosition, standingOr, spotAnywhere, scanned, spotByScan, isGap, standingWeight, addAt, addInlineTreeRef, addInlineData, addInlineShared, keyedDataRefBody}
 use Rattle.format.specs.Items.{Item, keyOf, sameKey, keyBelow, itemLength, wholeItem, firstItem, readItems, readSheet, keyBytes, itemBytes, itemsBytes, sheetBytes, nodesizeFits, dataFits, onSheet, sheetHolds, heldSheet}
 use Rattle.format.specs.Sheets.{deleted}

@@ -1,10 +1,9 @@
 -- Document 01, "Below it: calls on sheets": record_of, the three apply_ calls and drop_kept_tree_ref, on the items of a sheet;
 -- the public calls below them read the sheet first. Assumes nothing.
-use mathlib.Core.Bool.{Bool, true, false, not, _&&_, _||_, cond}
-use mathlib.Core.List.{List, [], _∷_, _++_}
-use mathlib.Core.Option.{Option, none, some}
-use Prim.Native.Nat.{ℕ, zero, suc, _+_, _-_, _/_}
-use lib.Dec.{leb, ltb, eqb}
+use mathlib.Core.Bool.{Bool, true, false, _&&_, _||_}
+use mathlib.Core.List.{List}
+use Prim.Native.Nat.{ℕ, zero, suc, _-_, _/_}
+use lib.Dec.{leb, eqb}
 use lib.ListN.{length}
 use Rattle.fields.specs.Lists.{Cut, cut}
 use Rattle.format.specs.declared.BlockRef.{BlockRef}
@@ -14,7 +13,7 @@ use Rattle.format.specs.declared.Keyed.the-variants.{Block, Data}
 use Rattle.format.specs.declared.Key.{Key}
 use Rattle.format.specs.Questions.{Answer, refused, accepted, ask, bind, needed, ifAbsent, bytesOf}
 use Rattle.format.specs.Bodies.{sharedKind, raiseTotal, lowerTotal, reduceTotal, withFlags, addInlineTreeRef, addInlineData, addInlineShared, dropInlineTreeRef, takeInlineShared}
-use Rattle.format.specs.Items.{Item, keyOf, onSheet, nodesizeFits, withBytes, putBack, without}
+use Rattle.format.specs.Items.{Item, keyOf, onSheet, nodesizeFits, putBack}
 use Rattle.format.specs.Sheets.{hasKey, deleted}
 
 -- ---- max_inline_extent_item: "(nodesize - 101) / 16, rounded down, minus 25"

@@ -1,6 +1,6 @@
 -- Document 01, "The leaves: hash and table": the hash by which data references are ordered. The register is RFC 3720's,
 -- defined in the crate `crc32c`. Assumes nothing.
-use mathlib.Core.List.{List, _++_}
+use mathlib.Core.List.{_++_}
 use Prim.Native.Nat.{ℕ, _*_, _^_}
 use lib.Bits.{bitXor}
 use Rattle.crc32c.specs.Register.{crc32c, allOnes, run}

@@ -1,11 +1,11 @@
 -- Document 01, "The entry", its first paragraph: a sorted item list as bytes (document 01's sheet), its items and keys, and
 -- questions 1 to 3 and 21 of it. Assumes nothing.
-use mathlib.Core.Bool.{Bool, true, false, _&&_, _||_}
+use mathlib.Core.Bool.{Bool, true, _&&_, _||_}
 use mathlib.Core.List.{List, [], _∷_, _++_}
 use Prim.Native.Nat.{ℕ, zero, suc, _+_, _-_}
 use lib.Dec.{leb, ltb, eqb}
-use lib.ListN.{length, take, drop, getD}
-use Rattle.fields.specs.Lists.{sum, all, Cut}
+use lib.ListN.{length, drop, getD}
+use Rattle.fields.specs.Lists.{all, Cut}
 use Rattle.fields.specs.Numbers.{be, beBytes}
 use Rattle.fields.specs.Parts.{part}
 use Rattle.format.specs.declared.Key.{Key}

@@ -1,11 +1,11 @@
 -- Document 01, "The reference lister": the text for a type byte and a body. Assumes nothing.
-use mathlib.Core.Bool.{Bool, true, false, cond}
+use mathlib.Core.Bool.{cond}
 use mathlib.Core.List.{List, [], _∷_, _++_}
 use Prim.Native.Nat.{ℕ, zero, suc, _+_, _/_, _%_}
 use lib.Dec.{ltb}
 use lib.ListN.{length}
-use Rattle.format.specs.Questions.{Answer, refused, absent, remove, accepted, codeOf}
-use Rattle.format.specs.References.{counted, Ref, Body, flagsOf, startOf}
+use Rattle.format.specs.Questions.{Answer, refused, absent, remove, accepted}
+use Rattle.format.specs.References.{counted, Ref, flagsOf, startOf}
 use Rattle.format.specs.Bodies.{onBody}
 
 -- a number in decimal, in at most so many digits; 64 bits take 20

@@ -1,13 +1,13 @@
 -- Document 01, "Below that: calls on bodies", its layout: the table of the five kinds, references, and the body of an extent
 -- record, read and written. Assumes nothing.
-use mathlib.Core.Bool.{Bool, true, false, not, _&&_, _||_, cond}
+use mathlib.Core.Bool.{Bool, true, _&&_, _||_, cond}
 use mathlib.Core.List.{List, [], _∷_, _++_}
 use Prim.Native.Nat.{ℕ, zero, suc, _+_, _/_, _%_}
 use lib.Dec.{leb, ltb, eqb}
 use lib.ListN.{length, take, drop, getD}
 use Rattle.fields.specs.Numbers.{le, leBytes, words, wordBytes}
 use Rattle.fields.specs.Parts.{part}
-use Rattle.format.specs.Questions.{Answer, refused, accepted, ask, bind}
+use Rattle.format.specs.Questions.{Answer, accepted, ask, bind}
 use Rattle.format.specs.Hash.{dataRefHash}
 
 -- ---- the table of rows: type, payload length, count position (0 where the type has no count)

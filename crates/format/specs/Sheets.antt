@@ -1,14 +1,14 @@
 -- Document 01, "Below it: calls on sheets": insert, insert_unbounded, delete, fit, fits, split, split_to_fit and lookup by item
 -- number. A sheet is read first (questions 1 and 2) and the lent output asked last (question 21). Assumes nothing.
-use mathlib.Core.Bool.{Bool, true, false, not, _&&_, _||_, cond}
+use mathlib.Core.Bool.{Bool, true, not, _&&_, cond}
 use mathlib.Core.List.{List, [], _∷_, _++_}
 use mathlib.Core.Option.{Option, none, some}
 use Prim.Native.Nat.{ℕ, zero, suc, _+_, _-_, _/_}
-use lib.Dec.{leb, ltb, eqb}
+use lib.Dec.{leb, ltb}
 use lib.ListN.{length, take, drop, getElem?}
 use Rattle.fields.specs.Lists.{sum, all, Cut, cut}
 use Rattle.format.specs.declared.Key.{Key}
-use Rattle.format.specs.Questions.{Answer, refused, accepted, ask, bind, needed, held}
+use Rattle.format.specs.Questions.{Answer, accepted, ask, bind, needed, held}
 use Rattle.format.specs.Items.{Item, sameKey, keyBelow, onSheet, nodesizeFits, dataFits, without}
 
 -- ---- space: "101 plus, per item, 25 plus its data length"

@@ -11,7 +11,7 @@ use lib.Dec.{T, leb, ltb, eqb, eqb→eq, leb→le, ltb→lt, nltb→le}
 use mir.Facts.{and-yes, eqb-no}
 use Rattle.fields.specs.Lists.{all, same, Cut, cut}
 use Rattle.fields.specs.Numbers.{le, leBytes, words, wordBytes, areBytes}
-use Rattle.fields.specs.Parts.{part, written}
+use Rattle.fields.specs.Parts.{written}
 use Rattle.fields.proofs.Lists.{cond-no, all-mid, all-rest, same-yes, Found, cut-some}
 use Rattle.fields.proofs.Parts.{length-written, part-written}
 use Rattle.fields.proofs.Numbers.{areBytes-leBytes, areBytes-written, length-leBytes, le-leBytes, words-wordBytes, wordBytes-words}

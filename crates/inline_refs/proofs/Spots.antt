@@ -1,15 +1,14 @@
 -- A scan's notes, as the definitions of document 01 have them: the first match, the spot of an added reference. Assumes nothing.
 use mathlib.Core.Path.{_≡_, refl, sym, ap, subst, _∙_}
-use mathlib.Core.Bool.{Bool, true, false, not, _&&_, _||_, cond}
+use mathlib.Core.Bool.{Bool, true, false, _||_, cond}
 use mathlib.Core.Option.{Option, none, some, Option·map}
-use mathlib.Core.List.{List, [], _∷_, _++_, append-nil}
+use mathlib.Core.List.{List, [], _∷_, append-nil}
 use Prim.Native.Nat.{ℕ, _+_}
 use native.Mathlib.Omega.{arith}
-use lib.Dec.{T, eqb}
-use Rattle.fields.specs.Lists.{sum, all, Cut, later, cut}
+use Rattle.fields.specs.Lists.{sum, Cut, later, cut}
 use Rattle.fields.proofs.Lists.{T-eq, no-some, cut-some}
 use Rattle.format.specs.References.{Ref, placeOf}
-use Rattle.format.specs.Bodies.{Spot, gap, standing, named, stops, gapAt, insertPosition, standingOr, spotAnywhere, scanned, spotByScan}
+use Rattle.format.specs.Bodies.{Spot, gap, standing, stops, gapAt, insertPosition, standingOr, spotAnywhere, scanned, spotByScan}
 use Rattle.inline_refs.specs.declared.wanted.Wanted.{Wanted}
 use Rattle.inline_refs.specs.declared.scan.Seen.{Seen}
 use Rattle.inline_refs.specs.declared.scan.Seen.the-variants.{Open, Gap, Hit, Late}
@@ -18,9 +17,9 @@ use Rattle.inline_refs.specs.declared.site.Found.the-variants.{At, Nothi
 use Rattle.inline_refs.specs.declared.site.Site.{Site}
 use Rattle.inline_refs.specs.declared.site.Site.the-variants.{Gap as NewAt, Standing}
 use Rattle.inline_refs.specs.Scans.{kindOf, fieldsOf, isWanted, sizeOf}
-use Rattle.inline_refs.specs.Sites.{hitOf, siteAnywhere, siteByScan, kinIn}
+use Rattle.inline_refs.specs.Sites.{hitOf, siteAnywhere, siteByScan}
 use Rattle.inline_refs.proofs.Steps.{by-test}
-use Rattle.inline_refs.proofs.Views.{Between, CutAt, either, anyKin, StopAt, HitAt, View}
+use Rattle.inline_refs.proofs.Views.{Between, CutAt, either, View}
 
 -- ---- a cut with its positions, as three parts
 

@@ -1,19 +1,18 @@
 -- Laws of one step of the reader: a search of the table, and what a step says of the reading from there. Assumes nothing.
 use mathlib.Core.Path.{_≡_, refl, sym, ap, ap₂, subst, _∙_}
-use mathlib.Core.Bool.{Bool, true, false, cond}
+use mathlib.Core.Bool.{Bool, true, false}
 use mathlib.Core.List.{List, [], _∷_}
 use Prim.Native.Nat.{ℕ, zero, suc, _+_, _-_, _≤_, _<_}
 use native.Mathlib.Numerals.{add-one}
 use native.Mathlib.Omega.{arith}
-use lib.Dec.{T, eqb, leb, ltb, le→leb}
+use lib.Dec.{T, leb, ltb}
 use lib.ListN.{length, drop, getD, length-drop, drop-of-length-le}
 use lib.Seq.{drop-cons, drop-drop}
 use borrow.Author.Tests.{eq-eqb, ne-eqb, le-leb, lt-leb, ltb-true, ltb-false}
-use Rattle.format.specs.Questions.{Answer, refused, accepted, ask, bind}
-use Rattle.format.specs.References.{kinds, rowIn, known, payloadLength, countPosition, Ref, refAt, readRefs}
+use Rattle.format.specs.Questions.{refused, accepted, ask, bind}
+use Rattle.format.specs.References.{kinds, rowIn, known, payloadLength, countPosition, refAt, readRefs}
 use Rattle.format.proofs.Refs.{readRefs-nil, readRefs-cons}
-use Rattle.inline_refs.specs.declared.kinds.Row.{Row}
-use Rattle.inline_refs.specs.declared.kinds.Row.the-variants.{Known, Unknown}
+use Rattle.inline_refs.specs.declared.kinds.Row.the-variants.{Known}
 use Rattle.inline_refs.specs.declared.step.Step.{Step}
 use Rattle.inline_refs.specs.declared.step.Step.the-variants.{Ref as Whole, End, Refused}
 use Rattle.inline_refs.specs.Steps.{rowFrom, stepRow, stepAt, readFrom}

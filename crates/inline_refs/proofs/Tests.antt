@@ -1,11 +1,11 @@
 -- Laws of one reference, tested where it stands: whether it is the wanted one, whether a new one goes before it, its weight.
 -- Assumes nothing.
 use mathlib.Core.Path.{_≡_, refl, sym, ap, _∙_}
-use mathlib.Core.Bool.{Bool, true, false, not, _&&_, _||_, cond}
+use mathlib.Core.Bool.{Bool, true, false, _&&_, cond}
 use mathlib.Core.List.{List, [], _∷_}
-use Prim.Native.Nat.{ℕ, _+_, _*_, _≤_, _<_}
+use Prim.Native.Nat.{ℕ, _+_, _≤_, _<_}
 use native.Mathlib.Omega.{arith}
-use lib.Dec.{T, eqb, leb, ltb}
+use lib.Dec.{T, eqb, ltb}
 use lib.ListN.{length, take, drop, getD}
 use lib.Seq.{drop-drop}
 use borrow.Author.Tests.{eq-eqb, ne-eqb, le-leb, lt-leb, lt-ltb, le-ltb}
@@ -15,7 +15,7 @@ use Rattle.fields.specs.Parts.{part}
 use Rattle.fields.proofs.Lists.{eqb-same, cond-yes}
 use Rattle.fields.proofs.Numbers.{words-at}
 use Rattle.format.specs.Hash.{dataRefHash}
-use Rattle.format.specs.References.{rowIn, known, payloadLength, countPosition, counted, fieldCount, Ref, weightOf, refAt, place, placeOf}
+use Rattle.format.specs.References.{rowIn, known, payloadLength, countPosition, counted, fieldCount, weightOf, refAt, place, placeOf}
 use Rattle.format.specs.Bodies.{named, one, stops}
 use Rattle.format.proofs.Rows.{payload-fields, count-after-fields, some-field}
 use Rattle.inline_refs.specs.declared.wanted.Wanted.{Wanted}

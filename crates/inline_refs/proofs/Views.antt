@@ -1,20 +1,19 @@
 -- What a scan saw, as cuts of the list of references: where the wanted one stands, and where a new one goes.
 -- Assumes nothing.
 use mathlib.Core.Path.{_≡_, refl, sym, ap, subst, _∙_}
-use mathlib.Core.Bool.{Bool, true, false, not, _&&_, _||_, cond}
+use mathlib.Core.Bool.{Bool, true, false, _||_}
 use mathlib.Core.Option.{Option, none, some, Option·map}
-use mathlib.Core.List.{List, [], _∷_, _++_, append-nil}
+use mathlib.Core.List.{List, [], _∷_, _++_}
 use Prim.Native.Nat.{ℕ, _+_}
 use native.Mathlib.Omega.{arith}
-use lib.Dec.{T, eqb}
-use Rattle.fields.specs.Lists.{sum, all, Cut, later, cut}
-use Rattle.fields.proofs.Lists.{cut-some}
+use lib.Dec.{eqb}
+use Rattle.fields.specs.Lists.{sum, Cut, later, cut}
 use Rattle.format.specs.References.{Ref}
-use Rattle.format.specs.Bodies.{Spot, gap, standing, stops, gapAt, insertPosition, standingOr, spotAnywhere, scanned, spotByScan}
+use Rattle.format.specs.Bodies.{gap, stops}
 use Rattle.inline_refs.specs.declared.wanted.Wanted.{Wanted}
 use Rattle.inline_refs.specs.declared.scan.Seen.{Seen}
 use Rattle.inline_refs.specs.declared.scan.Seen.the-variants.{Open, Gap, Hit, Late}
-use Rattle.inline_refs.specs.Scans.{kindOf, fieldsOf, isWanted, sizeOf, noted, walk}
+use Rattle.inline_refs.specs.Scans.{kindOf, isWanted, sizeOf, noted, walk}
 use Rattle.inline_refs.proofs.Steps.{by-test}
 
 -- ---- a part of the references that stands from one position up to another

@@ -2,7 +2,7 @@
 ghost use mathlib.Core.Path.{_≡_};
 ghost use mathlib.Core.List.{[]};
 ghost use Rattle.format.specs.Apply.{recordOf};
-ghost use Rattle.item_list.specs.Steps.{Listed, itemsOf, itemAt};
+ghost use Rattle.item_list.specs.Steps.{Listed, itemsOf};
 ghost use Rattle.item_list.specs.Seeks.{placeIn, numbered, recorded, seekIn};
 use super::Place;
 use super::Sought;

@@ -1,6 +1,6 @@
 -- A list of calls of `post` is the list of demand 3. Assumes nothing.
 use mathlib.Core.Path.{_≡_, refl, sym, ap, ap₂, _∙_, subst}
-use mathlib.Core.Bool.{Bool, true, false}
+use mathlib.Core.Bool.{Bool}
 use mathlib.Core.List.{List, [], _∷_}
 use Prim.Native.Nat.{ℕ}
 use lib.Dec.{T}
@@ -11,11 +11,10 @@ use Rattle.fields.specs.Lists.{all}
 use Rattle.fields.specs.Numbers.{areBytes}
 use Rattle.format.specs.declared.Edited.{Edited}
 use Rattle.format.specs.Questions.{Answer, refused, absent, remove, accepted, editedOf, lent, Answered}
-use Rattle.format.specs.Ledger.{posted}
 use Rattle.format.specs.History.{Posting, Seen, answerTo, sheetAfter, isAccepted, run, seen, balancedSheet}
 use Rattle.history.specs.Demand.{Wides, Decided, no, yes, Demand3 as OfPostings}
 use Rattle.history.proofs.Demand.{demand-3}
-use Rattle.ledger.specs.Calls.{Call, Kept, AllKept, wasWritten, wasDecided, nextSheet, lastSheet, seenBy, postingsOf, Demand3}
+use Rattle.ledger.specs.Calls.{Call, AllKept, wasWritten, wasDecided, nextSheet, lastSheet, seenBy, postingsOf, Demand3}
 
 -- what an answer says, the caller sees
 told : (a : Answer (List ℕ)) {r : Edited} {old new : List ℕ} → Answered a r old new → wasWritten r ≡ isAccepted a

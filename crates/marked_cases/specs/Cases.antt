@@ -1,6 +1,5 @@
 -- Document 01, "Marked for proof": cases a to k as one list, and one statement over it, by computation. Assumes nothing.
 use mathlib.Core.Path.{_≡_, refl}
-use mathlib.Core.Bool.{Bool, true, false}
 use mathlib.Core.List.{List, [], _∷_, _++_, map}
 use Prim.Native.Nat.{ℕ, zero, suc, _+_}
 use lib.ListN.{length, replicate, take}
@@ -9,8 +8,7 @@ use Rattle.fields.specs.Numbers.{le, leBytes, be, beBytes, words, wordBytes}
 use Rattle.crc32c.specs.Register.{step, steps, byteStep, run}
 use Rattle.format.specs.declared.BlockRef.{BlockRef}
 use Rattle.format.specs.declared.DataRef.{DataRef}
-use Rattle.format.specs.declared.SharedRef.{SharedRef}
-use Rattle.format.specs.Questions.{Answer, refused, absent, remove, accepted, ask, bind, needed, found, held}
+use Rattle.format.specs.Questions.{Answer, refused, remove, accepted, ask, bind, needed, found, held}
 use Rattle.format.specs.Hash.{dataRefHash}
 use Rattle.format.specs.References.{rowIn, known, payloadLength, countPosition, counted, fieldCount, weightOf, refAt, readRefs, refBytes, refsBytes, totalOf, flagsOf, startOf, readBody, bodyBytes, placeOf, place}
 use Rattle.format.specs.Bodies.{bodyFits, sharedKind, onBody, onHead, named, raisedBy, loweredByOne, onTotal, raiseTotal, positions, inlineRefs, less, dropInline, dropInlineDataRef, keyedCount, dropKeyedDataRef, keyedDataRefBody, stops, gapAt, insertPosition, standingOr, spotAnywhere, scanned, spotByScan, isGap, standingWeight, addAt, addInlineTreeRef, addInlineData, addInlineDataRef, addInlineShared, dataExtentBody, treeBlockBody}

@@ -1,10 +1,9 @@
 -- Pieces written one after the other are the two splices, and questions 17 and 21 of them. Assumes nothing.
 use mathlib.Core.Path.{_≡_, refl, sym, ap, ap₂, _∙_, subst}
 use mathlib.Core.Bool.{Bool, true, false, _&&_}
-use mathlib.Core.List.{List, [], _∷_, _++_, append-assoc}
+use mathlib.Core.List.{List, _++_, append-assoc}
 use Prim.Native.Nat.{ℕ, _+_, _-_, _≤_, _<_}
 use native.Mathlib.Omega.{arith}
-use lib.Dec.{leb}
 use lib.ListN.{length, take, drop, length-append, length-drop}
 use lib.Seq.{length-take-le, take-add, take-append-le, take-take, drop-at, drop-append-le}
 use borrow.Author.Tests.{le-leb, lt-leb}
@@ -15,14 +14,13 @@ use Rattle.fields.proofs.Parts.{part-rest, length-part, written-pair, length-sp
 use Rattle.format.specs.declared.Key.{Key}
 use Rattle.format.specs.declared.Edited.{Edited}
 use Rattle.format.specs.declared.Edited.the-variants.{Written, Absent as NoMatch, Remove as Gone, Refused as Denied}
-use Rattle.format.specs.Questions.{Answer, refused, absent, remove, accepted, ask, bind, lent, editedOf, Answered}
+use Rattle.format.specs.Questions.{Answer, accepted, ask, bind, lent, editedOf, Answered}
 use Rattle.format.specs.Items.{Item, itemBytes}
 use Rattle.format.proofs.Items.{length-itemBytes}
 use Rattle.format.proofs.Outputs.{answered-refused, answered-written}
 use Rattle.item_write.specs.Writes.{headBytes, roomFor}
 use Rattle.item_write.proofs.Writes.{length-head, item-head}
 use Rattle.item_list.proofs.Steps.{and-false}
-use Rattle.backref_plan.specs.declared.plan.Outcome.{Outcome}
 use Rattle.backref_plan.specs.declared.plan.Outcome.the-variants.{Edit, Absent, Remove, Refused}
 use Rattle.backref_plan.specs.declared.plan.Plan.{Plan}
 use Rattle.backref_plan.specs.Plans.{edited, planned, planAnswer, EditIn}

@@ -6,7 +6,6 @@ use Prim.Native.Nat.{ℕ, _+_, _-_, _≤_}
 use lib.Dec.{leb}
 use lib.ListN.{length, take, drop}
 use Rattle.fields.specs.Parts.{part, spliced}
-use Rattle.format.specs.declared.Key.{Key}
 use Rattle.format.specs.Questions.{Answer, accepted, ask}
 use Rattle.format.specs.Items.{itemBytes}
 use Rattle.item_write.specs.Writes.{roomFor}

@@ -1,21 +1,20 @@
 -- Laws of the two passes, and of the call's ways out. Assumes nothing.
 use mathlib.Core.Path.{_≡_, refl, sym, ap, subst, _∙_}
-use mathlib.Core.Bool.{Bool, true, false, cond}
+use mathlib.Core.Bool.{cond}
 use mathlib.Core.List.{List, [], _∷_, _++_, append-assoc, append-nil}
-use Prim.Native.Nat.{ℕ, suc, _+_, _-_, _*_, _≤_, _<_}
+use Prim.Native.Nat.{ℕ, suc, _+_, _*_, _≤_, _<_}
 use native.Mathlib.Omega.{arith}
-use lib.Dec.{T}
 use lib.ListN.{length, drop, set, length-append}
 use borrow.Author.Tests.{le-leb, lt-leb}
 use Rattle.fields.specs.Parts.{written}
 use Rattle.fields.proofs.Numbers.{length-words}
 use Rattle.fields.proofs.Parts.{stores-one, written-next, length-written}
 use Rattle.format.specs.declared.Edited.the-variants.{Written, Refused as Denied}
-use Rattle.format.specs.Questions.{Answer, refused, absent, remove, accepted, ask, bind, held, lent, editedOf, Answered}
-use Rattle.format.specs.References.{known, payloadLength, counted, fieldCount, Ref, refAt, Body, startOf, readBody}
-use Rattle.format.specs.Bodies.{bodyFits, onBody, positions, inlineRefs}
+use Rattle.format.specs.Questions.{Answer, refused, absent, remove, accepted, ask, bind, held, Answered}
+use Rattle.format.specs.References.{counted, fieldCount, Ref, refAt, startOf}
+use Rattle.format.specs.Bodies.{positions, inlineRefs}
 use Rattle.format.specs.Sheets.{heldCuts}
-use Rattle.format.proofs.Answers.{accepted-inj, refused-not, absent-not, remove-not, bind-ok}
+use Rattle.format.proofs.Answers.{accepted-inj, refused-not, bind-ok}
 use Rattle.format.proofs.Outputs.{answered-refused, answered-written}
 use Rattle.format.proofs.Refs.{Reads as Decided, read, strange, cutOff, readRefs-decides}
 use Rattle.format.proofs.Rows.{payload-fields}

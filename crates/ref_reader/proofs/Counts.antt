@@ -1,15 +1,14 @@
 -- Laws of a count of references: one reference further, and the ways out. Assumes nothing.
 use mathlib.Core.Path.{_≡_, refl, sym, ap, _∙_}
-use mathlib.Core.Bool.{Bool, true, false}
 use mathlib.Core.List.{List, [], _∷_}
 use Prim.Native.Nat.{ℕ, _+_}
 use native.Mathlib.Omega.{arith}
 use lib.ListN.{length, drop}
 use Rattle.format.specs.declared.Told.{Told}
 use Rattle.format.specs.declared.Told.the-variants.{Value, Refused as Untold}
-use Rattle.format.specs.Questions.{Answer, refused, absent, remove, accepted, ask, bind, toldOf}
-use Rattle.format.specs.References.{Ref, refAt, Body, readBody}
-use Rattle.format.specs.Bodies.{bodyFits, onBody}
+use Rattle.format.specs.Questions.{Answer, refused, absent, remove, accepted, bind, toldOf}
+use Rattle.format.specs.References.{Ref, refAt}
+use Rattle.format.specs.Bodies.{onBody}
 use Rattle.inline_refs.specs.Steps.{readFrom}
 use Rattle.inline_refs.specs.Scans.{refsIn}
 use Rattle.inline_refs.proofs.Steps.{At}

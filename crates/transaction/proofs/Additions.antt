@@ -1,5 +1,5 @@
 -- The calls that add a reference, from the record's place and the planned body. Assumes nothing.
-use mathlib.Core.Path.{_≡_, refl, sym, ap, _∙_, subst}
+use mathlib.Core.Path.{_≡_, refl, sym, ap, _∙_}
 use mathlib.Core.Bool.{Bool, true, false, _&&_}
 use mathlib.Core.List.{List}
 use Prim.Native.Nat.{ℕ, _+_, _-_, _/_, _<_}
@@ -12,7 +12,7 @@ use Rattle.format.specs.declared.Key.{Key}
 use Rattle.format.specs.declared.SharedRef.{SharedRef}
 use Rattle.format.specs.declared.Edited.{Edited}
 use Rattle.format.specs.declared.Edited.the-variants.{Refused as Denied}
-use Rattle.format.specs.Questions.{Answer, refused, accepted, ask, bind, Answered}
+use Rattle.format.specs.Questions.{Answer, accepted, ask, bind, Answered}
 use Rattle.format.specs.Bodies.{sharedKind, raiseTotal, addInlineShared}
 use Rattle.format.specs.Items.{Item, readSheet, nodesizeFits, heldSheet, putBack}
 use Rattle.format.specs.Apply.{inlineLimit, sharedBody, applySharedAdd, applySharedAddTo}

@@ -1,15 +1,13 @@
 -- apply_keyed_add, from the record's place and the planned body. Assumes nothing.
-use mathlib.Core.Path.{_≡_, refl, sym, ap, _∙_, subst}
+use mathlib.Core.Path.{_≡_, refl, sym, ap, _∙_}
 use mathlib.Core.Logic.{_⊎_, inl, inr}
 use mathlib.Core.Bool.{Bool, true, false, _||_}
-use mathlib.Core.List.{List, _∷_, _++_}
+use mathlib.Core.List.{List}
 use Prim.Native.Nat.{ℕ, zero, suc, _+_, _-_, _≤_, _<_}
 use native.Mathlib.Omega.{arith}
-use lib.Dec.{T, leb, ltb, eqb}
+use lib.Dec.{leb, eqb}
 use lib.ListN.{length}
 use borrow.Author.Tests.{eqb-true, lt-ltb, le-ltb, le-leb, lt-leb}
-use Rattle.fields.specs.Lists.{Cut}
-use Rattle.fields.specs.Parts.{spliced}
 use Rattle.fields.proofs.Lists.{lt-or}
 use Rattle.format.specs.declared.Key.{Key}
 use Rattle.format.specs.declared.Keyed.{Keyed}
@@ -18,9 +16,9 @@ use Rattle.format.specs.declared.BlockRef.{BlockRef}
 use Rattle.format.specs.declared.DataRef.{DataRef}
 use Rattle.format.specs.declared.Edited.{Edited}
 use Rattle.format.specs.declared.Edited.the-variants.{Refused as Denied}
-use Rattle.format.specs.Questions.{Answer, refused, accepted, ask, bind, Answered}
+use Rattle.format.specs.Questions.{Answer, accepted, ask, bind, Answered}
 use Rattle.format.specs.Bodies.{raiseTotal, addInlineTreeRef, addInlineData}
-use Rattle.format.specs.Items.{Item, readSheet, nodesizeFits, heldSheet, withBytes, putBack}
+use Rattle.format.specs.Items.{Item, readSheet, nodesizeFits, heldSheet, putBack}
 use Rattle.format.specs.Apply.{inlineLimit, keyedBody, applyKeyedAdd, applyKeyedAddTo}
 use Rattle.item_list.specs.Steps.{itemAt, itemsOf}
 use Rattle.item_write.specs.Writes.{heldBytes}

@@ -1,5 +1,5 @@
 -- apply_shared_drop, from the record's place and the planned body. Assumes nothing.
-use mathlib.Core.Path.{_≡_, refl, sym, ap, _∙_}
+use mathlib.Core.Path.{_≡_, sym, ap, _∙_}
 use mathlib.Core.Bool.{Bool, true, false}
 use mathlib.Core.List.{List}
 use Prim.Native.Nat.{ℕ, _+_, _≤_}
@@ -15,7 +15,7 @@ use Rattle.format.specs.declared.Key.{Key}
 use Rattle.format.specs.declared.SharedRef.{SharedRef}
 use Rattle.format.specs.declared.Edited.{Edited}
 use Rattle.format.specs.declared.Edited.the-variants.{Refused as Denied}
-use Rattle.format.specs.Questions.{Answer, refused, absent, remove, accepted, ask, bind, ifAbsent, bytesOf, Answered}
+use Rattle.format.specs.Questions.{Answer, refused, accepted, ask, bind, ifAbsent, bytesOf, Answered}
 use Rattle.format.specs.References.{totalOf}
 use Rattle.format.specs.Bodies.{bodyFits, onHead, sharedKind, reducedBy, onTotal, reduceTotal, takeInlineShared}
 use Rattle.format.specs.Items.{Item, readSheet, heldSheet, putBack}

@@ -10,7 +10,7 @@ use record_edit::Record;
 ghost use mathlib.Core.Path.{_≡_};
 ghost use mathlib.Core.Bool.{true};
 ghost use Prim.Native.Nat.{_+_, _-_, _≤_};
-ghost use lib.ListN.{length, replicate};
+ghost use lib.ListN.{length};
 ghost use Rattle.format.specs.Questions.{Answered, bind, toldOf};
 ghost use Rattle.format.specs.Items.{readSheet};
 ghost use Rattle.format.specs.Apply.{recordNumber};

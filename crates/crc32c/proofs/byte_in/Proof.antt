@@ -1,7 +1,7 @@
 -- `crc32c::byte_in` meets its contract: the steps are linear over xor, and the table has the eight steps of the low byte.
 -- Assumes nothing.
 use mathlib.Core.Path.{sym, ap, _∙_}
-use Prim.Native.Nat.{ℕ, _/_, _%_, _^_}
+use Prim.Native.Nat.{_/_, _%_, _^_}
 use lib.Bits.{bitXor}
 use borrow.Author.Needs.{needs}
 use Rattle.crc32c.specs.Register.{crc32c}

@@ -1,5 +1,4 @@
 use mathlib.Core.Path.{sym, _∙_}
-use native.Mathlib.Omega.{arith}
 use denote.Ref.{now}
 use Rattle.inline_refs.proofs.Notes.{opens}
 use Rattle.ref_positions.proofs.Places.{call-shut, call-fault, call-short, call-writes}

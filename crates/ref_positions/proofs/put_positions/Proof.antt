@@ -1,11 +1,10 @@
 use denote.Ref.{now}
 use borrow.Author.Needs.{needs}
-use mathlib.Core.Path.{_≡_, refl, sym, _∙_}
+use mathlib.Core.Path.{sym, _∙_}
 use Prim.Native.Nat.{_-_, _≤_}
 use native.Mathlib.Omega.{arith}
 use lib.ListN.{length}
-use Rattle.inline_refs.specs.Steps.{readFrom}
-use Rattle.inline_refs.proofs.Steps.{At, seen}
+use Rattle.inline_refs.proofs.Steps.{seen}
 use Rattle.ref_positions.proofs.Places.{Placing, placing-none, placing-all, placing-fault, place-left, placing-next}
 use Rattle.ref_positions.proofs.put_positions.Statement.{statement}
 use Rattle.ref_positions.proofs.put_positions.Tie as tie

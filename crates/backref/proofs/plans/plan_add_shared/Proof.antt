@@ -1,4 +1,3 @@
-use denote.Ref.{now}
 use Rattle.backref.proofs.Named.{shared-block, shared-data, shared-other}
 use borrow.Author.Needs.{needs}
 use Rattle.backref.proofs.plans.plan_add_shared.Statement.{statement}

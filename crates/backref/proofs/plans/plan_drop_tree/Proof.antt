@@ -1,7 +1,5 @@
-use Rattle.format.specs.References.{placeOf}
 use Rattle.format.specs.Bodies.{dropInlineTreeRef}
 use Rattle.inline_refs.specs.Scans.{kindOf, fieldsOf}
-use Rattle.backref_plan.specs.Adds.{ownPlace, spotOf, addInline}
 use borrow.Author.Needs.{needs}
 use Rattle.backref.proofs.plans.plan_drop_tree.Statement.{statement}
 use Rattle.backref.proofs.plans.plan_drop_tree.Tie as tie

@@ -1,4 +1,3 @@
-use mathlib.Core.Path.{_∙_}
 use Rattle.format.specs.References.{placeOf}
 use Rattle.inline_refs.specs.Scans.{kindOf, fieldsOf}
 use Rattle.backref_plan.specs.Adds.{ownPlace}

@@ -1,6 +1,4 @@
 use mathlib.Core.Path.{sym, ap, subst, _∙_}
-use mathlib.Core.List.{List}
-use Prim.Native.Nat.{ℕ}
 use Rattle.inline_refs.specs.declared.wanted.Wanted.{Wanted}
 use Rattle.backref_plan.proofs.Writes.{Holds, made, holds}
 use borrow.Author.Needs.{needs}

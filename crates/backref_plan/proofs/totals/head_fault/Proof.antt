@@ -1,4 +1,3 @@
-use borrow.Author.Needs.{needs}
 use Rattle.backref_plan.proofs.Heads.{head-long, head-short, head-whole}
 use Rattle.backref_plan.proofs.totals.head_fault.Statement.{statement}
 use Rattle.backref_plan.proofs.totals.head_fault.Tie as tie

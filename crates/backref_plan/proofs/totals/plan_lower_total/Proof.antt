@@ -1,6 +1,6 @@
 use native.Mathlib.Omega.{arith}
 use denote.Ref.{now}
-use Rattle.format.specs.Bodies.{lowerTotal, onTotal, loweredByOne}
+use Rattle.format.specs.Bodies.{lowerTotal, onTotal}
 use Rattle.backref_plan.proofs.Heads.{head, head-refused, total-plan, total-refused, lowered-yes, lowered-no}
 use borrow.Author.Needs.{needs}
 use Rattle.backref_plan.proofs.totals.plan_lower_total.Statement.{statement}

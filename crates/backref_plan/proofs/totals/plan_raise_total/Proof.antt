@@ -1,6 +1,6 @@
 use native.Mathlib.Omega.{arith}
 use denote.Ref.{now}
-use Rattle.format.specs.Bodies.{raiseTotal, onTotal, raisedBy}
+use Rattle.format.specs.Bodies.{raiseTotal, onTotal}
 use Rattle.backref_plan.proofs.Heads.{head, head-refused, total-plan, total-refused, raised-yes, raised-no}
 use borrow.Author.Needs.{needs}
 use Rattle.backref_plan.proofs.totals.plan_raise_total.Statement.{statement}

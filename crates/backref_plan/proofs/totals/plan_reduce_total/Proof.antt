@@ -1,6 +1,6 @@
 use native.Mathlib.Omega.{arith}
 use denote.Ref.{now}
-use Rattle.format.specs.Bodies.{reduceTotal, onTotal, reducedBy}
+use Rattle.format.specs.Bodies.{reduceTotal, onTotal}
 use Rattle.backref_plan.proofs.Heads.{head, head-refused, total-plan, total-refused, reduced-yes, reduced-no}
 use borrow.Author.Needs.{needs}
 use Rattle.backref_plan.proofs.totals.plan_reduce_total.Statement.{statement}

@@ -1,7 +1,6 @@
 use denote.Ref.{now}
-use mathlib.Core.Path.{_≡_, sym, subst, _∙_}
+use mathlib.Core.Path.{sym, _∙_}
 use native.Mathlib.Omega.{arith}
-use Rattle.balance.specs.Spans.{Light}
 use Rattle.balance.proofs.Marks.{inner-long, light-of, mark-twice, mark-shut, opened, mark-unfit, mark-good}
 use borrow.Author.Needs.{needs}
 use Rattle.balance.proofs.marking.take_record.Statement.{statement}

@@ -1,11 +1,7 @@
 use denote.Ref.{now}
-use mathlib.Core.Path.{_≡_, refl, sym, ap, subst, _∙_}
 use native.Mathlib.Omega.{arith}
-use mathlib.Core.Bool.{true, false}
-use Prim.Native.Nat.{_≤_}
 use Rattle.balance.proofs.Admits.{not-true, not-false}
 use Rattle.balance.proofs.Refers.{ref-known, ref-owner, span-known, stride-is, name-light, name-twice, name-good}
-use borrow.Author.Needs.{needs}
 use Rattle.balance.proofs.naming.take_name.Statement.{statement}
 use Rattle.balance.proofs.naming.take_name.Tie as tie
 

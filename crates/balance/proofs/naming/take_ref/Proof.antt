@@ -1,6 +1,4 @@
 use denote.Ref.{now}
-use mathlib.Core.Path.{_≡_, refl, sym, ap, subst, _∙_}
-use native.Mathlib.Omega.{arith}
 use Rattle.balance.proofs.Refers.{named-form, name-missing, name-unmarked}
 use borrow.Author.Needs.{needs}
 use Rattle.balance.proofs.naming.take_ref.Statement.{statement}

@@ -1,6 +1,5 @@
 use denote.Ref.{now}
-use mathlib.Core.Path.{_≡_, refl, sym, ap, _∙_}
-use Prim.Native.Nat.{ℕ, _+_, _*_, _≤_, _<_}
+use mathlib.Core.Path.{_≡_, _∙_}
 use native.Mathlib.Omega.{arith}
 use Rattle.balance.proofs.Admits.{says-lower, says-owner, says-light, says-higher, says-falls, says-stays, at-178, as-178}
 use Rattle.inline_refs.proofs.Tests.{payload-178 as long-178}

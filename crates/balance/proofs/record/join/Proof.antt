@@ -2,7 +2,6 @@ use denote.Ref.{now}
 use mathlib.Core.Path.{_≡_, refl}
 use native.Mathlib.Omega.{arith}
 use Rattle.balance.proofs.Admits.{no-172, not-true, not-false, says-rises, says-twice, says-joins}
-use borrow.Author.Needs.{needs}
 use Rattle.balance.proofs.record.join.Statement.{statement}
 use Rattle.balance.proofs.record.join.Tie as tie
 

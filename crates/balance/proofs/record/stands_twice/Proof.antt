@@ -1,7 +1,6 @@
 use denote.Ref.{now}
 use mathlib.Core.Path.{sym, ap}
 use mathlib.Core.Bool.{not}
-use native.Mathlib.Omega.{arith}
 use Rattle.balance.proofs.Admits.{clear-by}
 use borrow.Author.Needs.{needs}
 use Rattle.balance.proofs.record.stands_twice.Statement.{statement}

@@ -1,11 +1,10 @@
 use denote.Ref.{now}
-use mathlib.Core.Path.{_≡_, refl, sym, ap, subst, _∙_}
-use Prim.Native.Nat.{ℕ, _+_, _*_, _-_, _≤_}
+use mathlib.Core.Path.{_≡_, sym, _∙_}
+use Prim.Native.Nat.{_*_, _-_, _≤_}
 use native.Mathlib.Omega.{arith}
-use lib.ListN.{length, drop}
-use Rattle.format.specs.References.{payloadLength, refAt}
+use lib.ListN.{length}
 use Rattle.inline_refs.specs.Steps.{readFrom}
-use Rattle.inline_refs.proofs.Steps.{At, seen}
+use Rattle.inline_refs.proofs.Steps.{seen}
 use Rattle.distinct_triples.proofs.Orders.{none-twice}
 use Rattle.balance.specs.Spans.{runOf, Reaches, Apart, weighing, weighedOf}
 use Rattle.balance.proofs.Weighs.{weigh-start, weigh-step, weigh-no, weigh-end, weigh-fault}

@@ -1,4 +1,3 @@
-use denote.Ref.{now}
 use native.Mathlib.Omega.{arith}
 use Rattle.balance.proofs.Admits.{payload-178, known-178}
 use Rattle.balance.proofs.Forms.{data-short, data-elsewhere, data-form}

@@ -1,4 +1,4 @@
-use mathlib.Core.Path.{sym, refl}
+use mathlib.Core.Path.{refl}
 use borrow.Author.Tests.{lt-ltb, le-ltb}
 use borrow.Author.Needs.{needs}
 use Rattle.balance.proofs.search.narrow.Statement.{statement}

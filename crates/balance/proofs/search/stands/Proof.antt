@@ -1,10 +1,9 @@
 use denote.Ref.{now}
-use mathlib.Core.Path.{_≡_, refl, sym, ap, _∙_}
+use mathlib.Core.Path.{sym, ap}
 use mathlib.Core.Bool.{not}
-use Prim.Native.Nat.{ℕ, _+_, _-_, _*_, _<_, _≤_}
+use Prim.Native.Nat.{_-_}
 use native.Mathlib.Omega.{arith}
 use Rattle.balance.proofs.Halves.{room, spot-is, named-is, Scanning, scan-start, scan-end, scan-stop, scan-hit, scan-next}
-use borrow.Author.Needs.{needs}
 use Rattle.balance.proofs.search.stands.Statement.{statement}
 use Rattle.balance.proofs.search.stands.Tie as tie
 

@@ -1,8 +1,5 @@
 use denote.Ref.{now}
-use mathlib.Core.Path.{_≡_, refl, sym, ap, subst, _∙_}
-use native.Mathlib.Omega.{arith}
 use Rattle.balance.proofs.Turns.{is-168, is-169, ref-176, ref-178, ref-182, ref-184, take-other}
-use borrow.Author.Needs.{needs}
 use Rattle.balance.proofs.turning.take.Statement.{statement}
 use Rattle.balance.proofs.turning.take.Tie as tie
 

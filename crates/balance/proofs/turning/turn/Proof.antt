@@ -1,5 +1,4 @@
 use denote.Ref.{now}
-use mathlib.Core.Path.{_≡_, refl, sym, ap, subst, _∙_}
 use native.Mathlib.Omega.{arith}
 use Rattle.balance.proofs.Turns.{empty-kept, turn-here, turn-new, turn-open}
 use borrow.Author.Needs.{needs}

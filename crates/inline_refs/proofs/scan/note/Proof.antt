@@ -1,4 +1,3 @@
-use mathlib.Core.Path.{sym, ap, _∙_}
 use Rattle.inline_refs.specs.Scans.{noted}
 use borrow.Author.Needs.{needs}
 use Rattle.inline_refs.proofs.scan.note.Statement.{statement}

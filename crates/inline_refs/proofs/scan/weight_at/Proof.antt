@@ -1,5 +1,4 @@
 use denote.Ref.{now}
-use borrow.Author.Needs.{needs}
 use native.Mathlib.Omega.{arith}
 use Rattle.inline_refs.proofs.Tests.{count-inside, weight-count, weight-owner, weight-one}
 use Rattle.inline_refs.proofs.scan.weight_at.Statement.{statement}

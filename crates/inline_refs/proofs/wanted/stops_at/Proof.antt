@@ -1,5 +1,3 @@
-use denote.Ref.{now}
-use lib.ListN.{drop}
 use Rattle.inline_refs.proofs.Tests.{stops-owner, stops-higher, stops-lower, stops-same, stops-zero}
 use borrow.Author.Needs.{needs}
 use Rattle.inline_refs.proofs.wanted.stops_at.Statement.{statement}

@@ -43,7 +43,6 @@ use denote.Triple.Entry.{Vals, onEntry}
 use denote.Triple.Spec.{Meets, tripleOf}
 use denote.Triple.Table.{entered, cited}
 use denote.Triple.Walked.{says, Stays, stay-ref, walkOf, goes-ref, Walks, ends-at, walked, walk-meets}
-use denote.Exit.{yes}
 use Rattle.inline_refs.specs.declared.step.Step.{Step}
 use Rattle.inline_refs.specs.Steps.{stepAt}
 use Rattle.inline_refs.proofs.step.Step as S

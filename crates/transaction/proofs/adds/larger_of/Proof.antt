@@ -1,5 +1,4 @@
 use Rattle.transaction.proofs.KeyedAdditions.{larger-first, larger-second}
-use borrow.Author.Needs.{needs}
 use Rattle.transaction.proofs.adds.larger_of.Statement.{statement}
 use Rattle.transaction.proofs.adds.larger_of.Tie as tie
 

@@ -1,4 +1,3 @@
-use denote.Ref.{now}
 use Rattle.transaction.proofs.KeyedAdditions.{keyed-item, keyed-block, keyed-data}
 use borrow.Author.Needs.{needs}
 use Rattle.transaction.proofs.adds.plan_keyed.Statement.{statement}

@@ -1,4 +1,3 @@
-use denote.Ref.{now}
 use Rattle.transaction.proofs.Additions.{shared-item, shared-inline}
 use borrow.Author.Needs.{needs}
 use Rattle.transaction.proofs.adds.plan_shared.Statement.{statement}

@@ -1,5 +1,4 @@
 use Rattle.transaction.proofs.Additions.{kind-block, kind-other}
-use borrow.Author.Needs.{needs}
 use Rattle.transaction.proofs.adds.shared_kind.Statement.{statement}
 use Rattle.transaction.proofs.adds.shared_kind.Tie as tie
 
