@@ -1,11 +1,15 @@
 //! Original against archive in one run on the same inputs: thread CPU time, best of many.
-//! Prints a markdown table for docs/PERFORMANCE.md.
+//! Prints markdown tables for docs/PERFORMANCE.md.
 //!
 //!     cargo run --profile measured -p bench --features hardware [WORD]
 //!
 //! WORD keeps only the calls whose name holds it. A call is one `row`: its name, the size, what
 //! the original does, what the archive does. The original allocates its result; the archive
 //! writes into a lent buffer, which is not cleared between calls.
+//!
+//! `rust/profile` counts instructions instead; it runs one side of one row by
+//!
+//!     bench runs SIDE CALL SIZE ROUNDS
 #[cfg(original_here)]
 mod bodies;
 #[cfg(original_here)]
@@ -14,12 +18,28 @@ mod measure;
 #[cfg(original_here)]
 mod worst;
 
-use measure::Bench;
+use measure::{Asked, Bench};
+
+/// What the words after the program's name ask for.
+fn asked() -> Asked {
+    let words: Vec<String> = std::env::args().skip(1).collect();
+    match &words[..] {
+        [runs, side, call, size, rounds] if runs == "runs" => Asked::Runs {
+            side: side.clone(),
+            call: call.clone(),
+            size: size.clone(),
+            rounds: rounds.parse().expect("a number of rounds"),
+        },
+        _ => Asked::Times(words.into_iter().next()),
+    }
+}
 
 fn main() {
-    let mut bench = Bench::new(std::env::args().nth(1));
+    let asked = asked();
+    let passes = if matches!(asked, Asked::Times(_)) { measure::PASSES } else { 1 };
+    let mut bench = Bench::new(asked);
     #[cfg(original_here)]
-    {
+    for _ in 0..passes {
         bodies::rows(&mut bench);
         lists::rows(&mut bench);
     }
@@ -34,7 +54,10 @@ fn main() {
             extent_refs::MISSING.len()
         );
     }
-    bench.print();
+    if passes > 1 {
+        bench.print();
+        bench.print_growth();
+    }
     #[cfg(original_here)]
     worst::table(&mut bench);
 }

@@ -1,4 +1,5 @@
-//! Thread CPU time, best of many batches, the two sides by turns.
+//! Thread CPU time, best of many batches, the two sides by turns; the whole table is made several
+//! times over, so that a busy moment of the machine does not stay in a row.
 use std::hint::black_box;
 
 #[repr(C)]
@@ -19,21 +20,36 @@ fn now() -> u64 {
     time.seconds as u64 * 1_000_000_000 + time.nanoseconds as u64
 }
 
-const BATCHES: usize = 40;
+pub const PASSES: usize = 6;
+const BATCHES: usize = 12;
 const BATCH_NANOSECONDS: u64 = 1_000_000;
 
 /// One call of the archive, given an output and a number.
 pub type Lent<'a> = &'a mut dyn FnMut(&mut [u8], &mut u64) -> u64;
 
+/// What is asked for: times of the calls whose name holds a word, or so many runs of one side of one
+/// row, for a profiler.
+pub enum Asked {
+    Times(Option<String>),
+    Runs { side: String, call: String, size: String, rounds: usize },
+}
+
+struct Row {
+    call: String,
+    size: String,
+    original: f64,
+    archive: Option<f64>,
+}
+
 pub struct Bench {
-    only: Option<String>,
-    rows: Vec<(String, String, f64, Option<f64>)>,
+    asked: Asked,
+    rows: Vec<Row>,
     out: Vec<u8>,
 }
 
 impl Bench {
-    pub fn new(only: Option<String>) -> Self {
-        Bench { only, rows: Vec::new(), out: vec![0; 262_144] }
+    pub fn new(asked: Asked) -> Self {
+        Bench { asked, rows: Vec::new(), out: vec![0; 262_144] }
     }
 
     /// `archive` is not run where the archive has no such call.
@@ -44,19 +60,33 @@ impl Bench {
         mut original: impl FnMut() -> T,
         archive: Lent,
     ) {
-        if self.only.as_ref().is_some_and(|word| !call.contains(word.as_str())) {
-            return;
-        }
         let mut len = 0;
         let out = &mut self.out[..];
         let there = !extent_refs::MISSING.contains(&call);
+        let mut first = || {
+            black_box(original());
+        };
+        match &self.asked {
+            Asked::Times(Some(word)) if !call.contains(word.as_str()) => return,
+            Asked::Times(_) => {}
+            Asked::Runs { side, call: only, size: of, rounds } => {
+                if call == only && size == of {
+                    if side == "original" {
+                        batch(&mut first, *rounds);
+                    } else {
+                        let mut second = || {
+                            black_box(archive(out, &mut len));
+                        };
+                        batch(&mut second, *rounds);
+                    }
+                }
+                return;
+            }
+        }
         if there && !call.ends_with("hash") {
             let code = archive(out, &mut len);
             assert_eq!(code, 0, "{call}, {size}: only accepted calls are measured");
         }
-        let mut first = || {
-            black_box(original());
-        };
         let mut second = || {
             black_box(archive(black_box(&mut *out), &mut len));
         };
@@ -68,12 +98,28 @@ impl Bench {
                 best.1 = best.1.min(batch(&mut second, rounds.1));
             }
         }
-        self.rows.push((call.into(), size.into(), best.0, there.then_some(best.1)));
+        self.keep(call, size, best.0, there.then_some(best.1));
+    }
+
+    /// The best of all passes.
+    fn keep(&mut self, call: &str, size: &str, original: f64, archive: Option<f64>) {
+        match self.rows.iter_mut().find(|row| row.call == call && row.size == size) {
+            None => {
+                self.rows.push(Row { call: call.into(), size: size.into(), original, archive });
+            }
+            Some(row) => {
+                row.original = row.original.min(original);
+                row.archive = row.archive.zip(archive).map(|(a, b)| a.min(b));
+            }
+        }
     }
 
     /// A call of the archive alone, in nanoseconds, or nothing where it is not asked for.
     pub fn alone(&mut self, call: &str, archive: Lent) -> Option<f64> {
-        let asked = self.only.as_ref().is_none_or(|word| call.contains(word.as_str()));
+        let asked = match &self.asked {
+            Asked::Times(word) => word.as_ref().is_none_or(|word| call.contains(word.as_str())),
+            Asked::Runs { .. } => false,
+        };
         if !asked || extent_refs::MISSING.contains(&call) {
             return None;
         }
@@ -83,18 +129,33 @@ impl Bench {
             black_box(archive(black_box(&mut *out), &mut len));
         };
         let rounds = calibrated(&mut call);
-        Some((0..BATCHES).map(|_| batch(&mut call, rounds)).fold(f64::MAX, f64::min))
+        Some((0..PASSES * BATCHES).map(|_| batch(&mut call, rounds)).fold(f64::MAX, f64::min))
     }
 
     pub fn print(&self) {
-        println!("| call | size | original, ns | archive, ns | archive / original |");
+        println!("| call | size | original, ns | archive, ns | original / archive |");
         println!("|---|---|---|---|---|");
-        for (call, size, original, archive) in &self.rows {
+        for Row { call, size, original, archive } in &self.rows {
             let (ns, ratio) = match archive {
-                Some(ns) => (format!("{ns:.1}"), format!("{:.2}", ns / original)),
+                Some(ns) => (format!("{ns:.1}"), format!("{:.2}", original / ns)),
                 None => ("not there".into(), "".into()),
             };
             println!("| `{call}` | {size} | {original:.1} | {ns} | {ratio} |");
+        }
+    }
+
+    /// How much longer ten times the items take.
+    pub fn print_growth(&self) {
+        let of = |call: &str, size: &str| {
+            self.rows.iter().find(|row| row.call == call && row.size.starts_with(size))
+        };
+        let mut head = "\n| call | 2,000 items / 200 items, original | archive |\n|---|---|---|\n";
+        for more in self.rows.iter().filter(|row| row.size.starts_with("2000 items")) {
+            let Some(less) = of(&more.call, "200 items") else { continue };
+            let Some((long, short)) = more.archive.zip(less.archive) else { continue };
+            let grown = (more.original / less.original, long / short);
+            println!("{head}| `{}` | {:.1} | {:.1} |", more.call, grown.0, grown.1);
+            head = "";
         }
     }
 }
