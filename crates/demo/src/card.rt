@@ -5,7 +5,7 @@ use format::Key;
 use format::Told;
 use item_list::Checked;
 
-// The list is the first `size` bytes.
+// The list is the first `size` bytes. Every card of this program is small.
 pub struct Card {
     pub bytes: [u8; 4096],
     pub size: usize,
@@ -66,20 +66,23 @@ pub fn insert_unbounded(card: Card, key: Key, body: &[u8]) -> Edit {
     edited(card, answer, out)
 }
 
-// The total of the record with this item number.
-fn total(list: &[u8], number: usize) -> u64 {
-    let mut refused: u32 = 0;
-    let body = leaf_edit::item(list, number, &mut refused);
+// The total that a record's body begins with.
+pub fn total(body: &[u8]) -> u64 {
     if body.len() < 8 {
         return 0;
     }
     fields::get_u64_le(body, 0)
 }
 
+fn total_at(list: &[u8], number: usize) -> u64 {
+    let mut refused: u32 = 0;
+    total(leaf_edit::item(list, number, &mut refused))
+}
+
 // How often an extent is used, by its record; 0 without one.
 pub fn used(list: &[u8], extent: u64) -> u64 {
     match transaction::record_of(list, extent) {
-        Told::Value(number) => total(list, number as usize),
+        Told::Value(number) => total_at(list, number as usize),
         Told::Refused(_) => 0,
     }
 }

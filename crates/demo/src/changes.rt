@@ -77,11 +77,10 @@ fn post(card: Card, extent: u64, what: &[u8], change: Change) -> Card {
     say::text(b": ");
     let edit = card::post(card, NODESIZE, change);
     let next = edit.card;
+    say::answer(edit.refusal);
     if edit.refusal == 0 {
-        say::text(b"done, now used ");
+        say::text(b", now used ");
         say::times(card::used(card::list(&next.bytes, next.size), extent));
-    } else {
-        say::refusal(edit.refusal);
     }
     say::text(b".\n");
     next
@@ -187,7 +186,7 @@ pub fn show() {
     let before = with_block(with_map(card::empty()));
     words::print(card::list(&before.bytes, before.size));
     say::text(
-        b"\nTen changes, posted one after the other. Each moves references and total together, or is refused:\n\n",
+        b"\nTen changes, posted one after the other. Each moves a reference and the total together, or neither:\n\n",
     );
     let after = takes(gives(before));
     say::text(b"\nThe card afterwards. A refused change moved nothing:\n\n");

@@ -1,4 +1,4 @@
-// Three checks on the card of ten shifts.
+// Three checks: two on the card of ten shifts, and `crowded`.
 use crate::card;
 use crate::card::Card;
 use crate::crowded;
@@ -24,8 +24,10 @@ fn expected(shift: u32) -> u64 {
 }
 
 fn count_maps(list: &[u8]) -> bool {
-    say::text(b"  1. Count the references of ten maps.\n");
-    say::text(b"     Each is used by its own shift and the next one, the last by its own alone:");
+    say::text(
+        b"  1. Count the references of ten maps.\n     \
+          Each is used by its own shift and the next, the last by its own alone:",
+    );
     let mut right = true;
     let mut shift: u32 = 1;
     while shift <= shifts::SHIFTS {
@@ -45,9 +47,9 @@ fn delete_oldest(card: Card) -> bool {
     let both = shifts::take(survey.card, shifts::map(1), 1);
     let again = shifts::take(both.card, shifts::SURVEY, 1);
     say::text(
-        b"     Shift 1 gave back the survey and its own map. The survey taken from it again:\n     ",
+        b"     Shift 1 gave back the survey and its own map. The survey taken from it a second time:\n     ",
     );
-    say::refusal(again.refusal);
+    say::answer(again.refusal);
     say::text(b".\n     The survey is still used ");
     let left = again.card;
     let list = card::list(&left.bytes, left.size);
@@ -61,10 +63,10 @@ fn delete_oldest(card: Card) -> bool {
 // The number of checks that came out wrong.
 pub fn show() -> u32 {
     say::text(
-        b"Three checks on a card of ten shifts over one base survey. Each shift uses the survey, its own map and\n",
+        b"Three checks, two of them on a card of ten shifts over one base survey. Each shift uses the survey,\n\
+          its own map and the map of the shift before:\n\n",
     );
-    say::text(b"the map of the shift before:\n\n");
-    let card = shifts::card();
+    let card = shifts::ten();
     let counted = verdict(count_maps(card::list(&card.bytes, card.size)));
     let deleted = verdict(delete_oldest(card));
     let saved = verdict(crowded::save());

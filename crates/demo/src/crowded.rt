@@ -1,16 +1,11 @@
 // The third check: a leaf is filled until a map is refused, and then divided.
 use crate::card;
 use crate::card::Card;
+use crate::leaves;
 use crate::say;
 use crate::shifts;
-use format::Edited;
-use format::Judged;
-use item_list::Step;
 
-// Small, so that it is soon full.
-const NODESIZE: u32 = 4096;
-
-// A card that holds the maps up to that of a shift, which is refused.
+// A card, and the first shift whose map it refused.
 struct Full {
     card: Card,
     shift: u32,
@@ -21,7 +16,7 @@ fn fill() -> Full {
     let mut card = card::empty();
     let mut shift: u32 = 1;
     while shift < 1000 {
-        let edit = shifts::save(card, NODESIZE, shifts::map(shift), shift);
+        let edit = shifts::save(card, leaves::NODESIZE, shifts::map(shift), shift);
         if edit.refusal != 0 {
             return Full {
                 card,
@@ -39,113 +34,20 @@ fn fill() -> Full {
     }
 }
 
-fn fits(list: &[u8]) -> bool {
-    match leaf_edit::fit(NODESIZE, list) {
-        Judged::Says(yes) => yes,
-        Judged::Refused(_) => false,
-    }
-}
-
-// Where the item with this number starts: 21 bytes before its data.
-fn start_of(list: &[u8], number: usize) -> usize {
-    let mut start: u64 = 0;
-    let mut size: u64 = 0;
-    let refusal = leaf_edit::item_place(list, number, &mut start, &mut size);
-    if refusal != 0 {
-        return 1;
-    }
-    let data = start as usize;
-    if data < 22 {
-        return 1;
-    }
-    data - 21
-}
-
-// The items from byte `at` on, as a list.
-fn behind(list: &[u8], at: usize) -> Card {
-    let mut bytes = [1u8; 4096];
-    if list.len() < at {
-        return Card { bytes, size: 1 };
-    }
-    let n = list.len() - at;
-    if 4095 < n {
-        return Card { bytes, size: 1 };
-    }
-    fields::copy_at(list, at, n, &mut bytes, 1);
-    Card { bytes, size: 1 + n }
-}
-
-// The first shift whose map does not stand in its turn, from that of `first` on, or the one behind the last item.
-fn maps_from(list: &[u8], first: u32) -> u32 {
-    let mut at: usize = 1;
-    let mut shift = first;
-    while shift < 1000 {
-        match item_list::step_at(list, at) {
-            Step::Whole { next } => {
-                let key = item_list::key_at(list, at);
-                if key.objectid != shifts::map(shift) {
-                    return shift;
-                }
-                at = next;
-                shift += 1;
-            }
-            Step::Broken => return shift,
-            Step::End => return shift,
-        }
-    }
-    shift
-}
-
-// The two leaves in words, and whether they hold the maps up to that of `last`, in order.
-fn two_leaves(whole: &[u8], cut: usize, last: u32) -> bool {
-    let at = start_of(whole, cut);
-    if whole.len() < at {
-        return false;
-    }
-    let one = &whole[0..at];
-    let rest = behind(whole, at);
-    let other = card::list(&rest.bytes, rest.size);
-    say::text(b"     They are divided into two leaves of ");
-    say::number(card::items(one) as u64);
-    say::text(b" and ");
-    say::number(card::items(other) as u64);
-    say::text(b"; both fit, and every map is there, in order.");
-    let end = maps_from(other, maps_from(one, 1));
-    fits(one) & fits(other) & (last < end)
-}
-
-fn wide(number: u16) -> usize {
-    number as usize
-}
-
-// The list divided where the library says.
-fn divide(whole: &[u8], last: u32) -> bool {
-    let mut cuts = [0u16; 64];
-    match leaf_split::split_to_fit(NODESIZE, whole, &mut cuts) {
-        Edited::Written(later) => {
-            if later == 1 {
-                return two_leaves(whole, wide(cuts[0]), last);
-            }
-            false
-        }
-        Edited::Absent => false,
-        Edited::Remove => false,
-        Edited::Refused(_) => false,
-    }
-}
-
 // Whether it came out right.
 pub fn save() -> bool {
-    say::text(b"  3. Save on a crowded card.\n     A leaf of 4096 bytes takes ");
+    say::text(b"  3. Save on a crowded card.\n     A leaf of ");
+    say::number(leaves::NODESIZE as u64);
+    say::text(b" bytes takes ");
     let full = fill();
     let before = full.card;
     say::number(card::items(card::list(&before.bytes, before.size)) as u64);
-    say::text(b" maps. One more is ");
-    say::refusal(full.refusal);
-    say::text(b".\n");
+    say::text(b" maps. One more: ");
+    say::answer(full.refusal);
+    say::text(b".\n     All ");
     let body = shifts::record(full.shift);
     let more = card::insert_unbounded(before, shifts::key(shifts::map(full.shift)), &body);
     let whole = more.card;
-    let divided = divide(card::list(&whole.bytes, whole.size), full.shift);
+    let divided = leaves::divide(card::list(&whole.bytes, whole.size), full.shift);
     divided & (full.refusal == 18) & (more.refusal == 0)
 }

@@ -3,16 +3,10 @@ use crate::say;
 
 pub fn show() {
     say::text(
-        b"An extent is a stretch of a card that holds data or a block of a tree. Its record says how often it\n",
-    );
-    say::text(
-        b"is used; each user has a reference, in the record or in an item of its own. The lister prints the\n",
-    );
-    say::text(
-        b"record of a new extent so: where its references start, how often it is used, its flags and how many\n",
-    );
-    say::text(
-        b"references it has; then each reference by its type, tree, file, offset and count.\n\n",
+        b"An extent is a stretch of a card that holds data or a block of a tree. Its record says how often it\n\
+          is used, its total; each user has a reference, in the record or in an item of its own. The lister\n\
+          prints a new extent's record so: where its references start, its total, its flags and how many\n\
+          references it has; then each reference by its type, tree, file, offset and count.\n\n",
     );
     let mut body = [0u8; 53];
     extent_write::data_extent_body(7, 5, 257, 0, &mut body);

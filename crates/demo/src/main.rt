@@ -4,6 +4,7 @@ mod card;
 mod changes;
 mod checks;
 mod crowded;
+mod leaves;
 mod listing;
 mod say;
 mod shifts;

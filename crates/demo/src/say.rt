@@ -33,15 +33,19 @@ pub fn indented(lines: &[u8]) {
     }
 }
 
-// A refusal by its number, and what it says where it occurs here.
-pub fn refusal(code: u32) {
+// What a call answered: done, or refused with a number, and what the numbers that occur here say.
+pub fn answer(code: u32) {
+    if code == 0 {
+        text(b"done");
+        return;
+    }
     text(b"refused, number ");
     number(code as u64);
     match code {
-        5 => text(b" (no such reference is there)"),
+        5 => text(b" (no such reference)"),
         9 => text(b" (it stands there already)"),
         13 => text(b" (it is the extent's last reference)"),
-        18 => text(b" (the items would not fit in the leaf)"),
+        18 => text(b" (it would not fit in the leaf)"),
         _ => text(b""),
     }
 }

@@ -37,6 +37,7 @@ pub fn record(shift: u32) -> [u8; 53] {
     body
 }
 
+// A new extent.
 pub fn save(card: Card, nodesize: u32, extent: u64, shift: u32) -> Edit {
     let body = record(shift);
     card::insert(card, nodesize, key(extent), &body)
@@ -50,7 +51,8 @@ fn name(shift: u32) -> DataRef {
     }
 }
 
-pub fn give(card: Card, extent: u64, shift: u32) -> Edit {
+// One more user of an extent.
+fn give(card: Card, extent: u64, shift: u32) -> Edit {
     let name = name(shift);
     card::post(
         card,
@@ -63,6 +65,7 @@ pub fn give(card: Card, extent: u64, shift: u32) -> Edit {
     )
 }
 
+// One user less.
 pub fn take(card: Card, extent: u64, shift: u32) -> Edit {
     let name = name(shift);
     card::post(card, NODESIZE, Change::DropData { extent, name })
@@ -76,7 +79,8 @@ fn begun(card: Card, shift: u32, before: u32) -> Card {
     both.card
 }
 
-pub fn card() -> Card {
+// The first shift has the survey and a map to itself; then come the others.
+pub fn ten() -> Card {
     let survey = save(card::empty(), NODESIZE, SURVEY, 1);
     let first = save(survey.card, NODESIZE, map(1), 1);
     let mut all = first.card;

@@ -1,4 +1,5 @@
 // The items of a list and their references in words.
+use crate::card;
 use crate::say;
 use format::Key;
 use inline_refs::Cursor;
@@ -87,10 +88,7 @@ fn record(key: Key, body: &[u8]) {
     }
     say::number(key.objectid);
     say::text(b": used ");
-    if body.len() < 8 {
-        return;
-    }
-    say::times(fields::get_u64_le(body, 0));
+    say::times(card::total(body));
     say::text(b"\n");
     match inline_refs::open_body(key.kind, body) {
         Start::From(start) => inline_refs_from(body, start),

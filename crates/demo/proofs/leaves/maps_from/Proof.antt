@@ -4,8 +4,8 @@ use Prim.Native.Nat.{_-_, _≤_}
 use native.Mathlib.Omega.{arith}
 use Rattle.item_list.proofs.Steps.{whole-at}
 use borrow.Author.Needs.{needs}
-use Rattle.demo.proofs.crowded.maps_from.Statement.{statement}
-use Rattle.demo.proofs.crowded.maps_from.Tie as tie
+use Rattle.demo.proofs.leaves.maps_from.Statement.{statement}
+use Rattle.demo.proofs.leaves.maps_from.Tie as tie
 
 abbrev Inv-loop : tie.InvT-loop
 Inv-loop list first at₀ shift₀ at shift = first ≤ shift
