@@ -36,43 +36,38 @@ module _ (s : List ℕ) (at next : ℕ) (items : List Item) (r : More s at next 
 
 -- ---- counted
 
-pub record Counting (n : ℕ) (items : List Item) (at used leaves : ℕ) (rest : List Item) : Type 0 where
-  pub number : ℕ
-  pub total : leaves + length (filled n number used rest) ≡ length (filled n 0 101 items)
-  pub small : used ≤ 300000
-  pub below : 21 * number < at
-  pub few : leaves ≤ number
+-- `i` items were passed; the last leaf takes `used`, and so many leaves follow the first
+pub record Counting (n : ℕ) (items : List Item) (i used leaves : ℕ) (rest : List Item) : Type 0 where
+  pub total : leaves + length (filled n i used rest) ≡ length (filled n 0 101 items)
+  pub small : used ≤ 65536
+  pub few : leaves ≤ i
 
-pub counting-none : (n : ℕ) (items : List Item) → Counting n items 1 101 0 items
-counting-none n items =
-    record { number = 0; total = zero-add (length (filled n 0 101 items)); small = omega arith; below = omega arith; few = omega arith }
+pub counting-none : (n : ℕ) (items : List Item) → Counting n items 0 101 0 items
+counting-none n items = record { total = zero-add (length (filled n 0 101 items)); small = omega arith; few = omega arith }
 
-pub counting-all : (n : ℕ) (items : List Item) (at used leaves : ℕ) (rest : List Item) → Counting n items at used leaves rest → rest ≡ []
+pub counting-all : (n : ℕ) (items : List Item) (i used leaves : ℕ) (rest : List Item) → Counting n items i used leaves rest → rest ≡ []
     → leaves ≡ length (filled n 0 101 items)
-counting-all n items at used leaves rest k e =
+counting-all n items i used leaves rest k e =
     let t = k .total in
-    let z = ap length (fill-end n (k .number) used rest e) in
+    let z = ap length (fill-end n i used rest e) in
     omega (arith, t, z)
 
-module _ (n : ℕ) (items : List Item) (used leaves : ℕ) (s : List ℕ) (at next : ℕ) (rest : List Item)
-    (k : Counting n items at used leaves rest) (m : More s at next rest) where
-  pub counting-stays : n ≤ 65536 → used + (next - at + 4) ≤ n → Counting n items next (used + (next - at + 4)) leaves (m .others)
-  counting-stays l h =
+module _ (n : ℕ) (items : List Item) (i used leaves : ℕ) (s : List ℕ) (at next : ℕ) (rest : List Item)
+    (k : Counting n items i used leaves rest) (m : More s at next rest) (l : n ≤ 65536) where
+  pub counting-stays : used + (next - at + 4) ≤ n → Counting n items (i + 1) (used + (next - at + 4)) leaves (m .others)
+  counting-stays h =
       let t = k .total in
-      let e = ap length (fill-within s at next rest m n (k .number) used h) in
-      let b = k .below in
+      let e = ap length (fill-within s at next rest m n i used h) in
       let f = k .few in
-      let w = m .whole in
-      record { number = k .number + 1; total = omega (arith, t, e); small = omega arith; below = omega (arith, b, w); few = omega (arith, f) }
+      record { total = omega (arith, t, e); small = omega arith; few = omega (arith, f) }
 
-  pub counting-starts : length s ≤ 262144 → n < used + (next - at + 4) → Counting n items next (101 + (next - at + 4)) (leaves + 1) (m .others)
-  counting-starts l h =
+  pub counting-starts : 101 + (next - at + 4) ≤ n → n < used + (next - at + 4)
+      → Counting n items (i + 1) (101 + (next - at + 4)) (leaves + 1) (m .others)
+  counting-starts a h =
       let t = k .total in
-      let e = ap length (fill-over s at next rest m n (k .number) used h) in
-      let b = k .below in
+      let e = ap length (fill-over s at next rest m n i used h) in
       let f = k .few in
-      let w = m .whole in
-      record { number = k .number + 1; total = omega (arith, t, e); small = omega (arith, w, l); below = omega (arith, b, w); few = omega (arith, f) }
+      record { total = omega (arith, t, e); small = omega arith; few = omega (arith, f) }
 
 -- ---- written
 

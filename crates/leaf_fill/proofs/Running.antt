@@ -16,8 +16,8 @@ use Rattle.item_list.specs.Steps.{itemAt, itemsOf}
 use Rattle.item_list.proofs.Steps.{WholeAt, data-long, and-false}
 use Rattle.item_list.proofs.Walks.{More}
 use Rattle.item_list.proofs.Spaces.{space-append, space-cons}
-use Rattle.leaf_fill.specs.declared.Cutting.{Cutting}
-use Rattle.leaf_fill.specs.declared.Cutting.the-variants.{Before, Nowhere}
+use Rattle.leaf_fill.specs.declared.measuring.Cutting.{Cutting}
+use Rattle.leaf_fill.specs.declared.measuring.Cutting.the-variants.{Before, Nowhere}
 use Rattle.leaf_fill.specs.Division.{Sized, alone, cuttingOf, closest, improved}
 
 -- the space of the item at a position
@@ -31,18 +31,18 @@ space-none = refl
 
 -- ---- question 18
 
-pub each-end : (n : ℕ) (items : List Item) → items ≡ [] → true ≡ all (alone n) items
+pub each-end : (n : ℕ) (items : List Item) → items ≡ [] → all (alone n) items ≡ true
 each-end n items e = rw e
 
 module _ (s : List ℕ) (at next : ℕ) (items : List Item) (r : More s at next items) (n : ℕ) where
   each-cons : all (alone n) items ≡ (leb (101 + (next - at + 4)) n && all (alone n) (r .others))
   each-cons = ap (all (alone n)) (r .is) ∙ ap (λ (k : ℕ). leb (101 + k) n && all (alone n) (r .others)) (space-at s at next (r .whole))
 
-  pub each-over : n < next - at + 105 → all (alone n) items ≡ false
-  each-over h = each-cons ∙ rw (lt-leb (101 + (next - at + 4)) n (omega arith))
+  pub each-over : n < 101 + (next - at + 4) → all (alone n) items ≡ false
+  each-over h = each-cons ∙ rw (lt-leb (101 + (next - at + 4)) n h)
 
-  pub each-more : next - at + 105 ≤ n → all (alone n) items ≡ all (alone n) (r .others)
-  each-more h = each-cons ∙ rw (le-leb (101 + (next - at + 4)) n (omega arith))
+  pub each-more : 101 + (next - at + 4) ≤ n → all (alone n) items ≡ all (alone n) (r .others)
+  each-more h = each-cons ∙ rw (le-leb (101 + (next - at + 4)) n h)
 
 -- ---- the better cut, as code tests it
 

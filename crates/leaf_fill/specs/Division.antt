@@ -1,16 +1,19 @@
 -- The division of items into leaves, as one pass finds it. Assumes nothing.
 use mathlib.Core.Path.{_≡_}
-use mathlib.Core.Bool.{Bool, _&&_, cond}
+use mathlib.Core.Bool.{Bool, true, false, _&&_, cond}
 use mathlib.Core.Option.{Option, none, some}
 use mathlib.Core.List.{List}
 use Prim.Native.Nat.{ℕ, _+_, _-_, _*_, _≤_}
 use lib.Dec.{leb, ltb}
 use lib.ListN.{length}
+use Rattle.fields.specs.Lists.{all}
 use Rattle.format.specs.Items.{Item}
-use Rattle.format.specs.Sheets.{itemSpace, spaceOf, gapOf}
+use Rattle.format.specs.Sheets.{itemSpace, spaceOf, gapOf, bestCut, filled}
 use Rattle.item_list.specs.Steps.{Listed, itemsOf}
-use Rattle.leaf_fill.specs.declared.Cutting.{Cutting}
-use Rattle.leaf_fill.specs.declared.Cutting.the-variants.{Before, Nowhere}
+use Rattle.leaf_fill.specs.declared.measuring.Cutting.{Cutting}
+use Rattle.leaf_fill.specs.declared.measuring.Cutting.the-variants.{Before, Nowhere}
+use Rattle.leaf_fill.specs.declared.Division.{Division}
+use Rattle.leaf_fill.specs.declared.Division.the-variants.{TooLarge, TwoWay, Leaves}
 
 -- what the pass of questions 1 and 2 has shown of an item list with so many items
 pub record Sized (s : List ℕ) (count : ℕ) : Type 0 where
@@ -23,6 +26,14 @@ pub record Sized (s : List ℕ) (count : ℕ) : Type 0 where
 -- an item fits a leaf alone
 abbrev pub alone : ℕ → Item → Bool
 alone nodesize i = leb (101 + itemSpace i) nodesize
+
+-- what the measuring pass answers
+abbrev pub Divided : ℕ → List Item → Division → Type 0
+Divided nodesize items TooLarge = all (alone nodesize) items ≡ false
+Divided nodesize items (TwoWay at) =
+    (all (alone nodesize) items ≡ true) × (bestCut nodesize items (length items - 1) ≡ some at)
+Divided nodesize items (Leaves leaves) =
+    (all (alone nodesize) items ≡ true) × (bestCut nodesize items (length items - 1) ≡ none) × (leaves ≡ length (filled nodesize 0 101 items))
 
 -- a cut with its gap
 unfoldable pub cuttingOf : List Item → Option ℕ → Cutting
@@ -38,3 +49,8 @@ closest at gap (Before other least) = cond (ltb gap least) (Before at gap) (Befo
 unfoldable pub improved : ℕ → ℕ → ℕ → ℕ → Cutting → Cutting
 improved nodesize left right at best =
     cond (leb 1 at && (leb left nodesize && leb right nodesize)) (closest at ((left - right) + (right - left)) best) best
+
+-- a two-way cut goes before leaves filled from the left
+abbrev pub chosen : Cutting → ℕ → Division
+chosen (Before at gap) leaves = TwoWay at
+chosen Nowhere leaves = Leaves leaves

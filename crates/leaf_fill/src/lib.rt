@@ -1,16 +1,15 @@
-// What `split_to_fit` asks and measures, each in one pass over the items: whether each fits alone, the best two-way cut, and the
-// leaves filled from the left. Called on an item list that passed questions 1 and 2.
-mod best;
+// What `split_to_fit` asks and measures, in one pass over the items, and the pass that writes leaves filled from the left. Called
+// on an item list that passed questions 1 and 2.
 mod fill;
-mod number;
+mod measuring;
 
-pub use best::best_cut;
-pub use best::each_fits;
 pub use fill::fill_write;
-pub use number::fill_count;
+pub use measuring::measure;
 
-// The best two-way cut so far: the number of the item that it stands before, and its gap.
-pub enum Cutting {
-    Before { at: usize, gap: usize },
-    Nowhere,
+// How items are divided into leaves: at the item that the second of two leaves starts with or, if no two leaves hold them, into
+// a first leaf and so many more. Not at all if an item does not fit a leaf alone.
+pub enum Division {
+    TooLarge,
+    TwoWay(usize),
+    Leaves(usize),
 }

@@ -7,7 +7,6 @@ use lib.ListN.{length, set}
 use borrow.Author.Tests.{le-leb, lt-leb}
 use Rattle.fields.specs.Parts.{written}
 use Rattle.fields.proofs.Parts.{stores-one, written-front}
-use Rattle.format.specs.declared.Edited.{Edited}
 use Rattle.format.specs.declared.Edited.the-variants.{Written, Refused}
 use Rattle.format.specs.Questions.{Answer, refused, accepted, ask, bind, held, lent, editedOf, Answered}
 use Rattle.format.specs.Items.{readSheet, onSheet}
@@ -36,10 +35,6 @@ module _ (a : Answer (List ℕ)) (room : ℕ) (old new : List ℕ) where
         subst (λ (k : ℕ). Answered (heldCuts room a) (Written k) old new) (sym is)
         (answered (accepted numbers) (ap (heldCuts room) e ∙ rw (le-leb (length numbers) room h′))
         (record { result = refl; output = w ∙ written-front numbers old }))
-
-pub same-cuts : (a b : Answer (List ℕ)) (room : ℕ) (r : Edited) (old new : List ℕ) → a ≡ b → Answered (heldCuts room b) r old new
-    → Answered (heldCuts room a) r old new
-same-cuts a b room r old new e w = subst (λ (x : Answer (List ℕ)). Answered (heldCuts room x) r old new) (sym e) w
 
 pub one-written : (old : List ℕ) (number : ℕ) → 1 ≤ length old → set old 0 number ≡ written 0 (number ∷ []) old
 one-written old number h = stores-one old 0 number h

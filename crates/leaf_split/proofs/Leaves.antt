@@ -17,20 +17,9 @@ use Rattle.format.specs.Sheets.{itemSpace, cutFits, gapOf, closer, bestCut, fil
 use Rattle.item_list.specs.Steps.{itemsOf}
 use Rattle.item_list.proofs.Reading.{Counted}
 use Rattle.item_list.proofs.Spaces.{space-sheet}
-use Rattle.leaf_fill.specs.declared.Cutting.the-variants.{Before, Nowhere}
-use Rattle.leaf_fill.specs.Division.{Sized, alone, cuttingOf}
+use Rattle.leaf_fill.specs.Division.{Sized, alone}
 
--- ---- from the pass to the cut
-
-cut-of : (items : List Item) (o : Option ℕ) (at gap : ℕ) → cuttingOf items o ≡ Before at gap → o ≡ some at
-unfolding cuttingOf
-cut-of items none at gap e = let z : _≡_ {A = ℕ} 0 1 = cc in absurd (omega arith)
-cut-of items (some k) at gap e = let z : k ≡ at = cc in ap some z
-
-no-cut-of : (items : List Item) (o : Option ℕ) → cuttingOf items o ≡ Nowhere → o ≡ none
-unfolding cuttingOf
-no-cut-of items none e = refl
-no-cut-of items (some k) e = let z : _≡_ {A = ℕ} 0 1 = cc in absurd (omega arith)
+-- ---- the best cut
 
 -- a cut stands before an item and behind one
 in-range : (items : List Item) (m at : ℕ) (b : Bool) (o : Option ℕ) → (o ≡ some at → (1 ≤ at) × (at ≤ m))
@@ -50,18 +39,20 @@ best-range n items zero at e = no-some e
 best-range n items (suc m) at e = in-range items m at (cutFits n items (suc m)) (bestCut n items m) (best-range n items m at) e
 
 module _ (n : ℕ) (items : List Item) where
-  pub cuts-one : (at gap : ℕ) → cuttingOf items (bestCut n items (length items - 1)) ≡ Before at gap → cuts n items ≡ at ∷ []
+  cuts-one : (at : ℕ) → bestCut n items (length items - 1) ≡ some at → cuts n items ≡ at ∷ []
   unfolding cuts cutsOf
-  cuts-one at gap e = rw (cut-of items (bestCut n items (length items - 1)) at gap e)
+  cuts-one at e = rw e
 
-  pub cuts-filled : cuttingOf items (bestCut n items (length items - 1)) ≡ Nowhere → cuts n items ≡ filled n 0 101 items
+  cuts-filled : bestCut n items (length items - 1) ≡ none → cuts n items ≡ filled n 0 101 items
   unfolding cuts cutsOf
-  cuts-filled e = rw (no-cut-of items (bestCut n items (length items - 1)) e)
+  cuts-filled e = rw e
 
-  pub cut-before : (at gap : ℕ) → cuttingOf items (bestCut n items (length items - 1)) ≡ Before at gap → at ≤ length items
-  cut-before at gap e =
-      let r = best-range n items (length items - 1) at (cut-of items (bestCut n items (length items - 1)) at gap e) in
-      let q = r .1 in omega arith
+  pub cut-inside : (at : ℕ) → bestCut n items (length items - 1) ≡ some at → (1 ≤ at) × (at < length items)
+  cut-inside at e =
+      let r = best-range n items (length items - 1) at e in
+      let p = r .0 in
+      let q = r .1 in
+      (p, omega arith)
 
 -- ---- question 20
 
@@ -96,11 +87,7 @@ leaves-hold n items h t = go (bestCut n items (length items - 1)) refl
   where
     go : (o : Option ℕ) → bestCut n items (length items - 1) ≡ o → T (leavesHold 0 (cutsOf o (filled n 0 101 items)) (length items))
     go none e = filled-holds n items (omega arith) t
-    go (some at) e =
-        let r = best-range n items (length items - 1) at e in
-        let p = r .0 in
-        let q = r .1 in
-        yes-and (ltb 0 at) _ (lt→ltb 0 at (omega arith)) (lt→ltb at (length items) (omega arith))
+    go (some at) e = let r = cut-inside n items at e in yes-and (ltb 0 at) _ (lt→ltb 0 at (r .0)) (lt→ltb at (length items) (r .1))
 
 -- ---- split_to_fit
 
@@ -121,24 +108,33 @@ pub to-fit-refused : (n : ℕ) (s : List ℕ) (k : ℕ) → readSheet s ≡ refu
 unfolding splitToFit onSheet bind
 to-fit-refused n s k e = rw e
 
-module _ (n : ℕ) (s : List ℕ) (m : ℕ) (c : Counted s m) where
-  pub to-fit-node : nodesizeFits n ≡ false → splitToFit n s ≡ refused 3
-  unfolding splitToFit onSheet bind ask
-  to-fit-node h = rw (c .reads, h)
+pub to-fit-node : (n : ℕ) (s : List ℕ) → readSheet s ≡ accepted (itemsOf s) → nodesizeFits n ≡ false → splitToFit n s ≡ refused 3
+unfolding splitToFit onSheet bind ask
+to-fit-node n s e h = rw (e, h)
 
-  pub to-fit-large : nodesizeFits n ≡ true → all (alone n) (itemsOf s) ≡ false → splitToFit n s ≡ refused 18
+module _ (n : ℕ) (s : List ℕ) (m : ℕ) (c : Sized s m) (h : nodesizeFits n ≡ true) where
+  pub to-fit-large : all (alone n) (itemsOf s) ≡ false → splitToFit n s ≡ refused 18
   unfolding splitToFit onSheet bind ask
-  to-fit-large h e = rw (c .reads, h, e)
+  to-fit-large e = rw (c .listed .reads, h, e)
 
-  pub to-fit-few : nodesizeFits n ≡ true → all (alone n) (itemsOf s) ≡ true → m < 2 → splitToFit n s ≡ refused 19
-  unfolding splitToFit onSheet bind ask
-  to-fit-few h e l = rw (c .reads, h, e, c .count, lt-leb 2 m l)
+  module _ (e : all (alone n) (itemsOf s) ≡ true) where
+    pub to-fit-few : m < 2 → splitToFit n s ≡ refused 19
+    unfolding splitToFit onSheet bind ask
+    to-fit-few l = rw (c .listed .reads, h, e, c .count-is, lt-leb 2 m l)
 
-  pub to-fit-done : nodesizeFits n ≡ true → all (alone n) (itemsOf s) ≡ true → 2 ≤ m → splitToFit n s ≡ accepted (cuts n (itemsOf s))
-  unfolding splitToFit onSheet bind
-  to-fit-done h e l =
-      let two : 2 ≤ length (itemsOf s) = subst (λ (k : ℕ). 2 ≤ k) (sym (c .count)) l in
-      ap (λ (x : Answer (List Item)). bind x (asked n)) (c .reads) ∙ all-yes n (itemsOf s) h e two
+    done : 2 ≤ length (itemsOf s) → splitToFit n s ≡ accepted (cuts n (itemsOf s))
+    unfolding splitToFit onSheet bind
+    done l = ap (λ (x : Answer (List Item)). bind x (asked n)) (c .listed .reads) ∙ all-yes n (itemsOf s) h e l
+
+    pub to-fit-cut : (at : ℕ) → bestCut n (itemsOf s) (length (itemsOf s) - 1) ≡ some at → splitToFit n s ≡ accepted (at ∷ [])
+    to-fit-cut at f =
+        let r = cut-inside n (itemsOf s) at f in
+        let p = r .0 in
+        let q = r .1 in
+        done (omega arith) ∙ ap accepted (cuts-one n (itemsOf s) at f)
+
+    pub to-fit-filled : 2 ≤ m → bestCut n (itemsOf s) (length (itemsOf s) - 1) ≡ none → splitToFit n s ≡ accepted (filled n 0 101 (itemsOf s))
+    to-fit-filled l f = let k = c .count-is in done (omega arith) ∙ ap accepted (cuts-filled n (itemsOf s) f)
 
 pub node-small : (n : ℕ) → nodesizeFits n ≡ true → n ≤ 65536
 unfolding nodesizeFits

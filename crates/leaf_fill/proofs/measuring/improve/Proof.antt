@@ -3,8 +3,8 @@ use mathlib.Core.Logic.{⊎-elim}
 use Prim.Native.Nat.{_+_, _-_}
 use Rattle.leaf_fill.proofs.Running.{keep-first, keep-left, keep-right, cut-new, cut-closer, cut-kept, gap-up, gap-down}
 use borrow.Author.Needs.{needs}
-use Rattle.leaf_fill.proofs.best.improve.Statement.{statement}
-use Rattle.leaf_fill.proofs.best.improve.Tie as tie
+use Rattle.leaf_fill.proofs.measuring.improve.Statement.{statement}
+use Rattle.leaf_fill.proofs.measuring.improve.Tie as tie
 
 returns : tie.Need-returns
 returns c = keep-first _ _ _ _ _ (c .if1 .taken)
