@@ -132,6 +132,7 @@ fn with_items(b: &mut Bench, count: u64) {
         },
     );
     drops(b, size, &items, middle, last);
+    b.beside("memcpy", size, |out| out[..sheet.len()].copy_from_slice(&sheet));
     // The books have no counterpart in the original: beside it stands its call for the same edit.
     b.row(
         "ledger_post",

@@ -101,6 +101,18 @@ impl Bench {
         self.keep(call, size, best.0, there.then_some(best.1));
     }
 
+    /// Something beside the calls, to hold them against.
+    pub fn beside(&mut self, name: &str, size: &str, mut call: impl FnMut(&mut [u8])) {
+        if !matches!(self.asked, Asked::Times(None)) {
+            return;
+        }
+        let out = &mut self.out[..];
+        let mut call = || call(black_box(&mut *out));
+        let rounds = calibrated(&mut call);
+        let best = (0..BATCHES).map(|_| batch(&mut call, rounds)).fold(f64::MAX, f64::min);
+        self.keep(name, size, best, None);
+    }
+
     /// The best of all passes.
     fn keep(&mut self, call: &str, size: &str, original: f64, archive: Option<f64>) {
         match self.rows.iter_mut().find(|row| row.call == call && row.size == size) {
@@ -138,7 +150,7 @@ impl Bench {
         for Row { call, size, original, archive } in &self.rows {
             let (ns, ratio) = match archive {
                 Some(ns) => (format!("{ns:.1}"), format!("{:.2}", original / ns)),
-                None => ("not there".into(), "".into()),
+                None => ("".into(), "".into()),
             };
             println!("| `{call}` | {size} | {original:.1} | {ns} | {ratio} |");
         }
@@ -149,13 +161,14 @@ impl Bench {
         let of = |call: &str, size: &str| {
             self.rows.iter().find(|row| row.call == call && row.size.starts_with(size))
         };
-        let mut head = "\n| call | 2,000 items / 200 items, original | archive |\n|---|---|---|\n";
+        println!("\n| call | 2,000 items / 200 items, original | archive |\n|---|---|---|");
         for more in self.rows.iter().filter(|row| row.size.starts_with("2000 items")) {
             let Some(less) = of(&more.call, "200 items") else { continue };
-            let Some((long, short)) = more.archive.zip(less.archive) else { continue };
-            let grown = (more.original / less.original, long / short);
-            println!("{head}| `{}` | {:.1} | {:.1} |", more.call, grown.0, grown.1);
-            head = "";
+            let grown = match more.archive.zip(less.archive) {
+                Some((long, short)) => format!("{:.1}", long / short),
+                None => "".into(),
+            };
+            println!("| `{}` | {:.1} | {grown} |", more.call, more.original / less.original);
         }
     }
 }
