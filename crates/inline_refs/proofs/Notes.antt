@@ -18,38 +18,40 @@ use Rattle.format.proofs.Refs.{readRefs-enough}
 use Rattle.inline_refs.specs.declared.wanted.Wanted.{Wanted}
 use Rattle.inline_refs.specs.declared.scan.Seen.{Seen}
 use Rattle.inline_refs.specs.declared.scan.Seen.the-variants.{Open, Gap, Hit, Late}
+use Rattle.inline_refs.specs.declared.scan.Scan.{Scan}
 use Rattle.inline_refs.specs.declared.scan.Scan.the-variants.{Fault, Read}
+use Rattle.inline_refs.specs.declared.scan.Rest.{Rest}
+use Rattle.inline_refs.specs.declared.scan.Rest.the-variants.{Clean, Fault as Faulty}
 use Rattle.inline_refs.specs.declared.start.Start.{Start}
 use Rattle.inline_refs.specs.declared.start.Start.the-variants.{From, Refused as Shut}
 use Rattle.inline_refs.specs.Steps.{readFrom, openOf}
-use Rattle.inline_refs.specs.Scans.{kindOf, isWanted, sizeOf, noted, walk, scanOf, refsIn}
+use Rattle.inline_refs.specs.Scans.{kindOf, isWanted, sizeOf, noted, walk, scanOf, restOf, refsIn}
 use Rattle.inline_refs.proofs.Steps.{by-test, At}
 
 -- ---- what is noted
 
-module _ (w : Wanted) (place at next : ℕ) (r : Ref) (seen : Seen) where
-  module _ (kin b : Bool) (e : seen ≡ Open kin) (n : b ≡ isWanted w r) where
-    pub note-hit : (x : ℕ) → b ≡ true → x ≡ r .weight → Hit at next x ≡ noted w place at next r seen
+module _ (w : Wanted) (place at next : ℕ) (r : Ref) (kin b : Bool) (n : b ≡ isWanted w r) where
+  pub note-hit : (x : ℕ) → b ≡ true → x ≡ r .weight → Hit at next x ≡ noted w place at next r (Open kin)
+  unfolding noted
+  note-hit x t q = simp (sym n ∙ t, q)
+
+  module _ (f : b ≡ false) (k d : Bool) (q : k ≡ kin || eqb (r .kind) (kindOf w)) (s : d ≡ stops (kindOf w) place r) where
+    pub note-gap : d ≡ true → Gap at k ≡ noted w place at next r (Open kin)
     unfolding noted
-    note-hit x t q = simp (e, sym n ∙ t, q)
+    note-gap t = simp (sym n ∙ f, sym s ∙ t, q)
 
-    module _ (f : b ≡ false) (k d : Bool) (q : k ≡ kin || eqb (r .kind) (kindOf w)) (s : d ≡ stops (kindOf w) place r) where
-      pub note-gap : d ≡ true → Gap at k ≡ noted w place at next r seen
-      unfolding noted
-      note-gap t = simp (e, sym n ∙ f, sym s ∙ t, q)
-
-      pub note-open : d ≡ false → Open k ≡ noted w place at next r seen
-      unfolding noted
-      note-open t = simp (e, sym n ∙ f, sym s ∙ t, q)
-
-  module _ (gap : ℕ) (kin b : Bool) (e : seen ≡ Gap gap kin) (n : b ≡ isWanted w r) where
-    pub note-late : (x : ℕ) → b ≡ true → x ≡ r .weight → Late gap at next x ≡ noted w place at next r seen
+    pub note-open : d ≡ false → Open k ≡ noted w place at next r (Open kin)
     unfolding noted
-    note-late x t q = simp (e, sym n ∙ t, q)
+    note-open t = simp (sym n ∙ f, sym s ∙ t, q)
 
-    pub note-still : (k : Bool) → b ≡ false → k ≡ kin || eqb (r .kind) (kindOf w) → Gap gap k ≡ noted w place at next r seen
+  module _ (gap : ℕ) where
+    pub note-late : (x : ℕ) → b ≡ true → x ≡ r .weight → Late gap at next x ≡ noted w place at next r (Gap gap kin)
     unfolding noted
-    note-still k f q = simp (e, sym n ∙ f, q)
+    note-late x t q = simp (sym n ∙ t, q)
+
+    pub note-still : (k : Bool) → b ≡ false → k ≡ kin || eqb (r .kind) (kindOf w) → Gap gap k ≡ noted w place at next r (Gap gap kin)
+    unfolding noted
+    note-still k f q = simp (sym n ∙ f, q)
 
 -- ---- a step of the walk
 
@@ -80,6 +82,55 @@ scan-end w place at seen x e = rw e refl
 pub scan-fault : (w : Wanted) (place at n : ℕ) (seen : Seen) (x : Answer (List Ref)) → x ≡ refused n → Fault n ≡ scanOf w place at seen x
 unfolding scanOf
 scan-fault w place at n seen x e = rw e refl
+
+-- ---- behind the wanted one
+
+pub hit-stays : (w : Wanted) (place start p q x : ℕ) (refs : List Ref) → walk w place start (Hit p q x) refs ≡ Hit p q x
+unfolding walk noted
+hit-stays w place start p q x [] = refl
+hit-stays w place start p q x (r ∷ refs) = hit-stays w place (start + sizeOf r) p q x refs
+
+pub late-stays : (w : Wanted) (place start g p q x : ℕ) (refs : List Ref) → walk w place start (Late g p q x) refs ≡ Late g p q x
+unfolding walk noted
+late-stays w place start g p q x [] = refl
+late-stays w place start g p q x (r ∷ refs) = late-stays w place (start + sizeOf r) g p q x refs
+
+rest-cons : (r : Ref) (x : Answer (List Ref)) → restOf x ≡ restOf (bind x (λ refs. accepted (r ∷ refs)))
+unfolding restOf bind
+rest-cons r (refused number) = refl
+rest-cons r absent = refl
+rest-cons r remove = refl
+rest-cons r (accepted refs) = refl
+
+pub rest-step : (at k p n q next : ℕ) (s : List ℕ) → At s at k p n q next → restOf (readFrom s next) ≡ restOf (readFrom s at)
+rest-step at k p n q next s h = rest-cons (refAt k (drop p s)) (readFrom s next) ∙ ap restOf (sym (h .reads))
+
+pub rest-end : (x : Answer (List Ref)) → x ≡ accepted [] → Clean ≡ restOf x
+unfolding restOf
+rest-end x e = rw e refl
+
+pub rest-fault : (n : ℕ) (x : Answer (List Ref)) → x ≡ refused n → Faulty n ≡ restOf x
+unfolding restOf
+rest-fault n x e = rw e refl
+
+-- what is noted stays, so the rest decides
+abbrev Settled : Seen → Rest → Scan
+Settled seen Clean = Read seen
+Settled seen (Faulty number) = Fault number
+
+settled : (w : Wanted) (place at : ℕ) (seen : Seen) → ((refs : List Ref) → walk w place at seen refs ≡ seen)
+    → (x : Answer (List Ref)) → Settled seen (restOf x) ≡ scanOf w place at seen x
+unfolding restOf scanOf
+settled w place at seen stays (refused number) = refl
+settled w place at seen stays absent = refl
+settled w place at seen stays remove = refl
+settled w place at seen stays (accepted refs) = ap Read (sym (stays refs))
+
+pub rest-hit : (w : Wanted) (place at p q y : ℕ) (r : Rest) (x : Answer (List Ref)) → r ≡ restOf x → Settled (Hit p q y) r ≡ scanOf w place at (Hit p q y) x
+rest-hit w place at p q y r x e = ap (Settled (Hit p q y)) e ∙ settled w place at (Hit p q y) (hit-stays w place at p q y) x
+
+pub rest-late : (w : Wanted) (place at g p q y : ℕ) (r : Rest) (x : Answer (List Ref)) → r ≡ restOf x → Settled (Late g p q y) r ≡ scanOf w place at (Late g p q y) x
+rest-late w place at g p q y r x e = ap (Settled (Late g p q y)) e ∙ settled w place at (Late g p q y) (late-stays w place at g p q y) x
 
 -- ---- where the references start
 

@@ -67,6 +67,10 @@ pub record At (s : List ℕ) (at k p n q next : ℕ) : Type 0 where
   pub place : q ≡ countPosition k
   pub reads : readFrom s at ≡ bind (readFrom s next) (λ refs. accepted (refAt k (drop p s) ∷ refs))
 
+-- a reference that was stepped over ends within the body
+pub ends-within : (s : List ℕ) (at k p n q next : ℕ) → At s at k p n q next → p + payloadLength k ≤ length s
+ends-within s at k p n q next h = omega (arith, h .start, h .further, h .within, h .long)
+
 abbrev pub View : List ℕ → ℕ → Step → Type 0
 View s at (Whole k p n q c) = At s at k p n q (c .at)
 View s at End = readFrom s at ≡ accepted []

@@ -15,6 +15,7 @@ use Rattle.inline_refs.specs.declared.scan.Seen.{Seen}
 use Rattle.inline_refs.specs.declared.scan.Seen.the-variants.{Open, Gap, Hit, Late}
 use Rattle.inline_refs.specs.Scans.{kindOf, isWanted, sizeOf, noted, walk}
 use Rattle.inline_refs.proofs.Steps.{by-test}
+use Rattle.inline_refs.proofs.Notes.{hit-stays, late-stays}
 
 -- ---- a part of the references that stands from one position up to another
 
@@ -86,16 +87,6 @@ module _ (w : Wanted) (place : ℕ) where
   View start refs kin₀ (Hit p q x) = HitAt start refs p q x
   View start refs kin₀ (Late g p q x) = CutAt (isWanted w) start refs p q x × StopAt start refs g
 
-  hit-stays : (start p q x : ℕ) (refs : List Ref) → walk w place start (Hit p q x) refs ≡ Hit p q x
-  unfolding walk noted
-  hit-stays start p q x [] = refl
-  hit-stays start p q x (r ∷ refs) = hit-stays (start + sizeOf r) p q x refs
-
-  late-stays : (start g p q x : ℕ) (refs : List Ref) → walk w place start (Late g p q x) refs ≡ Late g p q x
-  unfolding walk noted
-  late-stays start g p q x [] = refl
-  late-stays start g p q x (r ∷ refs) = late-stays (start + sizeOf r) g p q x refs
-
   or-false : (b : Bool) → b ≡ b || false
   or-false true = refl
   or-false false = refl
@@ -118,7 +109,7 @@ module _ (w : Wanted) (place : ℕ) where
   gap-view start (r ∷ refs) g kin₀ =
       by-test (isWanted w r)
       (λ t. rw t
-      (subst (GapView start (r ∷ refs) g kin₀) (sym (late-stays (start + sizeOf r) g start (start + sizeOf r) (r .weight) refs))
+      (subst (GapView start (r ∷ refs) g kin₀) (sym (late-stays w place (start + sizeOf r) g start (start + sizeOf r) (r .weight) refs))
       (refl, cut-here (isWanted w) start r refs (r .weight) t refl)))
       (λ f. rw f
       (gap-later start r refs g kin₀ (walk w place (start + sizeOf r) (Gap g (kin₀ || eqb (r .kind) (kindOf w))) refs) f (gap-view (start + sizeOf r) refs g (kin₀ || eqb (r .kind) (kindOf w)))))
@@ -177,7 +168,7 @@ module _ (w : Wanted) (place : ℕ) where
   view start (r ∷ refs) kin₀ =
       by-test (isWanted w r)
       (λ t. rw t
-      (subst (View start (r ∷ refs) kin₀) (sym (hit-stays (start + sizeOf r) start (start + sizeOf r) (r .weight) refs))
+      (subst (View start (r ∷ refs) kin₀) (sym (hit-stays w place (start + sizeOf r) start (start + sizeOf r) (r .weight) refs))
       (record { hit = cut-here (isWanted w) start r refs (r .weight) t refl; first = rw t refl })))
       (λ f. by-test (stops (kindOf w) place r)
       (λ d. rw (f, d)

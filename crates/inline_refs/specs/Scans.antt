@@ -1,20 +1,19 @@
 -- The one scan over the references of a body: what it notes on the way, and what it hands back. Assumes nothing.
 use mathlib.Core.Bool.{Bool, _||_, cond}
 use mathlib.Core.List.{List, [], _∷_}
-use mathlib.Core.Path.{_≡_}
-use Prim.Native.Nat.{ℕ, _+_, _≤_}
-use lib.Dec.{T, eqb}
-use lib.ListN.{length, drop}
+use Prim.Native.Nat.{ℕ, _+_}
+use lib.Dec.{eqb}
 use Rattle.format.specs.Questions.{Answer, refused, absent, remove, accepted}
-use Rattle.format.specs.References.{known, payloadLength, countPosition, Ref, refAt}
+use Rattle.format.specs.References.{payloadLength, Ref}
 use Rattle.format.specs.Bodies.{onBody, named, one, triple, stops}
 use Rattle.inline_refs.specs.declared.wanted.Wanted.{Wanted}
 use Rattle.inline_refs.specs.declared.wanted.Wanted.the-variants.{Block, Data, SharedBlock, SharedData}
 use Rattle.inline_refs.specs.declared.scan.Seen.{Seen}
 use Rattle.inline_refs.specs.declared.scan.Seen.the-variants.{Open, Gap, Hit, Late}
-use Rattle.inline_refs.specs.declared.scan.Here.{Here}
 use Rattle.inline_refs.specs.declared.scan.Scan.{Scan}
 use Rattle.inline_refs.specs.declared.scan.Scan.the-variants.{Fault, Read}
+use Rattle.inline_refs.specs.declared.scan.Rest.{Rest}
+use Rattle.inline_refs.specs.declared.scan.Rest.the-variants.{Clean, Fault as Faulty}
 
 unfoldable pub kindOf : Wanted → ℕ
 kindOf (Block name) = 176
@@ -35,15 +34,6 @@ isWanted wanted r = named (kindOf wanted) (fieldsOf wanted) r
 -- how many bytes a reference takes
 unfoldable pub sizeOf : Ref → ℕ
 sizeOf r = 1 + payloadLength (r .kind)
-
--- what a scan has come to is a reference of a known kind that ends within the body
-abbrev pub Stands : Here → List ℕ → Type 0
-Stands here body =
-    T (known (here .kind)) × (here .start + payloadLength (here .kind) ≤ length body) × (here .count ≡ countPosition (here .kind))
-
--- and that reference
-abbrev pub refOf : Here → List ℕ → Ref
-refOf here body = refAt (here .kind) (drop (here .start) body)
 
 -- what is noted at a reference that stands at `at`: the first wanted one; and, while there is none, the first one that a new
 -- reference goes before, and whether any of the wanted kind stands
@@ -67,6 +57,13 @@ scanOf wanted place at seen (refused number) = Fault number
 scanOf wanted place at seen absent = Fault 100
 scanOf wanted place at seen remove = Fault 101
 scanOf wanted place at seen (accepted refs) = Read (walk wanted place at seen refs)
+
+-- where nothing is noted any more
+unfoldable pub restOf : Answer (List Ref) → Rest
+restOf (refused number) = Faulty number
+restOf absent = Faulty 100
+restOf remove = Faulty 101
+restOf (accepted refs) = Clean
 
 -- questions 3 and 6 to 8, then the references
 unfoldable pub refsIn : ℕ → List ℕ → Answer (List Ref)

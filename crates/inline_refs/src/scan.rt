@@ -5,12 +5,12 @@ use crate::step::Step;
 use crate::wanted::Wanted;
 ghost use mathlib.Core.Path.{_≡_};
 ghost use mathlib.Core.Bool.{false};
-ghost use Prim.Native.Nat.{_+_, _≤_};
+ghost use Prim.Native.Nat.{ℕ, _+_, _≤_};
 ghost use lib.Dec.{T};
 ghost use lib.ListN.{length, drop};
 ghost use Rattle.format.specs.References.{kinds, known, payloadLength, countPosition, refAt, startOf};
 ghost use Rattle.inline_refs.specs.Steps.{readFrom};
-ghost use Rattle.inline_refs.specs.Scans.{Stands, refOf, noted, scanOf, refsIn};
+ghost use Rattle.inline_refs.specs.Scans.{scanOf, restOf, refsIn};
 
 // What a scan has noted.
 pub enum Seen {
@@ -58,94 +58,83 @@ pub fn weight_at(body: &[u8], kind: u8, start: usize, count: usize) -> u32
     1
 }
 
-// A reference that a scan has come to: where it stands, its kind, where its payload starts, where in the payload the count
-// stands, and where the next one starts.
-pub struct Here {
-    pub at: usize,
-    pub kind: u8,
-    pub start: usize,
-    pub count: usize,
-    pub next: usize,
+// What references are read for where nothing is noted any more: the question that is answered "no", if there is one.
+pub enum Rest {
+    Clean,
+    Fault(u32),
 }
 
-// What is noted at one more reference where nothing was noted before. The wanted one is looked for first: it never stops a new one.
-fn note_open(body: &[u8], wanted: Wanted, place: u64, kin: bool, here: Here) -> Seen
-    requires { ⌜ Stands here (now body) ⌝ }
-    ensures { λ r. ⌜ r ≡ noted wanted place (here .at) (here .next) (refOf here (now (body .entry))) (Seen.Open kin) ⌝ }
-{
-    let kind = here.kind;
-    let start = here.start;
-    if crate::wanted::names(wanted, body, kind, start) {
-        let weight = weight_at(body, kind, start, here.count);
-        return Seen::Hit {
-            at: here.at,
-            next: here.next,
-            weight,
-        };
-    }
-    let stood = crate::wanted::akin(kin, wanted, kind);
-    let sought = crate::wanted::kind_of(wanted);
-    if crate::wanted::stops_at(sought, place, body, kind, start) {
-        return Seen::Gap {
-            at: here.at,
-            kin: stood,
-        };
-    }
-    Seen::Open { kin: stood }
-}
-
-// The same behind a gap.
-fn note_gap(body: &[u8], wanted: Wanted, place: u64, gap: usize, kin: bool, here: Here) -> Seen
-    requires { ⌜ Stands here (now body) ⌝ }
-    ensures { λ r. ⌜ r ≡ noted wanted place (here .at) (here .next) (refOf here (now (body .entry))) (Seen.Gap gap kin) ⌝ }
-{
-    let kind = here.kind;
-    let start = here.start;
-    if crate::wanted::names(wanted, body, kind, start) {
-        let weight = weight_at(body, kind, start, here.count);
-        return Seen::Late {
-            gap,
-            at: here.at,
-            next: here.next,
-            weight,
-        };
-    }
-    let stood = crate::wanted::akin(kin, wanted, kind);
-    Seen::Gap {
-        at: gap,
-        kin: stood,
-    }
-}
-
-// What is noted at one more reference.
-fn note(body: &[u8], wanted: Wanted, place: u64, seen: Seen, here: Here) -> Seen
-    requires { ⌜ Stands here (now body) ⌝ }
-    ensures { λ r. ⌜ r ≡ noted wanted place (here .at) (here .next) (refOf here (now (body .entry))) seen ⌝ }
-{
-    match seen {
-        Seen::Open { kin } => note_open(body, wanted, place, kin, here),
-        Seen::Gap { at, kin } => note_gap(body, wanted, place, at, kin, here),
-        Seen::Hit {
-            at: _,
-            next: _,
-            weight: _,
-        } => seen,
-        Seen::Late {
-            gap: _,
-            at: _,
-            next: _,
-            weight: _,
-        } => seen,
-    }
-}
-
-// From `start` to the end of the body.
-pub fn scan_from(rows: &[[u8; 3]; 5], body: &[u8], start: usize, wanted: Wanted, place: u64) -> Scan
+// A scan has one loop for each thing that it still looks for, so that no loop asks what was noted before. This is the last:
+// from `start` to the end of the body.
+fn rest_of(rows: &[[u8; 3]; 5], body: &[u8], start: usize) -> Rest
     requires { ⌜ now rows ≡ kinds ⌝ }
-    ensures { λ r. ⌜ r ≡ scanOf wanted place start (Seen.Open false) (readFrom (now (body .entry)) start) ⌝ }
+    ensures { λ r. ⌜ r ≡ restOf (readFrom (now (body .entry)) start) ⌝ }
 {
     let mut at = start;
-    let mut seen = Seen::Open { kin: false };
+    loop {
+        let cursor = Cursor { at };
+        match cursor.step(rows, body) {
+            Step::Ref {
+                kind: _,
+                start: _,
+                size: _,
+                count: _,
+                next,
+            } => at = next.at,
+            Step::End => return Rest::Clean,
+            Step::Refused(number) => return Rest::Fault(number),
+        }
+    }
+}
+
+// What is left of a scan behind the wanted reference, which stands at `at`.
+fn scan_hit(rows: &[[u8; 3]; 5], body: &[u8], at: usize, next: usize, weight: u32) -> Scan
+    requires { ⌜ now rows ≡ kinds ⌝ }
+    ensures { λ r. ⌜ ((wanted : Wanted) (place : ℕ) → r ≡ scanOf wanted place next (Seen.Hit at next weight) (readFrom (now (body .entry)) next)) ⌝ }
+{
+    match rest_of(rows, body, next) {
+        Rest::Clean => Scan::Read(Seen::Hit { at, next, weight }),
+        Rest::Fault(number) => Scan::Fault(number),
+    }
+}
+
+// The same where a new one goes before the reference at `gap`.
+fn scan_late(
+    rows: &[[u8; 3]; 5],
+    body: &[u8],
+    gap: usize,
+    at: usize,
+    next: usize,
+    weight: u32,
+) -> Scan
+    requires { ⌜ now rows ≡ kinds ⌝ }
+    ensures { λ r. ⌜ ((wanted : Wanted) (place : ℕ) → r ≡ scanOf wanted place next (Seen.Late gap at next weight) (readFrom (now (body .entry)) next)) ⌝ }
+{
+    match rest_of(rows, body, next) {
+        Rest::Clean => Scan::Read(Seen::Late {
+            gap,
+            at,
+            next,
+            weight,
+        }),
+        Rest::Fault(number) => Scan::Fault(number),
+    }
+}
+
+// From `start` on, behind the reference at `gap` that a new one goes before: only the wanted one is looked for.
+fn scan_gap(
+    rows: &[[u8; 3]; 5],
+    body: &[u8],
+    start: usize,
+    wanted: Wanted,
+    gap: usize,
+    stood: bool,
+) -> Scan
+    requires { ⌜ now rows ≡ kinds ⌝ }
+    ensures { λ r. ⌜ ((place : ℕ) → r ≡ scanOf wanted place start (Seen.Gap gap stood) (readFrom (now (body .entry)) start)) ⌝ }
+{
+    let mut at = start;
+    let mut kin = stood;
     loop {
         let cursor = Cursor { at };
         match cursor.step(rows, body) {
@@ -156,17 +145,48 @@ pub fn scan_from(rows: &[[u8; 3]; 5], body: &[u8], start: usize, wanted: Wanted,
                 count,
                 next,
             } => {
-                let here = Here {
-                    at,
-                    kind,
-                    start: payload,
-                    count,
-                    next: next.at,
-                };
-                seen = note(body, wanted, place, seen, here);
-                at = here.next;
+                if crate::wanted::names(wanted, body, kind, payload) {
+                    let weight = weight_at(body, kind, payload, count);
+                    return scan_late(rows, body, gap, at, next.at, weight);
+                }
+                kin = crate::wanted::akin(kin, wanted, kind);
+                at = next.at;
             }
-            Step::End => return Scan::Read(seen),
+            Step::End => return Scan::Read(Seen::Gap { at: gap, kin }),
+            Step::Refused(number) => return Scan::Fault(number),
+        }
+    }
+}
+
+// From `start` to the end of the body. The wanted reference is looked for first: it never stops a new one.
+pub fn scan_from(rows: &[[u8; 3]; 5], body: &[u8], start: usize, wanted: Wanted, place: u64) -> Scan
+    requires { ⌜ now rows ≡ kinds ⌝ }
+    ensures { λ r. ⌜ r ≡ scanOf wanted place start (Seen.Open false) (readFrom (now (body .entry)) start) ⌝ }
+{
+    let sought = crate::wanted::kind_of(wanted);
+    let mut at = start;
+    let mut kin = false;
+    loop {
+        let cursor = Cursor { at };
+        match cursor.step(rows, body) {
+            Step::Ref {
+                kind,
+                start: payload,
+                size: _,
+                count,
+                next,
+            } => {
+                if crate::wanted::names(wanted, body, kind, payload) {
+                    let weight = weight_at(body, kind, payload, count);
+                    return scan_hit(rows, body, at, next.at, weight);
+                }
+                kin = crate::wanted::akin(kin, wanted, kind);
+                if crate::wanted::stops_at(sought, place, body, kind, payload) {
+                    return scan_gap(rows, body, next.at, wanted, at, kin);
+                }
+                at = next.at;
+            }
+            Step::End => return Scan::Read(Seen::Open { kin }),
             Step::Refused(number) => return Scan::Fault(number),
         }
     }
