@@ -43,26 +43,20 @@ fn passes(wanted: Wanted, n: usize, key: Key) -> bool
     }
 }
 
-// What was found so far; or else the item at hand, if it is wanted.
-fn first_of(
-    place: Place,
-    wanted: Wanted,
-    number: usize,
-    key: Key,
-    start: usize,
-    end: usize,
-) -> Place
-    ensures { λ r. ⌜ r ≡ orElse place (cond (passing wanted number (record { key = key; bytes = [] })) (At number start end) Missing) ⌝ }
+// What was found so far; or else the item at hand, if it is wanted. What was found is put together anew: a copy of the enum would
+// copy the unused bytes between its fields too, and the next turn would wait for them.
+fn first_of(place: Place, wanted: Wanted, n: usize, key: Key, at: usize, next: usize) -> Place
+    ensures { λ r. ⌜ r ≡ orElse place (cond (passing wanted n (record { key = key; bytes = [] })) (At n at next) Missing) ⌝ }
 {
     match place {
-        Place::At {
-            number: _,
-            start: _,
-            end: _,
-        } => place,
+        Place::At { number, start, end } => Place::At { number, start, end },
         Place::Missing => {
-            if passes(wanted, number, key) {
-                return Place::At { number, start, end };
+            if passes(wanted, n, key) {
+                return Place::At {
+                    number: n,
+                    start: at,
+                    end: next,
+                };
             }
             Place::Missing
         }
@@ -103,7 +97,8 @@ fn listing(ordered: bool, n: usize, ahead: u32, place: Place) -> Listing
     Listing::Refused(2)
 }
 
-// The items after the version byte. A fault in a later item is refusal 1 even where keys fell before it or the wanted one was found.
+// The items after the version byte. A fault in a later item is refusal 1 even where keys fell before it or the wanted item stands
+// before it.
 fn walk(s: &[u8], wanted: Wanted) -> Listing
     requires { ⌜ length (now s) ≤ 262144 ⌝ }
     ensures { λ r. ⌜ r ≡ listingOf (passing wanted) (bind (readItems 4096 (drop 1 (now (s .entry)))) (λ items. ask (rising items) 2 (accepted items))) ⌝ }
