@@ -1,5 +1,5 @@
 pub mod Steps
-pub mod Reading
 pub mod Walks
+pub mod Reading
 pub mod Places
 pub mod Spaces

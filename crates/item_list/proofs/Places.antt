@@ -20,7 +20,11 @@ use Rattle.format.proofs.Items.{length-itemBytes, length-sheetBytes, itemsBytes
 use Rattle.format.proofs.Keys.{beyond, below-trans, below-irrefl, below-or, below-not-same, above-not-same, rising-after}
 use Rattle.item_list.specs.declared.Place.the-variants.{At, Missing}
 use Rattle.item_list.specs.declared.Sought.the-variants.{Present, Absent}
-use Rattle.item_list.specs.Seeks.{sizeOf, placeIn, numbered, recorded, seekIn}
+use Rattle.item_list.specs.Steps.{itemAt, itemsOf}
+use Rattle.item_list.specs.Seeks.{sizeOf, placeIn, numbered, recorded, atOrPast, seekIn}
+use Rattle.item_list.proofs.Steps.{WholeAt}
+use Rattle.item_list.proofs.Walks.{Rest, rest-all, rest-cons}
+use Rattle.item_list.proofs.Reading.{Counted}
 
 -- an item of a list whose first stands at `at`: where it starts and ends
 pub record Stands (at : ℕ) (front : List Item) (hit : Item) (start end : ℕ) : Type 0 where
@@ -251,6 +255,56 @@ gap key at (i ∷ items) start r e =
         }
     go false true h k f ih = gap-first key at start i items r k cc
     go false false h k f ih = let z : _≡_ {A = ℕ} 0 1 = cc in absurd (omega arith)
+
+-- ---- by the first item at or past the key
+
+pub record Reached (s : List ℕ) (key : Key) (items : List Item) (at start end : ℕ) : Type 0 where
+  pub sought : seekIn key at items ≡ cond (keyBelow key (itemAt s start .key)) (Absent start) (Present start end)
+  pub whole : WholeAt s start end
+
+pub reached : (s : List ℕ) (key : Key) (n at : ℕ) (items : List Item) (number start end : ℕ) → Rest s at items
+    → placeIn (atOrPast key) n at items ≡ At number start end → Reached s key items at start end
+unfolding placeIn seekIn
+reached s key n at [] number start end r e = let z : _≡_ {A = ℕ} 0 1 = cc in absurd (omega arith)
+reached s key n at (i ∷ items) number start end r e =
+    let t = rest-cons s at i items r in
+    go (keyBelow (i .key) key) refl e (t .0) (t .1) (reached s key (n + 1) (at + sizeOf i) items number start end (t .2))
+  where
+    go : (b : Bool) → keyBelow (i .key) key ≡ b
+        → cond (not b) (At n at (at + sizeOf i)) (placeIn (atOrPast key) (n + 1) (at + sizeOf i) items) ≡ At number start end
+        → i ≡ itemAt s at → WholeAt s at (at + sizeOf i)
+        → (placeIn (atOrPast key) (n + 1) (at + sizeOf i) items ≡ At number start end → Reached s key items (at + sizeOf i) start end)
+        → Reached s key (i ∷ items) at start end
+    go true h f same w ih = let t = ih f in record { sought = rw h (t .sought); whole = t .whole }
+    go false h f same w ih =
+        let p : at ≡ start = cc in
+        let q : at + sizeOf i ≡ end = cc in
+        record {
+          sought = rw (h, q) (λ j. cond (keyBelow key ((same ∙ ap (itemAt s) p) j .key)) (Absent (p j)) (Present (p j) end));
+          whole = subst (λ (k : ℕ). WholeAt s k end) p (subst (λ (k : ℕ). WholeAt s at k) q w);
+        }
+
+past-all : (key : Key) (n at : ℕ) (items : List Item) → placeIn (atOrPast key) n at items ≡ Missing
+    → seekIn key at items ≡ Absent (at + length (itemsBytes items))
+unfolding placeIn seekIn itemsBytes
+past-all key n at [] e = ap Absent (omega arith)
+past-all key n at (i ∷ items) e = go (keyBelow (i .key) key) refl e (past-all key (n + 1) (at + sizeOf i) items)
+  where
+    go : (b : Bool) → keyBelow (i .key) key ≡ b
+        → cond (not b) (At n at (at + sizeOf i)) (placeIn (atOrPast key) (n + 1) (at + sizeOf i) items) ≡ Missing
+        → (placeIn (atOrPast key) (n + 1) (at + sizeOf i) items ≡ Missing → seekIn key (at + sizeOf i) items ≡ Absent (at + sizeOf i + length (itemsBytes items)))
+        → seekIn key at (i ∷ items) ≡ Absent (at + length (itemsBytes (i ∷ items)))
+    go true h f ih = rw h (ih f ∙ ap Absent (further at i items _ refl))
+    go false h f ih = let z : _≡_ {A = ℕ} 0 1 = cc in absurd (omega arith)
+
+-- in a list that was accepted
+module _ (s : List ℕ) (n : ℕ) (c : Counted s n) (key : Key) where
+  pub key-reached : (number start end : ℕ) → placeIn (atOrPast key) 0 1 (itemsOf s) ≡ At number start end → Reached s key (itemsOf s) 1 start end
+  key-reached number start end e =
+      reached s key 0 1 (itemsOf s) number start end (rest-all s (record { reads = c .reads })) e
+
+  pub key-past-all : placeIn (atOrPast key) 0 1 (itemsOf s) ≡ Missing → seekIn key 1 (itemsOf s) ≡ Absent (length s)
+  key-past-all e = past-all key 0 1 (itemsOf s) e ∙ ap Absent (sym (length-sheetBytes (itemsOf s)) ∙ ap length (c .bytes-are))
 
 -- so no cut finds it
 

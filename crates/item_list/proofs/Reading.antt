@@ -1,4 +1,4 @@
--- The pass of questions 1 and 2, on plain values. Assumes nothing.
+-- The one pass, on plain values. Assumes nothing.
 use mathlib.Core.Path.{_≡_, refl, sym, ap, _∙_, subst}
 use mathlib.Core.Bool.{Bool, true, false, _&&_, cond}
 use mathlib.Core.List.{List, [], _∷_}
@@ -12,13 +12,23 @@ use Rattle.fields.specs.Lists.{all}
 use Rattle.fields.specs.Numbers.{areBytes}
 use Rattle.format.specs.declared.Key.{Key}
 use Rattle.format.specs.Questions.{Answer, refused, absent, remove, accepted, ask, bind}
+use Rattle.format.specs.Apply.{isRecord}
 use Rattle.format.specs.Items.{Item, keyBelow, above, rising, readItems, readSheet, sheetBytes, nodesizeFits}
 use Rattle.format.proofs.Items.{ReadsSheet, sheet, broken, unsorted, readSheet-decides, sane, sheet-sane, sheetBytes-read}
 use Rattle.item_list.specs.declared.Step.the-variants.{Whole, Broken, End}
 use Rattle.item_list.specs.declared.Checked.{Checked}
-use Rattle.item_list.specs.declared.Checked.the-variants.{Count, Refused}
-use Rattle.item_list.specs.Steps.{itemAt, stepAt, following, verdictOf, checkedOf, itemsIn, itemsOf, Listed}
-use Rattle.item_list.proofs.Steps.{and-false, items-end, items-broken, items-over, items-item}
+use Rattle.item_list.specs.declared.Checked.the-variants.{Count, Refused as NoList}
+use Rattle.item_list.specs.declared.Place.{Place}
+use Rattle.item_list.specs.declared.Place.the-variants.{At, Missing}
+use Rattle.item_list.specs.declared.Wanted.{Wanted}
+use Rattle.item_list.specs.declared.Wanted.the-variants.{Nothing, Number, Record, AtOrPast}
+use Rattle.item_list.specs.declared.Listing.{Listing}
+use Rattle.item_list.specs.declared.Listing.the-variants.{Refused, Found, Missing as Without}
+use Rattle.item_list.specs.Steps.{itemAt, stepAt, following, checkedOf, itemsIn, itemsOf, Listed}
+use Rattle.item_list.specs.Seeks.{sizeOf, placeIn, passing}
+use Rattle.item_list.specs.Listings.{listedAt, listingOf, orElse, verdictOf}
+use Rattle.item_list.proofs.Steps.{and-false, whole-at, items-end, items-broken, items-over, items-item}
+use Rattle.item_list.proofs.Walks.{ends}
 
 -- ---- the pass
 
@@ -27,12 +37,13 @@ abbrev after : ℕ → Key → List Item → Bool
 after zero key items = rising items
 after (suc n) key items = above (record { key = key; bytes = [] }) items && rising items
 
--- the answer where n items were read, in order or not, and the rest reads as given
-unfoldable pub run : ℕ → Bool → Key → Answer (List Item) → Checked
-run n ordered key (refused number) = Refused number
-run n ordered key absent = Refused 100
-run n ordered key remove = Refused 101
-run n ordered key (accepted items) = verdictOf (ordered && after n key items) (n + length items)
+-- the answer where n items were read, in order or not, with this place among them, and the rest reads as given from `at` on
+unfoldable pub run : (ℕ → Item → Bool) → Place → ℕ → ℕ → Bool → Key → Answer (List Item) → Listing
+run test place at n ordered key (refused number) = Refused number
+run test place at n ordered key absent = Refused 100
+run test place at n ordered key remove = Refused 101
+run test place at n ordered key (accepted items) =
+    verdictOf (ordered && after n key items) (n + length items) (orElse place (placeIn test n at items))
 
 after-nil : (n : ℕ) (key : Key) → after n key [] ≡ true
 after-nil zero key = refl
@@ -55,50 +66,78 @@ and-true : (a : Bool) → (a && true) ≡ a
 and-true true = refl
 and-true false = refl
 
-run-cons : (n : ℕ) (o : Bool) (key : Key) (i : Item) (r : Answer (List Item))
-    → run n o key (bind r (λ items. accepted (i ∷ items))) ≡ run (suc n) (o && following n key (i .key)) (i .key) r
-unfolding run bind
-run-cons n o key i (refused number) = refl
-run-cons n o key i absent = refl
-run-cons n o key i remove = refl
-run-cons n o key i (accepted items) =
-    let e : n + suc (length items) ≡ suc n + length items = omega arith in
-    rw (after-cons n key i items, and-assoc o (following n key (i .key)) (after (suc n) (i .key) items), e)
+place-nil : (place : Place) → orElse place Missing ≡ place
+unfolding orElse
+place-nil Missing = refl
+place-nil (At number start end) = refl
 
-pub run-first : (key : Key) (r : Answer (List Item)) → checkedOf (bind r (λ items. ask (rising items) 2 (accepted items))) ≡ run 0 true key r
-unfolding run bind ask checkedOf verdictOf
-run-first key (refused number) = refl
-run-first key absent = refl
-run-first key remove = refl
-run-first key (accepted items) = go (rising items)
+place-cons : (place other : Place) (b : Bool) (n at next : ℕ)
+    → orElse place (cond b (At n at next) other) ≡ orElse (orElse place (cond b (At n at next) Missing)) other
+unfolding orElse
+place-cons Missing other true n at next = refl
+place-cons Missing other false n at next = refl
+place-cons (At number start end) other b n at next = refl
+
+run-cons : (test : ℕ → Item → Bool) (place : Place) (at next n : ℕ) (o : Bool) (key : Key) (i : Item) (r : Answer (List Item)) → at + sizeOf i ≡ next
+    → run test place at n o key (bind r (λ items. accepted (i ∷ items)))
+    ≡ run test (orElse place (cond (test n i) (At n at next) Missing)) next (suc n) (o && following n key (i .key)) (i .key) r
+unfolding run bind placeIn
+run-cons test place at next n o key i (refused number) to = refl
+run-cons test place at next n o key i absent to = refl
+run-cons test place at next n o key i remove to = refl
+run-cons test place at next n o key i (accepted items) to =
+    let e : n + suc (length items) ≡ suc n + length items = omega arith in
+    rw (to, after-cons n key i items, and-assoc o (following n key (i .key)) (after (suc n) (i .key) items), e, add-one n, place-cons place (placeIn test (suc n) next items) (test n i) n at next)
+
+pub run-first : (test : ℕ → Item → Bool) (key : Key) (r : Answer (List Item))
+    → listingOf test (bind r (λ items. ask (rising items) 2 (accepted items))) ≡ run test Missing 1 0 true key r
+unfolding run bind ask listingOf verdictOf orElse
+run-first test key (refused number) = refl
+run-first test key absent = refl
+run-first test key remove = refl
+run-first test key (accepted items) = go (rising items)
   where
-    go : (b : Bool) → checkedOf (ask b 2 (accepted items)) ≡ cond b (Count (0 + length items)) (Refused 2)
-    go true = ap Count (omega arith)
+    go : (b : Bool) → listingOf test (ask b 2 (accepted items)) ≡ cond b (listedAt (0 + length items) (placeIn test 0 1 items)) (Refused 2)
+    go true = ap (λ (n : ℕ). listedAt n (placeIn test 0 1 items)) (omega arith)
     go false = refl
 
-module _ (s : List ℕ) (at n : ℕ) (o : Bool) (key : Key) where
-  pub run-end : stepAt s at ≡ End → run n o key (readItems (4096 - n) (drop at s)) ≡ verdictOf o n
-  unfolding run
+-- a test looks at the key alone
+by-key : (wanted : Wanted) (n : ℕ) (i : Item) → passing wanted n (record { key = i .key; bytes = [] }) ≡ passing wanted n i
+unfolding passing isRecord
+by-key Nothing n i = refl
+by-key (Number number) n i = refl
+by-key (Record extent) n i = refl
+by-key (AtOrPast key) n i = refl
+
+module _ (wanted : Wanted) (s : List ℕ) (place : Place) (at n : ℕ) (o : Bool) (key : Key) where
+  pub run-end : stepAt s at ≡ End → run (passing wanted) place at n o key (readItems (4096 - n) (drop at s)) ≡ verdictOf o n place
+  unfolding run placeIn
   run-end e =
       let z : n + 0 ≡ n = omega arith in
-      rw (items-end (4096 - n) s at e, after-nil n key, and-true o, z)
+      rw (items-end (4096 - n) s at e, after-nil n key, and-true o, z, place-nil place)
 
-  pub run-broken : stepAt s at ≡ Broken → run n o key (readItems (4096 - n) (drop at s)) ≡ Refused 1
+  pub run-broken : stepAt s at ≡ Broken → run (passing wanted) place at n o key (readItems (4096 - n) (drop at s)) ≡ Refused 1
   unfolding run
   run-broken e = rw (items-broken (4096 - n) s at e)
 
-  pub run-over : 4096 ≤ n → at < length s → run n o key (readItems (4096 - n) (drop at s)) ≡ Refused 1
+  pub run-over : 4096 ≤ n → at < length s → run (passing wanted) place at n o key (readItems (4096 - n) (drop at s)) ≡ Refused 1
   unfolding run
   run-over h l =
       let z : 4096 - n ≡ 0 = omega arith in
       rw (z, items-over s at l)
 
-  pub run-step : (next : ℕ) → n < 4096 → stepAt s at ≡ Whole next
-      → run n o key (readItems (4096 - n) (drop at s))
-      ≡ run (n + 1) (o && following n key (itemAt s at .key)) (itemAt s at .key) (readItems (4096 - (n + 1)) (drop next s))
-  run-step next h e =
+  -- the item at hand: its key, whether keys still rise, and what is found with it
+  pub run-step : (next : ℕ) (here : Key) (o₁ : Bool) (place₁ : Place) → n < 4096 → stepAt s at ≡ Whole next → here ≡ itemAt s at .key
+      → o₁ ≡ (o && following n key here)
+      → place₁ ≡ orElse place (cond (passing wanted n (record { key = here; bytes = [] })) (At n at next) Missing)
+      → run (passing wanted) place at n o key (readItems (4096 - n) (drop at s))
+      ≡ run (passing wanted) place₁ next (n + 1) o₁ here (readItems (4096 - (n + 1)) (drop next s))
+  run-step next here o₁ place₁ h e k p q =
       let z : 4096 - n ≡ suc (4096 - (n + 1)) = omega arith in
-      rw (z, items-item (4096 - (n + 1)) s at next e, add-one n) (run-cons n o key (itemAt s at) (readItems (4096 - suc n) (drop next s)))
+      let d : (cond (passing wanted n (record { key = here; bytes = [] })) (At n at next) Missing) ≡ cond (passing wanted n (itemAt s at)) (At n at next) Missing =
+      ap (λ (x : Key). cond (passing wanted n (record { key = x; bytes = [] })) (At n at next) Missing) k ∙ ap (λ (b : Bool). cond b (At n at next) Missing) (by-key wanted n (itemAt s at)) in
+      rw (p, q, d, k, z, items-item (4096 - (n + 1)) s at next e, add-one n)
+      (run-cons (passing wanted) place at next n o key (itemAt s at) (readItems (4096 - suc n) (drop next s)) (ends s at next (whole-at s at next e)))
 
 pub following-more : (n : ℕ) (last key : Key) → (n ≡ 0 → ⊥) → following n last key ≡ keyBelow last key
 unfolding following
@@ -128,16 +167,67 @@ unfolding readSheet ask
 sheet-read [] a b v = absurd (omega arith)
 sheet-read (x ∷ s) a b v = rw (eq-eqb x 1 v, le-leb (1 + length s) 262144 (omega arith))
 
+-- ---- from the answer of `find` back
+
+place-of : (n count : ℕ) (place : Place) (number start end : ℕ) → listedAt n place ≡ Found count number start end → (n ≡ count) × (place ≡ At number start end)
+unfolding listedAt
+place-of n count Missing number start end e = let z : _≡_ {A = ℕ} 0 1 = cc in absurd (omega arith)
+place-of n count (At m from to) number start end e =
+    let p : m ≡ number = cc in
+    let q : from ≡ start = cc in
+    let r : to ≡ end = cc in
+    (cc, rw (p, q, r))
+
+no-place : (n count : ℕ) (place : Place) → listedAt n place ≡ Without count → (n ≡ count) × (place ≡ Missing)
+unfolding listedAt
+no-place n count Missing e = (cc, refl)
+no-place n count (At m from to) e = let z : _≡_ {A = ℕ} 0 1 = cc in absurd (omega arith)
+
+not-refused : (n k : ℕ) (place : Place) → listedAt n place ≡ Refused k → ⊥
+unfolding listedAt
+not-refused n k Missing e = let z : _≡_ {A = ℕ} 0 1 = cc in omega arith
+not-refused n k (At m from to) e = let z : _≡_ {A = ℕ} 0 1 = cc in omega arith
+
+module _ (test : ℕ → Item → Bool) where
+  -- a refusal is that of `check`
+  pub refused-is : (r : Answer (List Item)) (k : ℕ) → listingOf test r ≡ Refused k → checkedOf r ≡ NoList k
+  unfolding listingOf checkedOf
+  refused-is (refused n) k e = let p : n ≡ k = cc in ap NoList p
+  refused-is absent k e = let p : 100 ≡ k = cc in ap NoList p
+  refused-is remove k e = let p : 101 ≡ k = cc in ap NoList p
+  refused-is (accepted items) k e = absurd (not-refused (length items) k (placeIn test 0 1 items) e)
+
+  -- so is the count, and the place is the one in the items
+  pub found-is : (r : Answer (List Item)) (count number start end : ℕ) → listingOf test r ≡ Found count number start end
+      → (checkedOf r ≡ Count count) × (placeIn test 0 1 (itemsIn r) ≡ At number start end)
+  unfolding listingOf checkedOf itemsIn
+  found-is (refused n) count number start end e = let z : _≡_ {A = ℕ} 0 1 = cc in absurd (omega arith)
+  found-is absent count number start end e = let z : _≡_ {A = ℕ} 0 1 = cc in absurd (omega arith)
+  found-is remove count number start end e = let z : _≡_ {A = ℕ} 0 1 = cc in absurd (omega arith)
+  found-is (accepted items) count number start end e =
+      let p = place-of (length items) count (placeIn test 0 1 items) number start end e in
+      (ap Count (p .0), p .1)
+
+  pub without-is : (r : Answer (List Item)) (count : ℕ) → listingOf test r ≡ Without count
+      → (checkedOf r ≡ Count count) × (placeIn test 0 1 (itemsIn r) ≡ Missing)
+  unfolding listingOf checkedOf itemsIn
+  without-is (refused n) count e = let z : _≡_ {A = ℕ} 0 1 = cc in absurd (omega arith)
+  without-is absent count e = let z : _≡_ {A = ℕ} 0 1 = cc in absurd (omega arith)
+  without-is remove count e = let z : _≡_ {A = ℕ} 0 1 = cc in absurd (omega arith)
+  without-is (accepted items) count e =
+      let p = no-place (length items) count (placeIn test 0 1 items) e in
+      (ap Count (p .0), p .1)
+
 -- ---- from the answer of `check` back
 
-pub sheet-refused : (s : List ℕ) (k : ℕ) → checkedOf (readSheet s) ≡ Refused k → readSheet s ≡ refused k
+pub sheet-refused : (s : List ℕ) (k : ℕ) → checkedOf (readSheet s) ≡ NoList k → readSheet s ≡ refused k
 unfolding checkedOf
 sheet-refused s k e = go (readSheet-decides s)
   where
     go : ReadsSheet (readSheet s) → readSheet s ≡ refused k
-    go (sheet items h) = let z : _≡_ {A = ℕ} 0 1 = let f : Count (length items) ≡ Refused k = sym (ap checkedOf h) ∙ e in cc in absurd (omega arith)
-    go (broken h) = h ∙ ap refused (let f : Refused 1 ≡ Refused k = sym (ap checkedOf h) ∙ e in let g : 1 ≡ k = cc in g)
-    go (unsorted h) = h ∙ ap refused (let f : Refused 2 ≡ Refused k = sym (ap checkedOf h) ∙ e in let g : 2 ≡ k = cc in g)
+    go (sheet items h) = let z : _≡_ {A = ℕ} 0 1 = let f : Count (length items) ≡ NoList k = sym (ap checkedOf h) ∙ e in cc in absurd (omega arith)
+    go (broken h) = h ∙ ap refused (let f : NoList 1 ≡ NoList k = sym (ap checkedOf h) ∙ e in let g : 1 ≡ k = cc in g)
+    go (unsorted h) = h ∙ ap refused (let f : NoList 2 ≡ NoList k = sym (ap checkedOf h) ∙ e in let g : 2 ≡ k = cc in g)
 
 -- what an accepted item list of so many items is
 pub record Counted (s : List ℕ) (n : ℕ) : Type 0 where

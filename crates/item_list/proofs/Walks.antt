@@ -1,10 +1,11 @@
 -- Walking over the items of an item list: what is left from a position on, and what a step says of it. Assumes nothing.
-use mathlib.Core.Path.{_≡_, sym, ap, _∙_}
+use mathlib.Core.Path.{_≡_, refl, sym, ap, _∙_, subst}
 use mathlib.Core.Bool.{Bool, true, false}
 use mathlib.Core.List.{List, [], _∷_}
 use Prim.Native.Nat.{ℕ, zero, suc, _+_}
+use native.Mathlib.Omega.{arith}
 use lib.Dec.{eqb}
-use lib.ListN.{drop}
+use lib.ListN.{length, drop}
 use borrow.Author.Tests.{eq-eqb, ne-eqb}
 use Rattle.format.specs.declared.Key.{Key}
 use Rattle.format.specs.Questions.{accepted}
@@ -12,6 +13,7 @@ use Rattle.format.specs.Items.{Item, keyBelow, readItems}
 use Rattle.format.specs.Apply.{isRecord, recordOf}
 use Rattle.format.proofs.Answers.{refused-not, accepted-inj, bind-ok}
 use Rattle.format.proofs.Items.{sheet-out}
+use Rattle.item_list.specs.declared.Step.{Step}
 use Rattle.item_list.specs.declared.Step.the-variants.{Whole, Broken, End}
 use Rattle.item_list.specs.declared.Place.the-variants.{At, Missing}
 use Rattle.item_list.specs.declared.Sought.the-variants.{Present, Absent}
@@ -54,16 +56,32 @@ rest-item s at next items r e = go (r .most) (r .reads)
         let t = bind-ok (readItems n (drop next s)) (λ others. accepted (itemAt s at ∷ others)) (sym (items-item n s at next e) ∙ h) in
         record { others = t .0; is = sym (accepted-inj (t .2)); rest = record { most = n; reads = t .1 }; whole = w }
 
+-- where an item ends
+pub ends : (s : List ℕ) (at next : ℕ) → WholeAt s at next → at + sizeOf (itemAt s at) ≡ next
+unfolding sizeOf
+ends s at next w = data-long s at next w
+
+-- an item that was read stands at the position
+pub rest-cons : (s : List ℕ) (at : ℕ) (i : Item) (items : List Item) → Rest s at (i ∷ items)
+    → (i ≡ itemAt s at) × WholeAt s at (at + sizeOf i) × Rest s (at + sizeOf i) items
+rest-cons s at i items r = go (stepAt s at) refl
+  where
+    go : (step : Step) → stepAt s at ≡ step → (i ≡ itemAt s at) × WholeAt s at (at + sizeOf i) × Rest s (at + sizeOf i) items
+    go End e = let z : _≡_ {A = ℕ} 1 0 = let h = ap length (rest-end s at (i ∷ items) r e) in omega (arith, h) in absurd (omega arith)
+    go Broken e = absurd (rest-broken s at (i ∷ items) r e)
+    go (Whole next) e =
+        let m = rest-item s at next (i ∷ items) r e in
+        let same : i ∷ items ≡ itemAt s at ∷ m .others = m .is in
+        let first : i ≡ itemAt s at = cc in
+        let others : items ≡ m .others = cc in
+        let to : next ≡ at + sizeOf i = sym (ends s at next (m .whole)) ∙ ap (λ (j : Item). at + sizeOf j) (sym first) in
+        (first, subst (λ (k : ℕ). WholeAt s at k) to (m .whole), subst (λ (k : ℕ). Rest s k items) to (subst (λ (l : List Item). Rest s next l) (sym others) (m .rest)))
+
 -- the state of a walk: what is left, and what holds of it
 pub record Walked (s : List ℕ) (at : ℕ) (P : List Item → Type 0) : Type 0 where
   pub items : List Item
   pub rest : Rest s at items
   pub so : P items
-
--- where an item ends
-pub ends : (s : List ℕ) (at next : ℕ) → WholeAt s at next → at + sizeOf (itemAt s at) ≡ next
-unfolding sizeOf
-ends s at next w = data-long s at next w
 
 -- ---- the first that passes a test
 

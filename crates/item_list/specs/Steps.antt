@@ -33,9 +33,6 @@ unfoldable pub following : ℕ → Key → Key → Bool
 following zero last key = true
 following (suc n) last key = keyBelow last key
 
-unfoldable pub verdictOf : Bool → ℕ → Checked
-verdictOf ordered n = cond ordered (Count n) (Refused 2)
-
 unfoldable pub checkedOf : Answer (List Item) → Checked
 checkedOf (refused number) = Refused number
 checkedOf absent = Refused 100

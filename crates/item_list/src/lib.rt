@@ -1,14 +1,18 @@
-// The reader of an item list (document 01's sheet): one step over items at a position, one pass for questions 1 and 2, and the
-// searches by key, by number and for an extent's record.
+// The reader of an item list (document 01's sheet): one step over items at a position, one pass that answers questions 1 and 2 and
+// finds an item, and searches in a list that passed them.
 mod checking;
+mod finding;
 mod search;
 mod stepping;
 
 pub use checking::check;
 pub use checking::nodesize_fits;
+pub use finding::find;
+use format::Key;
 pub use search::locate;
 pub use search::record_at;
 pub use search::seek;
+pub use stepping::is_past;
 pub use stepping::key_at;
 pub use stepping::step_at;
 
@@ -26,6 +30,33 @@ pub enum Step {
 pub enum Checked {
     Count(usize),
     Refused(u32),
+}
+
+// Which item is wanted.
+pub enum Wanted {
+    // None.
+    Nothing,
+    // The item of a number.
+    Number(usize),
+    // The record of an extent.
+    Record(u64),
+    // The first item whose key is this one or a higher one.
+    AtOrPast(Key),
+}
+
+// Whether the bytes are an item list, and the first wanted item; or the refusal.
+pub enum Listing {
+    Refused(u32),
+    // The number of items, then the number, the first byte and the position past the wanted one.
+    Found {
+        count: usize,
+        number: usize,
+        start: usize,
+        end: usize,
+    },
+    Missing {
+        count: usize,
+    },
 }
 
 // Where an item stands: its number, its first byte and the position past it.

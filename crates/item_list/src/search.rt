@@ -37,7 +37,7 @@ pub fn locate(s: &[u8], wanted: usize) -> Place
     }
 }
 
-fn is_record(key: Key, extent: u64) -> bool
+pub fn is_record(key: Key, extent: u64) -> bool
     ensures { λ r. ⌜ r ≡ recordOf extent (record { key = key; bytes = [] }) ⌝ }
 {
     if key.kind == 168 {

@@ -55,3 +55,11 @@ pub fn below(a: Key, b: Key) -> bool
     }
     a.objectid < b.objectid
 }
+
+// Whether the item that starts at `at` stands past a key.
+pub fn is_past(s: &[u8], at: usize, key: Key) -> bool
+    requires { ⌜ at + 21 ≤ length (now s) ⌝ }
+    ensures { λ r. ⌜ r ≡ keyBelow key (itemAt (now (s .entry)) at .key) ⌝ }
+{
+    below(key, key_at(s, at))
+}

@@ -2,8 +2,8 @@ use mathlib.Core.Path.{sym, _∙_}
 use Rattle.item_list.specs.Steps.{following}
 use Rattle.item_list.proofs.Reading.{following-more}
 use borrow.Author.Needs.{needs}
-use Rattle.item_list.proofs.checking.follows.Statement.{statement}
-use Rattle.item_list.proofs.checking.follows.Tie as tie
+use Rattle.item_list.proofs.finding.follows.Statement.{statement}
+use Rattle.item_list.proofs.finding.follows.Tie as tie
 
 returns : tie.Need-returns
 unfolding following

@@ -1,0 +1,152 @@
+// Questions 1 and 2 and a search, in one pass.
+ghost use mathlib.Core.Path.{_≡_};
+ghost use mathlib.Core.Bool.{_&&_, cond};
+ghost use mathlib.Core.List.{[]};
+ghost use Prim.Native.Nat.{_≤_};
+ghost use lib.ListN.{length, drop};
+ghost use Rattle.format.specs.Questions.{bind, ask, accepted};
+ghost use Rattle.format.specs.Items.{readItems, readSheet, rising};
+ghost use Rattle.item_list.specs.declared.Place.the-variants.{At, Missing};
+ghost use Rattle.item_list.specs.Steps.{following};
+ghost use Rattle.item_list.specs.Seeks.{passing};
+ghost use Rattle.item_list.specs.Listings.{orElse, verdictOf, listingOf};
+use super::Listing;
+use super::Place;
+use super::Step;
+use super::Wanted;
+use super::search;
+use super::stepping;
+use format::Key;
+
+// Whether keys still rise after item number `n` with its key.
+fn follows(ordered: bool, n: usize, last: Key, key: Key) -> bool
+    ensures { λ r. ⌜ r ≡ (ordered && following n last key) ⌝ }
+{
+    if ordered {
+        if n == 0 {
+            return true;
+        }
+        return stepping::below(last, key);
+    }
+    false
+}
+
+// Whether item number `n` with its key is wanted.
+fn passes(wanted: Wanted, n: usize, key: Key) -> bool
+    ensures { λ r. ⌜ r ≡ passing wanted n (record { key = key; bytes = [] }) ⌝ }
+{
+    match wanted {
+        Wanted::Nothing => false,
+        Wanted::Number(number) => n == number,
+        Wanted::Record(extent) => search::is_record(key, extent),
+        Wanted::AtOrPast(from) => !stepping::below(key, from),
+    }
+}
+
+// What was found so far; or else the item at hand, if it is wanted. What was found is put together anew: a copy of the enum would
+// copy the unused bytes between its fields too, and the next turn would wait for them.
+fn first_of(place: Place, wanted: Wanted, n: usize, key: Key, at: usize, next: usize) -> Place
+    ensures { λ r. ⌜ r ≡ orElse place (cond (passing wanted n (record { key = key; bytes = [] })) (At n at next) Missing) ⌝ }
+{
+    match place {
+        Place::At { number, start, end } => Place::At { number, start, end },
+        Place::Missing => {
+            if passes(wanted, n, key) {
+                return Place::At {
+                    number: n,
+                    start: at,
+                    end: next,
+                };
+            }
+            Place::Missing
+        }
+    }
+}
+
+// A byte that stands further on. Where an item stands is known only once the one before it was read, so that each would be waited
+// for if the list is far from the processor; a read 512 bytes ahead fetches what comes, meanwhile.
+fn byte_ahead(s: &[u8], at: usize) -> u32
+    requires { ⌜ (at ≤ length (now s)) × (length (now s) ≤ 262144) ⌝ }
+    ensures { λ r. ⌜ r ≤ 255 ⌝ }
+{
+    if at + 512 < s.len() {
+        return s[at + 512] as u32;
+    }
+    0
+}
+
+// The answer after `n` items. The bytes read ahead add nothing to the count; a compiler would drop the reads if nothing used them.
+fn listing(ordered: bool, n: usize, ahead: u32, place: Place) -> Listing
+    requires { ⌜ ahead ≤ 1044480 ⌝ }
+    ensures { λ r. ⌜ r ≡ verdictOf ordered n place ⌝ }
+{
+    let count = n + (ahead / 1048576) as usize;
+    if ordered {
+        match place {
+            Place::At { number, start, end } => {
+                return Listing::Found {
+                    count,
+                    number,
+                    start,
+                    end,
+                };
+            }
+            Place::Missing => return Listing::Missing { count },
+        }
+    }
+    Listing::Refused(2)
+}
+
+// The items after the version byte. A fault in a later item is refusal 1 even where keys fell before it or the wanted item stands
+// before it.
+fn walk(s: &[u8], wanted: Wanted) -> Listing
+    requires { ⌜ length (now s) ≤ 262144 ⌝ }
+    ensures { λ r. ⌜ r ≡ listingOf (passing wanted) (bind (readItems 4096 (drop 1 (now (s .entry)))) (λ items. ask (rising items) 2 (accepted items))) ⌝ }
+{
+    let mut at: usize = 1;
+    let mut n: usize = 0;
+    let mut ordered = true;
+    let mut ahead: u32 = 0;
+    let mut place = Place::Missing;
+    let mut last = Key {
+        objectid: 0,
+        kind: 0,
+        offset: 0,
+    };
+    while n < 4096 {
+        let step = stepping::step_at(s, at);
+        match step {
+            Step::End => return listing(ordered, n, ahead, place),
+            Step::Broken => return Listing::Refused(1),
+            Step::Whole { next } => {
+                let key = stepping::key_at(s, at);
+                ordered = follows(ordered, n, last, key);
+                place = first_of(place, wanted, n, key, at, next);
+                ahead += byte_ahead(s, at);
+                last = key;
+                at = next;
+                n += 1;
+            }
+        }
+    }
+    if at < s.len() {
+        return Listing::Refused(1);
+    }
+    listing(ordered, n, ahead, place)
+}
+
+// Whether the bytes are an item list, and where the first wanted item stands.
+pub fn find(sheet: &[u8], wanted: Wanted) -> Listing
+    ensures { λ r. ⌜ r ≡ listingOf (passing wanted) (readSheet (now (sheet .entry))) ⌝ }
+{
+    if sheet.len() < 1 {
+        return Listing::Refused(1);
+    }
+    if 262144 < sheet.len() {
+        return Listing::Refused(1);
+    }
+    if sheet[0] == 1 {
+        return walk(sheet, wanted);
+    }
+    Listing::Refused(1)
+}
