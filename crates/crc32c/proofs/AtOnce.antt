@@ -1,5 +1,5 @@
--- A run over the bytes of a number at once: the number is xored into the register, and as many steps follow as it has bits.
--- For any polynomial `p`. Assumes nothing.
+-- A run over the bytes of a number at once: the number is xored into the register, and as many steps follow as it has bits, 32 of
+-- them at a time by four tables. For any polynomial `p`. Assumes nothing.
 use mathlib.Core.Path.{_≡_, sym, ap, ap₂, subst⁻¹, _∙_}
 use Prim.Native.Nat.{ℕ, zero, suc, _+_, _*_, _/_, _%_, _^_, _≤_, _<_}
 use native.Mathlib.Omega.{arith}
@@ -17,9 +17,32 @@ xor-last a b c = xor-assoc a b c ∙ ap (bitXor a) (xor-comm b c) ∙ sym (xor-a
 
 module _ (p : ℕ) where
   -- eight steps by a table of eight steps
-  pub eight-by-table : (y : ℕ) → steps p 8 y ≡ bitXor (y / 2 ^ 8) (steps p 8 (y % 2 ^ 8))
+  eight-by-table : (y : ℕ) → steps p 8 y ≡ bitXor (y / 2 ^ 8) (steps p 8 (y % 2 ^ 8))
   unfolding steps
   eight-by-table y = steps-split p 8 0 y
+
+  -- the n steps of the upper part came out as `q` with `s` xored in: eight steps more add what becomes of the low byte
+  eight-more : (n y q s : ℕ) → steps p n (y / 2 ^ 8) ≡ bitXor q s → steps p (8 + n) y ≡ bitXor q (bitXor s (steps p (8 + n) (y % 2 ^ 8)))
+  eight-more n y q s e =
+      steps-split p 8 n y
+      ∙ ap (λ (z : ℕ). bitXor z (steps p (8 + n) (y % 2 ^ 8))) e
+      ∙ xor-assoc q s (steps p (8 + n) (y % 2 ^ 8))
+
+  -- 32 steps by four tables, one for each low byte
+  pub by-four-tables : (y : ℕ)
+      → steps p 32 y
+      ≡ bitXor (y / 2 ^ 32)
+      (bitXor (bitXor (bitXor (steps p 8 (y / 16777216 % 256)) (steps p 16 (y / 65536 % 256))) (steps p 24 (y / 256 % 256))) (steps p 32 (y % 256)))
+  by-four-tables y =
+      let twice : y / 256 / 256 ≡ y / 65536 = omega arith in
+      let thrice : y / 65536 / 256 ≡ y / 16777216 = omega arith in
+      let whole : y / 16777216 / 256 ≡ y / 2 ^ 32 = omega arith in
+      let q = y / 256 / 256 / 256 / 256 in
+      let s₁ = steps p 8 (y / 256 / 256 / 256 % 256) in
+      let s₂ = bitXor s₁ (steps p 16 (y / 256 / 256 % 256)) in
+      let s₃ = bitXor s₂ (steps p 24 (y / 256 % 256)) in
+      rw (← whole, ← thrice, ← twice)
+      (eight-more 24 y q s₃ (eight-more 16 (y / 256) q s₂ (eight-more 8 (y / 256 / 256) q s₁ (eight-by-table (y / 256 / 256 / 256)))))
 
   low-byte : (r x : ℕ) → bitXor r (x % 256) % 2 ^ 8 ≡ bitXor r x % 2 ^ 8
   low-byte r x =

@@ -1,27 +1,11 @@
--- The CRC32C register of RFC 3720, bit by bit, on natural numbers: its step, its run over bytes and the table of a polynomial,
--- each with the polynomial as a parameter. Document 01, section "The leaves: hash and table", starts it at all ones, leaves it
--- without final inversion, and takes the polynomial 82f63b78, reflected. Assumes nothing.
+-- The CRC32C register of RFC 3720, on natural numbers: a byte that goes in, and a run over bytes, each with the polynomial as a
+-- parameter. Its steps, bit by bit, are those of `crc32c_tables`. Document 01, section "The leaves: hash and table", starts it at
+-- all ones, leaves it without final inversion, and takes the polynomial 82f63b78, reflected. Assumes nothing.
 use mathlib.Core.List.{List, [], _∷_}
-use Prim.Native.Nat.{ℕ, zero, suc, _-_, _/_, _%_, _^_}
+use Prim.Native.Nat.{ℕ, _-_, _^_}
 use lib.Bits.{bitXor}
-
--- the polynomial of CRC32C, reflected
-abbrev pub crc32c : ℕ
-crc32c = 0x82f63b78
-
--- the polynomial where the bit that was shifted out is 1, else nothing
-abbrev pub feed : ℕ → ℕ → ℕ
-feed zero polynomial = zero
-feed (suc bit) polynomial = polynomial
-
--- one step: the register is halved, rounded down, and the polynomial is xored in where it was odd
-unfoldable pub step : ℕ → ℕ → ℕ
-step polynomial register = bitXor (register / 2) (feed (register % 2) polynomial)
-
--- that many steps
-unfoldable pub steps : ℕ → ℕ → ℕ → ℕ
-steps polynomial zero register = register
-steps polynomial (suc n) register = steps polynomial n (step polynomial register)
+pub use Rattle.crc32c_tables.specs.Steps.{crc32c, feed}
+unfoldable pub use Rattle.crc32c_tables.specs.Steps.{step, steps, tableOf}
 
 -- a byte goes in: it is xored into the register, and eight steps follow
 unfoldable pub byteStep : ℕ → ℕ → ℕ → ℕ
@@ -39,12 +23,3 @@ allOnes = 2 ^ 32 - 1
 -- the finished checksum of RFC 3720: the register inverted
 abbrev pub inverted : ℕ → ℕ
 inverted register = 2 ^ 32 - 1 - register
-
--- `count` entries of a list, from entry `i` on, where entry n is `f n`
-unfoldable pub entries : (ℕ → ℕ) → ℕ → ℕ → List ℕ
-entries f zero i = []
-entries f (suc count) i = f i ∷ entries f count (suc i)
-
--- the table of a polynomial: 256 entries, and entry n is n after eight steps
-unfoldable pub tableOf : ℕ → List ℕ
-tableOf polynomial = entries (steps polynomial 8) 256 0
