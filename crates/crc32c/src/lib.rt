@@ -65,21 +65,19 @@ fn u64_in(register: u32, x: u64) -> u32
     (y % 4294967296) as u32
 }
 
-// Two registers.
-pub struct Registers {
-    pub one: u32,
-    pub two: u32,
+// From all ones: the register after a run over the eight bytes of `a`, lowest first.
+pub fn run_one(a: u64) -> u32
+    ensures { λ r. ⌜ r ≡ run crc32c allOnes (leBytes 8 a) ⌝ }
+{
+    u64_in(0xffff_ffff, a)
 }
 
-// From all ones: the register after a run over `a`, and after a run over `b` and then `c`, each eight bytes, lowest first.
-pub fn runs(a: u64, b: u64, c: u64) -> Registers
-    ensures { λ r. ⌜ r .one ≡ run crc32c allOnes (leBytes 8 a) ⌝ }
-    ensures { λ r. ⌜ r .two ≡ run crc32c allOnes (leBytes 8 b ++ leBytes 8 c) ⌝ }
+// The same over `b` and then `c`.
+pub fn run_two(b: u64, c: u64) -> u32
+    ensures { λ r. ⌜ r ≡ run crc32c allOnes (leBytes 8 b ++ leBytes 8 c) ⌝ }
 {
-    let one = u64_in(0xffff_ffff, a);
     let first = u64_in(0xffff_ffff, b);
-    let two = u64_in(first, c);
-    Registers { one, two }
+    u64_in(first, c)
 }
 
 // The finished checksum: the register inverted.

@@ -3,12 +3,15 @@ ghost use mathlib.Core.Path.{_≡_};
 ghost use mathlib.Core.List.{[], _∷_};
 ghost use Prim.Native.Nat.{_*_, _^_, _≤_};
 ghost use lib.Bits.{bitXor};
+ghost use lib.Dec.{ltb};
 ghost use lib.ListN.{length};
+ghost use Rattle.crc32c.specs.Register.{crc32c, allOnes, run};
 ghost use Rattle.fields.specs.Numbers.{leBytes};
 ghost use Rattle.fields.specs.Parts.{written};
 ghost use Rattle.format.specs.Questions.{Answered, accepted};
 ghost use Rattle.format.specs.Hash.{dataRefHash};
 ghost use Rattle.format.specs.Bodies.{heldBody, dataExtentBody, treeBlockBody, treeBlockKey};
+ghost use Rattle.extent_write.specs.Runs.{Fits};
 
 const METADATA_ITEM: u8 = 169;
 
@@ -34,8 +37,58 @@ fn joined(one: u32, two: u32) -> u64
 pub fn data_ref_hash(tree: u64, objectid: u64, offset: u64) -> u64
     ensures { λ r. ⌜ r ≡ dataRefHash tree objectid offset ⌝ }
 {
-    let r = crc32c::runs(tree, objectid, offset);
-    joined(r.one, r.two)
+    joined(crc32c::run_one(tree), crc32c::run_two(objectid, offset))
+}
+
+// A tree and the register after a run over it, for the hashes of many references of that tree.
+pub struct TreeRun {
+    pub tree: u64,
+    pub register: u32,
+}
+
+pub fn tree_run(tree: u64) -> TreeRun
+    ensures { λ r. ⌜ (r .tree ≡ tree) × Fits r ⌝ }
+{
+    TreeRun {
+        tree,
+        register: crc32c::run_one(tree),
+    }
+}
+
+// Tree 0, whose register is known, where no tree is asked for.
+pub fn no_tree_run() -> TreeRun
+    ensures { λ r. ⌜ Fits r ⌝ }
+{
+    TreeRun {
+        tree: 0,
+        register: 0x73d74d75,
+    }
+}
+
+// The register of a tree, without a run where it is the one at hand.
+fn register_of(tree: u64, own: TreeRun) -> u32
+    requires { ⌜ Fits own ⌝ }
+    ensures { λ r. ⌜ r ≡ run crc32c allOnes (leBytes 8 tree) ⌝ }
+{
+    if tree == own.tree {
+        return own.register;
+    }
+    crc32c::run_one(tree)
+}
+
+// Whether the hash of a data reference is below a place. Its top 32 bits are those of the first register alone, so the second
+// run is made only where they are equal.
+pub fn hash_below(tree: u64, objectid: u64, offset: u64, own: TreeRun, place: u64) -> bool
+    requires { ⌜ Fits own ⌝ }
+    ensures { λ r. ⌜ r ≡ ltb (dataRefHash tree objectid offset) place ⌝ }
+{
+    let one = register_of(tree, own);
+    let top = (one / 2) as u64;
+    let bound = place / 4294967296;
+    if top != bound {
+        return top < bound;
+    }
+    joined(one, crc32c::run_two(objectid, offset)) < place
 }
 
 // Bytes that are at hand go to the front of a lent output, or are refused.

@@ -13,7 +13,6 @@ pub use kinds::rows;
 pub use scan::Scan;
 pub use scan::Seen;
 pub use scan::scan_body;
-pub use scan::scan_from;
 pub use scan::weight_at;
 pub use site::Found;
 pub use site::Site;

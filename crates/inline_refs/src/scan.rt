@@ -3,11 +3,13 @@ use crate::start::Start;
 use crate::step::Cursor;
 use crate::step::Step;
 use crate::wanted::Wanted;
+use extent_write::TreeRun;
 ghost use mathlib.Core.Path.{_≡_};
 ghost use mathlib.Core.Bool.{false};
 ghost use Prim.Native.Nat.{ℕ, _+_, _≤_};
 ghost use lib.Dec.{T};
 ghost use lib.ListN.{length, drop};
+ghost use Rattle.extent_write.specs.Runs.{Fits};
 ghost use Rattle.format.specs.References.{kinds, known, payloadLength, countPosition, refAt, startOf};
 ghost use Rattle.inline_refs.specs.Steps.{readFrom};
 ghost use Rattle.inline_refs.specs.Scans.{scanOf, restOf, refsIn};
@@ -159,8 +161,15 @@ fn scan_gap(
 }
 
 // From `start` to the end of the body. The wanted reference is looked for first: it never stops a new one.
-pub fn scan_from(rows: &[[u8; 3]; 5], body: &[u8], start: usize, wanted: Wanted, place: u64) -> Scan
-    requires { ⌜ now rows ≡ kinds ⌝ }
+fn scan_from(
+    rows: &[[u8; 3]; 5],
+    body: &[u8],
+    start: usize,
+    wanted: Wanted,
+    place: u64,
+    own: TreeRun,
+) -> Scan
+    requires { ⌜ (now rows ≡ kinds) × Fits own ⌝ }
     ensures { λ r. ⌜ r ≡ scanOf wanted place start (Seen.Open false) (readFrom (now (body .entry)) start) ⌝ }
 {
     let sought = crate::wanted::kind_of(wanted);
@@ -181,7 +190,7 @@ pub fn scan_from(rows: &[[u8; 3]; 5], body: &[u8], start: usize, wanted: Wanted,
                     return scan_hit(rows, body, at, next.at, weight);
                 }
                 kin = crate::wanted::akin(kin, wanted, kind);
-                if crate::wanted::stops_at(sought, place, body, kind, payload) {
+                if crate::wanted::stops_at(sought, place, own, body, kind, payload) {
                     return scan_gap(rows, body, next.at, wanted, at, kin);
                 }
                 at = next.at;
@@ -199,7 +208,8 @@ pub fn scan_body(item_type: u8, body: &[u8], wanted: Wanted, place: u64) -> Scan
     match crate::start::open_body(item_type, body) {
         Start::From(start) => {
             let rows = crate::kinds::rows();
-            scan_from(&rows, body, start, wanted, place)
+            let own = crate::wanted::own_run(wanted, place);
+            scan_from(&rows, body, start, wanted, place, own)
         }
         Start::Refused(number) => Scan::Fault(number),
     }

@@ -1,13 +1,15 @@
 // What a scan looks for: a named reference, and the place of a new one.
+use extent_write::TreeRun;
 use format::BlockRef;
 use format::DataRef;
 ghost use mathlib.Core.Path.{_≡_};
 ghost use mathlib.Core.Bool.{_||_};
 ghost use Prim.Native.Nat.{_+_, _≤_};
-ghost use lib.Dec.{T, eqb};
+ghost use lib.Dec.{T, eqb, ltb};
 ghost use lib.ListN.{length, drop};
 ghost use Rattle.format.specs.References.{known, payloadLength, refAt, place};
 ghost use Rattle.format.specs.Bodies.{named, stops, triple};
+ghost use Rattle.extent_write.specs.Runs.{Fits};
 ghost use Rattle.fields.specs.Lists.{same};
 ghost use Rattle.fields.specs.Numbers.{words};
 ghost use Rattle.inline_refs.specs.Scans.{kindOf, fieldsOf};
@@ -61,6 +63,7 @@ pub fn names(wanted: Wanted, body: &[u8], kind: u8, start: usize) -> bool
         Wanted::SharedData(parent) => fields::get_u64_le(body, start) == parent,
     }
 }
+
 // What the references of one kind are ordered by: the hash of a triple, else the first field.
 pub fn place_at(body: &[u8], kind: u8, start: usize) -> u64
     requires { ⌜ T (known kind) × (start + payloadLength kind ≤ length (now body)) ⌝ }
@@ -76,10 +79,42 @@ pub fn place_at(body: &[u8], kind: u8, start: usize) -> u64
     )
 }
 
+// Whether that is below a limit. A triple seldom costs a whole hash here, least of all one of the tree `own`.
+pub fn place_below(body: &[u8], kind: u8, start: usize, own: TreeRun, limit: u64) -> bool
+    requires { ⌜ T (known kind) × (start + payloadLength kind ≤ length (now body)) × Fits own ⌝ }
+    ensures { λ r. ⌜ r ≡ ltb (place (refAt kind (drop start (now (body .entry))))) limit ⌝ }
+{
+    if kind != 178 {
+        return fields::get_u64_le(body, start) < limit;
+    }
+    extent_write::hash_below(
+        fields::get_u64_le(body, start),
+        fields::get_u64_le(body, start + 8),
+        fields::get_u64_le(body, start + 16),
+        own,
+        limit,
+    )
+}
+
+// The run over the wanted one's own tree. Only a data reference with a place has hashes compared with it.
+pub fn own_run(wanted: Wanted, place: u64) -> TreeRun
+    ensures { λ r. ⌜ Fits r ⌝ }
+{
+    if place == 0 {
+        return extent_write::no_tree_run();
+    }
+    match wanted {
+        Wanted::Data(name) => extent_write::tree_run(name.tree),
+        Wanted::Block(_) => extent_write::no_tree_run(),
+        Wanted::SharedBlock(_) => extent_write::no_tree_run(),
+        Wanted::SharedData(_) => extent_write::no_tree_run(),
+    }
+}
+
 // Whether a new reference of kind `wanted` with a place goes before this one. Nothing has a place below 0, so that place
 // costs no hash.
-pub fn stops_at(wanted: u8, place: u64, body: &[u8], kind: u8, start: usize) -> bool
-    requires { ⌜ T (known kind) × (start + payloadLength kind ≤ length (now body)) ⌝ }
+pub fn stops_at(wanted: u8, place: u64, own: TreeRun, body: &[u8], kind: u8, start: usize) -> bool
+    requires { ⌜ T (known kind) × (start + payloadLength kind ≤ length (now body)) × Fits own ⌝ }
     ensures { λ r. ⌜ r ≡ stops wanted place (refAt kind (drop start (now (body .entry)))) ⌝ }
 {
     if kind == 172 {
@@ -94,7 +129,7 @@ pub fn stops_at(wanted: u8, place: u64, body: &[u8], kind: u8, start: usize) -> 
     if place == 0 {
         return false;
     }
-    place_at(body, kind, start) < place
+    place_below(body, kind, start, own, place)
 }
 
 // Whether one of the wanted kind stands, with one more reference.

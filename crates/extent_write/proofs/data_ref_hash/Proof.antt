@@ -9,8 +9,7 @@ use Rattle.extent_write.proofs.data_ref_hash.Tie as tie
 returns : tie.Need-returns
 unfolding dataRefHash
 returns c =
-    let runs = c .before .runs in
-    c .joined .ensures ∙ ap₂ (λ (x y : ℕ). bitXor (x * 2 ^ 31) y) (runs .ensures .0) (runs .ensures .1)
+    c .joined .ensures ∙ ap₂ (λ (x y : ℕ). bitXor (x * 2 ^ 31) y) (c .before .before .run-one .ensures) (c .before .run-two .ensures)
 
 pub data-ref-hash-spec : {M : Type 1} → statement M
-data-ref-hash-spec = tie.close (tie.spec (λ c. search needs) (λ c. search needs) returns)
+data-ref-hash-spec = tie.close (tie.spec (λ c κs. search needs) (λ c κs. search needs) (λ c κs. search needs) returns)

@@ -14,9 +14,9 @@ use Rattle.inline_refs.proofs.scan.scan_body.Tie as tie
 
 returns : tie.Need-returns
 returns c =
-    let call = c .before .before .before .before .before .before in
+    let call = c .before .before .before .before .before .before .before in
     let a = call .before .before .args in
-    let w = opens (a .item-type) (now (a .body)) _ (sym (c .before .before .before .before .start .given .1) ∙ call .open-body .ensures) in
+    let w = opens (a .item-type) (now (a .body)) _ (sym (c .before .before .before .before .before .start .given .1) ∙ call .open-body .ensures) in
     c .scan-from .ensures
     ∙ ap₂ (λ (start : ℕ) (x : Answer (List Ref)). scanOf (a .wanted) (a .place) start (Open false) x) (w .at) (sym (w .reads))
 
@@ -29,4 +29,4 @@ returns-2 c =
 pub scan-body-spec : {M : Type 1} → statement M
 scan-body-spec =
     tie.close
-    (tie.spec (λ c κs. search needs) (λ c. search needs) (λ c κs. search needs) (λ c κs. search needs) (λ c. search needs) returns returns-2)
+    (tie.spec (λ c κs. search needs) (λ c. search needs) (λ c κs. search needs) (λ c κs. search needs) (λ c κs. search needs) (λ c. search needs) returns returns-2)

@@ -15,11 +15,11 @@ use Rattle.inline_refs.proofs.scan.scan_from.Statement.{statement}
 use Rattle.inline_refs.proofs.scan.scan_from.Tie as tie
 
 abbrev Inv-loop : tie.InvT-loop
-Inv-loop rows body start wanted place sought at₀ kin₀ at kin =
+Inv-loop rows body start wanted place own sought at₀ kin₀ at kin =
     scanOf wanted place at (Open kin) (readFrom body at) ≡ scanOf wanted place start (Open false) (readFrom body start)
 
 abbrev μ-loop : tie.MeasureT-loop
-μ-loop rows body start wanted place sought at₀ kin₀ at kin = length body - at
+μ-loop rows body start wanted place own sought at₀ kin₀ at kin = length body - at
 
 names-requires : tie.Need-names-requires Inv-loop μ-loop
 names-requires c κs =
@@ -46,7 +46,7 @@ stops-at-requires : tie.Need-stops-at-requires Inv-loop μ-loop
 stops-at-requires c κs =
     let step = c .before .before .before .before .before .before in
     let w = seen (now (step .before .before .before .before .args .body)) (step .before .loop .at) _ (sym (c .before .before .before .before .kind .given .1) ∙ step .step .ensures) in
-    (w .kindKnown, ends-within _ _ _ _ _ _ _ w)
+    (w .kindKnown, ends-within _ _ _ _ _ _ _ w, step .before .before .before .before .pre .1)
 
 returns-2 : tie.Need-returns-2 Inv-loop μ-loop
 unfolding refAt kindOf

@@ -1,3 +1,4 @@
+use mathlib.Core.Path.{refl, _∙_}
 use Rattle.inline_refs.proofs.Tests.{stops-owner, stops-higher, stops-lower, stops-same, stops-zero}
 use borrow.Author.Needs.{needs}
 use Rattle.inline_refs.proofs.wanted.stops_at.Statement.{statement}
@@ -16,7 +17,7 @@ returns-4 : tie.Need-returns-4
 returns-4 c = stops-zero _ _ _ _ (c .before .before .before .if1 .left) (c .before .if3 .left) (c .if4 .taken)
 
 returns-5 : tie.Need-returns-5
-returns-5 c = stops-same _ _ _ _ (c .before .before .before .before .if1 .left) _ (c .before .before .if3 .left) (c .place-at .ensures)
+returns-5 c = c .place-below .ensures ∙ stops-same _ _ _ _ (c .before .before .before .before .if1 .left) _ (c .before .before .if3 .left) refl
 
 pub stops-at-spec : {M : Type 1} → statement M
 stops-at-spec =
