@@ -19,12 +19,13 @@ use Rattle.format.specs.Apply.{recordOf}
 use Rattle.format.proofs.Items.{length-itemBytes, length-sheetBytes, itemsBytes-append}
 use Rattle.format.proofs.Keys.{beyond, below-trans, below-irrefl, below-or, below-not-same, above-not-same, rising-after}
 use Rattle.item_list.specs.declared.Place.the-variants.{At, Missing}
+use Rattle.item_list.specs.declared.Wanted.the-variants.{AtOrPast}
 use Rattle.item_list.specs.declared.Sought.the-variants.{Present, Absent}
 use Rattle.item_list.specs.Steps.{itemAt, itemsOf}
-use Rattle.item_list.specs.Seeks.{sizeOf, placeIn, numbered, recorded, atOrPast, seekIn}
+use Rattle.item_list.specs.Seeks.{sizeOf, placeIn, numbered, recorded, atOrPast, passing, seekIn}
 use Rattle.item_list.proofs.Steps.{WholeAt}
 use Rattle.item_list.proofs.Walks.{Rest, rest-all, rest-cons}
-use Rattle.item_list.proofs.Reading.{Counted}
+use Rattle.item_list.proofs.Reading.{Located, Lacking}
 
 -- an item of a list whose first stands at `at`: where it starts and ends
 pub record Stands (at : ℕ) (front : List Item) (hit : Item) (start end : ℕ) : Type 0 where
@@ -258,11 +259,11 @@ gap key at (i ∷ items) start r e =
 
 -- ---- by the first item at or past the key
 
-pub record Reached (s : List ℕ) (key : Key) (items : List Item) (at start end : ℕ) : Type 0 where
+record Reached (s : List ℕ) (key : Key) (items : List Item) (at start end : ℕ) : Type 0 where
   pub sought : seekIn key at items ≡ cond (keyBelow key (itemAt s start .key)) (Absent start) (Present start end)
   pub whole : WholeAt s start end
 
-pub reached : (s : List ℕ) (key : Key) (n at : ℕ) (items : List Item) (number start end : ℕ) → Rest s at items
+reached : (s : List ℕ) (key : Key) (n at : ℕ) (items : List Item) (number start end : ℕ) → Rest s at items
     → placeIn (atOrPast key) n at items ≡ At number start end → Reached s key items at start end
 unfolding placeIn seekIn
 reached s key n at [] number start end r e = let z : _≡_ {A = ℕ} 0 1 = cc in absurd (omega arith)
@@ -297,14 +298,25 @@ past-all key n at (i ∷ items) e = go (keyBelow (i .key) key) refl e (past-all 
     go true h f ih = rw h (ih f ∙ ap Absent (further at i items _ refl))
     go false h f ih = let z : _≡_ {A = ℕ} 0 1 = cc in absurd (omega arith)
 
--- in a list that was accepted
-module _ (s : List ℕ) (n : ℕ) (c : Counted s n) (key : Key) where
-  pub key-reached : (number start end : ℕ) → placeIn (atOrPast key) 0 1 (itemsOf s) ≡ At number start end → Reached s key (itemsOf s) 1 start end
-  key-reached number start end e =
-      reached s key 0 1 (itemsOf s) number start end (rest-all s (record { reads = c .reads })) e
+-- as `find` answers it
+pub key-missing : (s : List ℕ) (key : Key) (n : ℕ) → Lacking (passing (AtOrPast key)) s n → seekIn key 1 (itemsOf s) ≡ Absent (length s)
+unfolding passing
+key-missing s key n l =
+    past-all key 0 1 (itemsOf s) (l .place) ∙ ap Absent (sym (length-sheetBytes (itemsOf s)) ∙ ap length (l .list .bytes-are))
 
-  pub key-past-all : placeIn (atOrPast key) 0 1 (itemsOf s) ≡ Missing → seekIn key 1 (itemsOf s) ≡ Absent (length s)
-  key-past-all e = past-all key 0 1 (itemsOf s) e ∙ ap Absent (sym (length-sheetBytes (itemsOf s)) ∙ ap length (c .bytes-are))
+module _ (s : List ℕ) (key : Key) (n number start end : ℕ) (l : Located (passing (AtOrPast key)) s n number start end) where
+  key-reached : Reached s key (itemsOf s) 1 start end
+  unfolding passing
+  key-reached = reached s key 0 1 (itemsOf s) number start end (rest-all s (record { reads = l .list .reads })) (l .place)
+
+  pub key-room : start + 21 ≤ length s
+  key-room = let w = key-reached .whole in omega arith
+
+  pub key-past : keyBelow key (itemAt s start .key) ≡ true → seekIn key 1 (itemsOf s) ≡ Absent start
+  key-past h = key-reached .sought ∙ ap (λ (b : Bool). cond b (Absent start) (Present start end)) h
+
+  pub key-here : keyBelow key (itemAt s start .key) ≡ false → seekIn key 1 (itemsOf s) ≡ Present start end
+  key-here h = key-reached .sought ∙ ap (λ (b : Bool). cond b (Absent start) (Present start end)) h
 
 -- so no cut finds it
 

@@ -16,7 +16,6 @@ use Rattle.format.specs.Apply.{isRecord}
 use Rattle.format.specs.Items.{Item, keyBelow, above, rising, readItems, readSheet, sheetBytes, nodesizeFits}
 use Rattle.format.proofs.Items.{ReadsSheet, sheet, broken, unsorted, readSheet-decides, sane, sheet-sane, sheetBytes-read}
 use Rattle.item_list.specs.declared.Step.the-variants.{Whole, Broken, End}
-use Rattle.item_list.specs.declared.Checked.{Checked}
 use Rattle.item_list.specs.declared.Checked.the-variants.{Count, Refused as NoList}
 use Rattle.item_list.specs.declared.Place.{Place}
 use Rattle.item_list.specs.declared.Place.the-variants.{At, Missing}
@@ -262,6 +261,29 @@ counted s n t e =
 
 pub listed : (s : List ℕ) (n : ℕ) → checkedOf (readSheet s) ≡ Count n → Listed s
 listed s n e = record { reads = checked-count (readSheet s) n e .0 }
+
+-- what `find` has shown of a list, where it found the wanted item and where it did not
+pub record Located (test : ℕ → Item → Bool) (s : List ℕ) (count number start end : ℕ) : Type 0 where
+  pub list : Counted s count
+  pub place : placeIn test 0 1 (itemsOf s) ≡ At number start end
+
+pub record Lacking (test : ℕ → Item → Bool) (s : List ℕ) (count : ℕ) : Type 0 where
+  pub list : Counted s count
+  pub place : placeIn test 0 1 (itemsOf s) ≡ Missing
+
+module _ (test : ℕ → Item → Bool) (s : List ℕ) where
+  pub located : (count number start end : ℕ) → T (areBytes s) → listingOf test (readSheet s) ≡ Found count number start end → Located test s count number start end
+  located count number start end t e =
+      let f = found-is test (readSheet s) count number start end e in
+      record { list = counted s count t (f .0); place = f .1 }
+
+  pub lacking : (count : ℕ) → T (areBytes s) → listingOf test (readSheet s) ≡ Without count → Lacking test s count
+  lacking count t e =
+      let f = without-is test (readSheet s) count e in
+      record { list = counted s count t (f .0); place = f .1 }
+
+  pub listing-refused : (k : ℕ) → listingOf test (readSheet s) ≡ Refused k → readSheet s ≡ refused k
+  listing-refused k e = sheet-refused s k (refused-is test (readSheet s) k e)
 
 -- ---- question 3 of a nodesize, as code tests it
 

@@ -10,21 +10,26 @@ ghost use Rattle.leaf_edit.specs.Slots.{slotOf};
 use super::Slot;
 use format::Edited;
 use format::Key;
-use item_list::Checked;
-use item_list::Sought;
+use item_list::Listing;
+use item_list::Wanted;
 
 // The list without the item of a key.
 pub fn delete(sheet: &[u8], key: Key, out: &mut [u8]) -> Edited
     ensures { λ r. ⌜ Answered (heldSheet (length (now (out .entry))) (delete (now (sheet .entry)) key)) r (now (out .entry)) (now (out .exit)) ⌝ }
 {
-    let checked = item_list::check(sheet);
-    match checked {
-        Checked::Refused(number) => return Edited::Refused(number),
-        Checked::Count(count) => {
-            let sought = item_list::seek(sheet, key);
-            let Sought::Present { start, end } = sought else {
+    let listing = item_list::find(sheet, Wanted::AtOrPast(key));
+    match listing {
+        Listing::Refused(number) => return Edited::Refused(number),
+        Listing::Missing { count: _ } => return Edited::Refused(5),
+        Listing::Found {
+            count,
+            number: _,
+            start,
+            end,
+        } => {
+            if item_list::is_past(sheet, start, key) {
                 return Edited::Refused(5);
-            };
+            }
             return item_write::remove_item(sheet, start, end, count - 1, out);
         }
     }
@@ -34,16 +39,29 @@ pub fn delete(sheet: &[u8], key: Key, out: &mut [u8]) -> Edited
 fn slot_for(sheet: &[u8], key: Key, three: bool) -> Slot
     ensures { λ r. ⌜ r ≡ slotOf key three (readSheet (now (sheet .entry))) ⌝ }
 {
-    let checked = item_list::check(sheet);
-    match checked {
-        Checked::Refused(number) => return Slot::Refused(number),
-        Checked::Count(count) => {
+    let listing = item_list::find(sheet, Wanted::AtOrPast(key));
+    match listing {
+        Listing::Refused(number) => return Slot::Refused(number),
+        Listing::Missing { count } => {
             if three {
-                let sought = item_list::seek(sheet, key);
-                match sought {
-                    Sought::Present { start: _, end: _ } => return Slot::Refused(9),
-                    Sought::Absent { at } => return Slot::Free { at, count },
+                return Slot::Free {
+                    at: sheet.len(),
+                    count,
+                };
+            }
+            return Slot::Refused(3);
+        }
+        Listing::Found {
+            count,
+            number: _,
+            start,
+            end: _,
+        } => {
+            if three {
+                if item_list::is_past(sheet, start, key) {
+                    return Slot::Free { at: start, count };
                 }
+                return Slot::Refused(9);
             }
             return Slot::Refused(3);
         }

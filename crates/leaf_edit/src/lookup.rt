@@ -3,35 +3,31 @@ ghost use mathlib.Core.Path.{_≡_};
 ghost use lib.ListN.{length};
 ghost use Rattle.format.specs.Questions.{codeOf, lentNumber, lentPart};
 ghost use Rattle.format.specs.Sheets.{item, itemStart};
-use item_list::Checked;
-use item_list::Place;
+use item_list::Listing;
+use item_list::Wanted;
 
 // Its data, as a part of the list; `refused` gets the refusal, or 0.
 pub fn item<'a>(sheet: &'a [u8], number: usize, refused: &mut u32) -> &'a [u8]
     ensures { λ r. ⌜ (now r ≡ lentPart (item (now (sheet .entry)) number)) × (now (refused .exit) ≡ codeOf (item (now (sheet .entry)) number)) ⌝ }
 {
-    let checked = item_list::check(sheet);
-    match checked {
-        Checked::Refused(refusal) => {
+    let listing = item_list::find(sheet, Wanted::Number(number));
+    match listing {
+        Listing::Refused(refusal) => {
             *refused = refusal;
             return &sheet[0..0];
         }
-        Checked::Count(_) => {
-            let place = item_list::locate(sheet, number);
-            match place {
-                Place::Missing => {
-                    *refused = 5;
-                    return &sheet[0..0];
-                }
-                Place::At {
-                    number: _,
-                    start,
-                    end,
-                } => {
-                    *refused = 0;
-                    return &sheet[start + 21..end];
-                }
-            }
+        Listing::Missing { count: _ } => {
+            *refused = 5;
+            return &sheet[0..0];
+        }
+        Listing::Found {
+            count: _,
+            number: _,
+            start,
+            end,
+        } => {
+            *refused = 0;
+            return &sheet[start + 21..end];
         }
     }
 }
@@ -42,23 +38,19 @@ pub fn item_place(sheet: &[u8], number: usize, start: &mut u64, size: &mut u64) 
 {
     *start = 0;
     *size = 0;
-    let checked = item_list::check(sheet);
-    match checked {
-        Checked::Refused(refusal) => return refusal,
-        Checked::Count(_) => {
-            let place = item_list::locate(sheet, number);
-            match place {
-                Place::Missing => return 5,
-                Place::At {
-                    number: _,
-                    start: from,
-                    end,
-                } => {
-                    *start = (from + 21) as u64;
-                    *size = (end - (from + 21)) as u64;
-                    return 0;
-                }
-            }
+    let listing = item_list::find(sheet, Wanted::Number(number));
+    match listing {
+        Listing::Refused(refusal) => return refusal,
+        Listing::Missing { count: _ } => return 5,
+        Listing::Found {
+            count: _,
+            number: _,
+            start: from,
+            end,
+        } => {
+            *start = (from + 21) as u64;
+            *size = (end - (from + 21)) as u64;
+            return 0;
         }
     }
 }

@@ -3,8 +3,8 @@ use super::drops;
 use format::BlockRef;
 use format::Edited;
 use format::Key;
-use item_list::Checked;
-use item_list::Sought;
+use item_list::Listing;
+use item_list::Wanted;
 ghost use mathlib.Core.Path.{_≡_};
 ghost use mathlib.Core.Bool.{true};
 ghost use Prim.Native.Nat.{_+_, _≤_};
@@ -59,23 +59,28 @@ pub fn drop_kept_tree_ref(
 ) -> Edited
     ensures { λ r. ⌜ Answered (heldSheet (length (now (out .entry))) (dropKeptTreeRefFrom (now (sheet .entry)) bytenr level name own)) r (now (out .entry)) (now (out .exit)) ⌝ }
 {
-    let checked = item_list::check(sheet);
-    match checked {
-        Checked::Refused(number) => return Edited::Refused(number),
-        Checked::Count(items) => {
-            let key = Key {
-                objectid: bytenr,
-                kind: 169,
-                offset: level as u64,
-            };
-            let sought = item_list::seek(sheet, key);
-            let Sought::Present { start, end } = sought else {
+    let key = Key {
+        objectid: bytenr,
+        kind: 169,
+        offset: level as u64,
+    };
+    let listing = item_list::find(sheet, Wanted::AtOrPast(key));
+    match listing {
+        Listing::Refused(number) => return Edited::Refused(number),
+        Listing::Missing { count: _ } => return Edited::Refused(5),
+        Listing::Found {
+            count,
+            number: _,
+            start,
+            end,
+        } => {
+            if item_list::is_past(sheet, start, key) {
                 return Edited::Refused(5);
-            };
-            if own {
-                return drop_owned(sheet, start, end, items, name, out);
             }
-            return drops::drop_tree_ref(sheet, start, end, items, name, out);
+            if own {
+                return drop_owned(sheet, start, end, count, name, out);
+            }
+            return drops::drop_tree_ref(sheet, start, end, count, name, out);
         }
     }
 }

@@ -21,40 +21,44 @@ use Rattle.item_list.specs.declared.Place.{Place}
 use Rattle.item_list.specs.declared.Place.the-variants.{At as Placed-at, Missing}
 use Rattle.item_list.specs.declared.Checked.the-variants.{Count}
 use Rattle.item_list.specs.Steps.{itemsOf, itemsIn, itemAt, checkedOf}
-use Rattle.item_list.specs.Seeks.{placeIn, recorded}
+use Rattle.item_list.specs.declared.Wanted.the-variants.{Record}
+use Rattle.item_list.specs.declared.Listing.{Listing}
+use Rattle.item_list.specs.declared.Listing.the-variants.{Refused as Broken, Found as Listed-at, Missing as Without}
+use Rattle.item_list.specs.Seeks.{placeIn, recorded, passing}
+use Rattle.item_list.specs.Listings.{listedAt, listingOf}
 use Rattle.item_list.proofs.Reading.{Counted, counted}
 use Rattle.item_list.proofs.Places.{Placed, placed, missing, Inside, inside}
 use Rattle.item_write.proofs.Writes.{sane-fit}
 use Rattle.record_edit.specs.Records.{dataOf}
 use Rattle.record_edit.proofs.Held.{all-but}
 use Rattle.record_edit.proofs.Places.{item-there}
+use Rattle.transaction.specs.declared.Spot.{Spot}
 use Rattle.transaction.specs.declared.Spot.the-variants.{At, Refused}
 use Rattle.transaction.specs.Spots.{spotAt, spotOf, withBody}
 
 -- ---- as code finds it
 
-pub spot-broken : (s : List ℕ) (extent : ℕ) (three : Bool) (k : ℕ) → readSheet s ≡ refused k → Refused k ≡ spotOf extent three (readSheet s)
-unfolding spotOf
-spot-broken s extent three k e = rw e
+unfoldable pub spotIn : Bool → Listing → Spot
+spotIn three (Broken number) = Refused number
+spotIn three (Without count) = cond three (Refused 5) (Refused 3)
+spotIn three (Listed-at count number start end) = cond three (At number start end count) (Refused 3)
 
-module _ (s : List ℕ) (n : ℕ) (c : Counted s n) (extent : ℕ) (three : Bool) where
-  pub spot-three : three ≡ false → Refused 3 ≡ spotOf extent three (readSheet s)
-  unfolding spotOf
-  spot-three h = rw (c .reads, h)
+spot-place : (three : Bool) (count : ℕ) (p : Place) → spotIn three (listedAt count p) ≡ cond three (spotAt count p) (Refused 3)
+unfolding spotIn spotAt listedAt
+spot-place three count Missing = refl
+spot-place three count (Placed-at number start end) = refl
 
-  module _ (h : three ≡ true) where
-    spot-sought : (p : Place) → placeIn (recorded extent) 0 1 (itemsOf s) ≡ p → spotAt n p ≡ spotOf extent three (readSheet s)
-    unfolding spotOf
-    spot-sought p e = rw (c .reads, h, e, c .count)
+spot-is : (extent : ℕ) (three : Bool) (r : Answer (List Item)) → spotIn three (listingOf (recorded extent) r) ≡ spotOf extent three r
+unfolding spotIn spotOf listingOf
+spot-is extent three (refused k) = refl
+spot-is extent three absent = refl
+spot-is extent three remove = refl
+spot-is extent three (accepted items) = spot-place three (length items) (placeIn (recorded extent) 0 1 items)
 
-    pub spot-missing : placeIn (recorded extent) 0 1 (itemsOf s) ≡ Missing → Refused 5 ≡ spotOf extent three (readSheet s)
-    unfolding spotAt
-    spot-missing e = spot-sought Missing e
-
-    pub spot-found : (number start end : ℕ) → placeIn (recorded extent) 0 1 (itemsOf s) ≡ Placed-at number start end
-        → At number start end n ≡ spotOf extent three (readSheet s)
-    unfolding spotAt
-    spot-found number start end e = spot-sought (Placed-at number start end) e
+pub spot-found : (s : List ℕ) (extent : ℕ) (three b : Bool) (l : Listing) → listingOf (passing (Record extent)) (readSheet s) ≡ l → three ≡ b
+    → spotIn b l ≡ spotOf extent three (readSheet s)
+unfolding passing
+spot-found s extent three b l e h = ap (spotIn b) (sym e) ∙ ap (λ (x : Bool). spotIn x (listingOf (recorded extent) (readSheet s))) (sym h) ∙ spot-is extent three (readSheet s)
 
 -- ---- a refusal
 

@@ -3,8 +3,8 @@ use super::Spot;
 use backref_plan::Plan;
 use format::Edited;
 use format::Told;
-use item_list::Checked;
-use item_list::Place;
+use item_list::Listing;
+use item_list::Wanted;
 use record_edit::Behind;
 use record_edit::Record;
 ghost use mathlib.Core.Path.{_≡_};
@@ -22,23 +22,28 @@ ghost use Rattle.transaction.specs.Spots.{spotOf, withBody};
 pub fn find(sheet: &[u8], bytenr: u64, three: bool) -> Spot
     ensures { λ r. ⌜ r ≡ spotOf bytenr three (readSheet (now (sheet .entry))) ⌝ }
 {
-    let checked = item_list::check(sheet);
-    match checked {
-        Checked::Refused(number) => return Spot::Refused(number),
-        Checked::Count(count) => {
+    let listing = item_list::find(sheet, Wanted::Record(bytenr));
+    match listing {
+        Listing::Refused(number) => return Spot::Refused(number),
+        Listing::Missing { count: _ } => {
             if three {
-                let place = item_list::record_at(sheet, bytenr);
-                match place {
-                    Place::Missing => return Spot::Refused(5),
-                    Place::At { number, start, end } => {
-                        return Spot::At {
-                            number,
-                            start,
-                            end,
-                            count,
-                        };
-                    }
-                }
+                return Spot::Refused(5);
+            }
+            return Spot::Refused(3);
+        }
+        Listing::Found {
+            count,
+            number,
+            start,
+            end,
+        } => {
+            if three {
+                return Spot::At {
+                    number,
+                    start,
+                    end,
+                    count,
+                };
             }
             return Spot::Refused(3);
         }

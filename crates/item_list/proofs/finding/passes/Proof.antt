@@ -1,7 +1,5 @@
-use mathlib.Core.Path.{sym, ap, _∙_}
-use mathlib.Core.Bool.{Bool, not}
-use mathlib.Core.List.{[]}
-use Rattle.item_list.specs.declared.Wanted.{Wanted}
+use mathlib.Core.Path.{ap}
+use mathlib.Core.Bool.{not}
 use Rattle.item_list.specs.Seeks.{passing}
 use borrow.Author.Needs.{needs}
 use Rattle.item_list.proofs.finding.passes.Statement.{statement}
