@@ -89,10 +89,6 @@ missing p n at (i ∷ items) e = go (p i) refl e (missing p (n + 1) (at + sizeOf
     go false h f ih = rw (h, ih f)
 
 -- of an extent's record
-pub record-found : (extent : ℕ) (items : List Item) (number start end : ℕ) → placeIn (recorded extent) 0 1 items ≡ At number start end
-    → Placed (recordOf extent) items 0 1 number start end
-record-found extent items number start end e = placed (recordOf extent) 0 1 items number start end e
-
 pub record-missing : (extent : ℕ) (items : List Item) → placeIn (recorded extent) 0 1 items ≡ Missing → cut (recordOf extent) items ≡ none
 record-missing extent items e = missing (recordOf extent) 0 1 items e
 

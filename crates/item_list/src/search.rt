@@ -1,42 +1,16 @@
-// Searches in an item list that passed questions 1 and 2.
+// Further searches in an item list that passed questions 1 and 2.
 ghost use mathlib.Core.Path.{_≡_};
 ghost use mathlib.Core.List.{[]};
 ghost use Rattle.format.specs.Apply.{recordOf};
 ghost use Rattle.item_list.specs.Steps.{Listed, itemsOf};
-ghost use Rattle.item_list.specs.Seeks.{placeIn, numbered, recorded, seekIn};
+ghost use Rattle.item_list.specs.Seeks.{placeIn, recorded, seekIn};
 use super::Place;
 use super::Sought;
 use super::Step;
 use super::stepping;
 use format::Key;
 
-// Where the item of a number stands.
-pub fn locate(s: &[u8], wanted: usize) -> Place
-    requires { ⌜ Listed (now s) ⌝ }
-    ensures { λ r. ⌜ r ≡ placeIn (numbered wanted) 0 1 (itemsOf (now (s .entry))) ⌝ }
-{
-    let mut at: usize = 1;
-    let mut number: usize = 0;
-    loop {
-        let step = stepping::step_at(s, at);
-        match step {
-            Step::End => return Place::Missing,
-            Step::Broken => return Place::Missing,
-            Step::Whole { next } => {
-                if number == wanted {
-                    return Place::At {
-                        number,
-                        start: at,
-                        end: next,
-                    };
-                }
-                number += 1;
-                at = next;
-            }
-        }
-    }
-}
-
+// Whether an item with this key is the record of an extent.
 pub fn is_record(key: Key, extent: u64) -> bool
     ensures { λ r. ⌜ r ≡ recordOf extent (record { key = key; bytes = [] }) ⌝ }
 {
