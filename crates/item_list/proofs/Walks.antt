@@ -1,6 +1,6 @@
 -- Walking over the items of an item list: what is left from a position on, and what a step says of it. Assumes nothing.
 use mathlib.Core.Path.{_≡_, refl, sym, ap, _∙_, subst}
-use mathlib.Core.Bool.{Bool, true, false}
+use mathlib.Core.Bool.{true, false}
 use mathlib.Core.List.{List, [], _∷_}
 use Prim.Native.Nat.{ℕ, zero, suc, _+_}
 use native.Mathlib.Omega.{arith}
@@ -15,10 +15,9 @@ use Rattle.format.proofs.Answers.{refused-not, accepted-inj, bind-ok}
 use Rattle.format.proofs.Items.{sheet-out}
 use Rattle.item_list.specs.declared.Step.{Step}
 use Rattle.item_list.specs.declared.Step.the-variants.{Whole, Broken, End}
-use Rattle.item_list.specs.declared.Place.the-variants.{At, Missing}
 use Rattle.item_list.specs.declared.Sought.the-variants.{Present, Absent}
 use Rattle.item_list.specs.Steps.{itemAt, stepAt, itemsOf, Listed}
-use Rattle.item_list.specs.Seeks.{sizeOf, placeIn, seekIn}
+use Rattle.item_list.specs.Seeks.{sizeOf, seekIn}
 use Rattle.item_list.proofs.Steps.{WholeAt, whole-at, data-long, items-end, items-broken, items-over, items-item}
 
 -- from a position on, the bytes are these items
@@ -82,21 +81,6 @@ pub record Walked (s : List ℕ) (at : ℕ) (P : List Item → Type 0) : Type 0 
   pub items : List Item
   pub rest : Rest s at items
   pub so : P items
-
--- ---- the first that passes a test
-
-pub place-end : (test : ℕ → Item → Bool) (n at : ℕ) (items : List Item) → items ≡ [] → placeIn test n at items ≡ Missing
-unfolding placeIn
-place-end test n at items e = rw e
-
-module _ (s : List ℕ) (at next : ℕ) (items : List Item) (r : More s at next items) (test : ℕ → Item → Bool) (n : ℕ) where
-  pub place-here : test n (itemAt s at) ≡ true → placeIn test n at items ≡ At n at next
-  unfolding placeIn
-  place-here h = rw (r .is, h, ends s at next (r .whole))
-
-  pub place-later : test n (itemAt s at) ≡ false → placeIn test n at items ≡ placeIn test (n + 1) next (r .others)
-  unfolding placeIn
-  place-later h = rw (r .is, h, ends s at next (r .whole))
 
 -- ---- by key
 

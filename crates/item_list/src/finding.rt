@@ -6,6 +6,7 @@ ghost use Prim.Native.Nat.{_≤_};
 ghost use lib.ListN.{length, drop};
 ghost use Rattle.format.specs.Questions.{bind, ask, accepted};
 ghost use Rattle.format.specs.Items.{readItems, readSheet, rising};
+ghost use Rattle.format.specs.Apply.{recordOf};
 ghost use Rattle.item_list.specs.declared.Place.the-variants.{At, Missing};
 ghost use Rattle.item_list.specs.Steps.{following};
 ghost use Rattle.item_list.specs.Seeks.{passing};
@@ -14,7 +15,6 @@ use super::Listing;
 use super::Place;
 use super::Step;
 use super::Wanted;
-use super::search;
 use super::stepping;
 use format::Key;
 
@@ -31,6 +31,19 @@ fn follows(ordered: bool, n: usize, last: Key, key: Key) -> bool
     false
 }
 
+// Whether an item with this key is the record of an extent.
+fn is_record(key: Key, extent: u64) -> bool
+    ensures { λ r. ⌜ r ≡ recordOf extent (record { key = key; bytes = [] }) ⌝ }
+{
+    if key.kind == 168 {
+        return key.objectid == extent;
+    }
+    if key.kind == 169 {
+        return key.objectid == extent;
+    }
+    false
+}
+
 // Whether item number `n` with its key is wanted.
 fn passes(wanted: Wanted, n: usize, key: Key) -> bool
     ensures { λ r. ⌜ r ≡ passing wanted n (record { key = key; bytes = [] }) ⌝ }
@@ -38,7 +51,7 @@ fn passes(wanted: Wanted, n: usize, key: Key) -> bool
     match wanted {
         Wanted::Nothing => false,
         Wanted::Number(number) => n == number,
-        Wanted::Record(extent) => search::is_record(key, extent),
+        Wanted::Record(extent) => is_record(key, extent),
         Wanted::AtOrPast(from) => !stepping::below(key, from),
     }
 }

@@ -1,5 +1,5 @@
 // The reader of an item list (document 01's sheet): one step over items at a position, one pass that answers questions 1 and 2 and
-// finds an item, and further searches in a list that passed them.
+// finds an item, and a further search in a list that passed them.
 mod checking;
 mod finding;
 mod search;
@@ -9,7 +9,6 @@ pub use checking::check;
 pub use checking::nodesize_fits;
 pub use finding::find;
 use format::Key;
-pub use search::record_at;
 pub use search::seek;
 pub use stepping::is_past;
 pub use stepping::key_at;

@@ -26,7 +26,8 @@ use Rattle.inline_refs.specs.Scans.{kindOf}
 use Rattle.item_list.specs.declared.Place.the-variants.{At, Missing}
 use Rattle.item_list.specs.declared.Checked.the-variants.{Count, Refused}
 use Rattle.item_list.specs.Steps.{checkedOf, itemsOf}
-use Rattle.item_list.specs.Seeks.{placeIn, recorded}
+use Rattle.item_list.specs.declared.Wanted.the-variants.{Record}
+use Rattle.item_list.specs.Seeks.{placeIn, recorded, passing}
 use Rattle.item_list.proofs.Reading.{listed, sheet-refused}
 use Rattle.item_list.proofs.Places.{record-missing}
 use Rattle.item_write.proofs.Writes.{answered-no}
@@ -105,14 +106,16 @@ missing-record nodesize (DropData extent name) items e = no-record extent items 
 missing-record nodesize (DropShared extent name) items e = no-record extent items _ e
 
 module _ (s : List ℕ) (extent : ℕ) (change : Change) (is : extent ≡ nameOf change .extent) where
-  pub missing-answered : (nodesize room : ℕ) (old : List ℕ) → placeIn (recorded extent) 0 1 (itemsOf s) ≡ Missing
+  pub missing-answered : (nodesize room : ℕ) (old : List ℕ) → placeIn (passing (Record extent)) 0 1 (itemsOf s) ≡ Missing
       → Answered (heldSheet room (changed nodesize change (itemsOf s))) (Denied 5) old old
+  unfolding passing
   missing-answered nodesize room old e =
       answered-no _ room 5 old (missing-record nodesize change (itemsOf s)
       (subst (λ (x : ℕ). cut (recordOf x) (itemsOf s) ≡ none) is (record-missing extent (itemsOf s) e)))
 
-  pub entered : (number start end : ℕ) → placeIn (recorded extent) 0 1 (itemsOf s) ≡ At number start end
+  pub entered : (number start end : ℕ) → placeIn (passing (Record extent)) 0 1 (itemsOf s) ≡ At number start end
       → RecordAt s (nameOf change .extent) start end
+  unfolding passing
   entered number start end e =
       record { number = number; finds = subst (λ (x : ℕ). placeIn (recorded x) 0 1 (itemsOf s) ≡ At number start end) is e }
 

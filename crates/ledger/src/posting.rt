@@ -6,8 +6,7 @@ use format::Change;
 use format::Edited;
 use format::SharedRef;
 use inline_refs::Wanted;
-use item_list::Checked;
-use item_list::Place;
+use item_list::Listing;
 ghost use mathlib.Core.Path.{_≡_};
 ghost use mathlib.Core.Bool.{_&&_};
 ghost use lib.Dec.{T};
@@ -121,43 +120,32 @@ fn change_at(sheet: &[u8], stand: Stand, nodesize: u32, change: Change, out: &mu
     }
 }
 
-// Question 5, then the change.
-fn post_balanced(
-    sheet: &[u8],
-    items: usize,
-    nodesize: u32,
-    change: Change,
-    out: &mut [u8],
-) -> Edited
-    requires { ⌜ BalancedList (now sheet) items ⌝ }
-    requires { ⌜ T (kindFits change) ⌝ }
-    ensures { λ r. ⌜ Answered (heldSheet (length (now (out .entry))) (changed nodesize change (itemsOf (now (sheet .entry))))) r (now (out .entry)) (now (out .exit)) ⌝ }
-{
-    let place = item_list::record_at(sheet, extent_of(change));
-    match place {
-        Place::Missing => return Edited::Refused(5),
-        Place::At {
-            number: _,
-            start,
-            end,
-        } => {
-            let stand = Stand { start, end, items };
-            return change_at(sheet, stand, nodesize, change, out);
-        }
-    }
-}
-
 // Document 01's posting: the sheet with the change, into `out`.
 pub fn post(sheet: &[u8], nodesize: u32, change: Change, out: &mut [u8]) -> Edited
     ensures { λ r. ⌜ Answered (posted nodesize (now (sheet .entry)) change (length (now (out .entry)))) r (now (out .entry)) (now (out .exit)) ⌝ }
 {
-    let checked = item_list::check(sheet);
-    match checked {
-        Checked::Refused(number) => return Edited::Refused(number),
-        Checked::Count(items) => {
+    let listing = item_list::find(sheet, item_list::Wanted::Record(extent_of(change)));
+    match listing {
+        Listing::Refused(number) => return Edited::Refused(number),
+        Listing::Missing { count: _ } => {
             if change_fits(nodesize, change) {
                 if balance::balanced(sheet) {
-                    return post_balanced(sheet, items, nodesize, change, out);
+                    return Edited::Refused(5);
+                }
+                return Edited::Refused(4);
+            }
+            return Edited::Refused(3);
+        }
+        Listing::Found {
+            count: items,
+            number: _,
+            start,
+            end,
+        } => {
+            if change_fits(nodesize, change) {
+                if balance::balanced(sheet) {
+                    let stand = Stand { start, end, items };
+                    return change_at(sheet, stand, nodesize, change, out);
                 }
                 return Edited::Refused(4);
             }

@@ -1,6 +1,6 @@
 use Rattle.item_list.proofs.Walks.{record-168, record-169, record-other}
-use Rattle.item_list.proofs.search.is_record.Statement.{statement}
-use Rattle.item_list.proofs.search.is_record.Tie as tie
+use Rattle.item_list.proofs.finding.is_record.Statement.{statement}
+use Rattle.item_list.proofs.finding.is_record.Tie as tie
 
 returns : tie.Need-returns
 returns c = record-168 _ _ (c .before .if1 .taken)
