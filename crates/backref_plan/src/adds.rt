@@ -12,7 +12,7 @@ ghost use lib.Dec.{eqb};
 ghost use Rattle.format.specs.References.{counted};
 ghost use Rattle.inline_refs.specs.Scans.{kindOf};
 ghost use Rattle.backref_plan.specs.Plans.{Planned};
-ghost use Rattle.backref_plan.specs.Adds.{ownPlace, siteOf, Raised, addInline, addKeyed};
+ghost use Rattle.backref_plan.specs.Adds.{siteOf, Raised, addInline, addKeyed};
 
 // Whether references of the wanted kind have a count.
 fn counts(wanted: Wanted) -> bool
@@ -34,18 +34,6 @@ fn may_add(wanted: Wanted, amount: u32) -> bool
         return true;
     }
     amount == 1
-}
-
-// What the wanted reference is ordered by.
-pub fn own_place(wanted: Wanted) -> u64
-    ensures { λ r. ⌜ r ≡ ownPlace wanted ⌝ }
-{
-    match wanted {
-        Wanted::Block(name) => name.tree,
-        Wanted::Data(name) => extent_write::data_ref_hash(name.tree, name.objectid, name.offset),
-        Wanted::SharedBlock(parent) => parent,
-        Wanted::SharedData(parent) => parent,
-    }
 }
 
 fn site_of(seen: Seen, end: usize, by_scan: bool) -> Site
@@ -80,7 +68,7 @@ pub fn plan_add_inline(
 ) -> Plan
     ensures { λ r. ⌜ Planned r (now (body .entry)) (addInline «item_type» (now (body .entry)) wanted amount «by_scan») ⌝ }
 {
-    match inline_refs::scan_body(item_type, body, wanted, own_place(wanted)) {
+    match inline_refs::scan_to_add(item_type, body, wanted) {
         Scan::Fault(number) => refuse(number),
         Scan::Read(seen) => {
             let total = fields::get_u64_le(body, 0);

@@ -8,7 +8,6 @@ mod plan;
 mod totals;
 mod write;
 
-pub use adds::own_place;
 pub use adds::plan_add_inline;
 pub use adds::plan_add_keyed;
 pub use drops::plan_drop_inline;

@@ -33,13 +33,6 @@ fn joined(one: u32, two: u32) -> u64
     ((one as u64) << 31) ^ (two as u64)
 }
 
-// The hash of a data reference.
-pub fn data_ref_hash(tree: u64, objectid: u64, offset: u64) -> u64
-    ensures { λ r. ⌜ r ≡ dataRefHash tree objectid offset ⌝ }
-{
-    joined(crc32c::run_one(tree), crc32c::run_two(objectid, offset))
-}
-
 // A tree and the register after a run over it, for the hashes of many references of that tree.
 pub struct TreeRun {
     pub tree: u64,
@@ -57,12 +50,27 @@ pub fn tree_run(tree: u64) -> TreeRun
 
 // Tree 0, whose register is known, where no tree is asked for.
 pub fn no_tree_run() -> TreeRun
-    ensures { λ r. ⌜ Fits r ⌝ }
+    ensures { λ r. ⌜ (r .tree ≡ 0) × Fits r ⌝ }
 {
     TreeRun {
         tree: 0,
         register: 0x73d74d75,
     }
+}
+
+// The hash of a data reference of a tree whose register is at hand.
+pub fn hash_with(own: TreeRun, objectid: u64, offset: u64) -> u64
+    requires { ⌜ Fits own ⌝ }
+    ensures { λ r. ⌜ r ≡ dataRefHash (own .tree) objectid offset ⌝ }
+{
+    joined(own.register, crc32c::run_two(objectid, offset))
+}
+
+// The hash of a data reference.
+pub fn data_ref_hash(tree: u64, objectid: u64, offset: u64) -> u64
+    ensures { λ r. ⌜ r ≡ dataRefHash tree objectid offset ⌝ }
+{
+    hash_with(tree_run(tree), objectid, offset)
 }
 
 // The register of a tree, without a run where it is the one at hand.

@@ -27,6 +27,13 @@ fieldsOf (Data name) = triple name
 fieldsOf (SharedBlock parent) = one parent
 fieldsOf (SharedData parent) = one parent
 
+-- the tree whose register a data reference's place is made of; 0 for a place that is no hash
+unfoldable pub treeOf : Wanted → ℕ
+treeOf (Block name) = 0
+treeOf (Data name) = name .tree
+treeOf (SharedBlock parent) = 0
+treeOf (SharedData parent) = 0
+
 -- the wanted reference
 abbrev pub isWanted : Wanted → Ref → Bool
 isWanted wanted r = named (kindOf wanted) (fieldsOf wanted) r

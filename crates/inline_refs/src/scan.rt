@@ -10,9 +10,9 @@ ghost use Prim.Native.Nat.{ℕ, _+_, _≤_};
 ghost use lib.Dec.{T};
 ghost use lib.ListN.{length, drop};
 ghost use Rattle.extent_write.specs.Runs.{Fits};
-ghost use Rattle.format.specs.References.{kinds, known, payloadLength, countPosition, refAt, startOf};
+ghost use Rattle.format.specs.References.{kinds, known, payloadLength, countPosition, refAt, startOf, placeOf};
 ghost use Rattle.inline_refs.specs.Steps.{readFrom};
-ghost use Rattle.inline_refs.specs.Scans.{scanOf, restOf, refsIn};
+ghost use Rattle.inline_refs.specs.Scans.{kindOf, fieldsOf, scanOf, restOf, refsIn};
 
 // What a scan has noted.
 pub enum Seen {
@@ -201,15 +201,64 @@ fn scan_from(
     }
 }
 
-// Questions 3 and 6 to 8, and the scan of a body's references.
+// From `start` to the end of the body, by the wanted one's own place.
+fn scan_placed(rows: &[[u8; 3]; 5], body: &[u8], start: usize, wanted: Wanted) -> Scan
+    requires { ⌜ now rows ≡ kinds ⌝ }
+    ensures { λ r. ⌜ r ≡ scanOf wanted (placeOf (kindOf wanted) (fieldsOf wanted)) start (Seen.Open false) (readFrom (now (body .entry)) start) ⌝ }
+{
+    let own = crate::wanted::run_of(wanted);
+    let place = crate::wanted::place_with(wanted, own);
+    scan_from(rows, body, start, wanted, place, own)
+}
+
+// The same. The first reference is looked at before a place is asked for, which may cost a hash: where a count is raised again,
+// it is often the wanted one, and no place is needed.
+fn scan_first(rows: &[[u8; 3]; 5], body: &[u8], start: usize, wanted: Wanted) -> Scan
+    requires { ⌜ now rows ≡ kinds ⌝ }
+    ensures { λ r. ⌜ r ≡ scanOf wanted (placeOf (kindOf wanted) (fieldsOf wanted)) start (Seen.Open false) (readFrom (now (body .entry)) start) ⌝ }
+{
+    let cursor = Cursor { at: start };
+    match cursor.step(rows, body) {
+        Step::Ref {
+            kind,
+            start: payload,
+            size: _,
+            count,
+            next,
+        } => {
+            if !crate::wanted::names(wanted, body, kind, payload) {
+                return scan_placed(rows, body, start, wanted);
+            }
+            let weight = weight_at(body, kind, payload, count);
+            scan_hit(rows, body, start, next.at, weight)
+        }
+        Step::End => Scan::Read(Seen::Open { kin: false }),
+        Step::Refused(number) => Scan::Fault(number),
+    }
+}
+
+// Questions 3 and 6 to 8, and the scan of a body's references. No caller has a data reference's place, so no tree's run is made.
 pub fn scan_body(item_type: u8, body: &[u8], wanted: Wanted, place: u64) -> Scan
     ensures { λ r. ⌜ r ≡ scanOf wanted place (startOf «item_type» (now (body .entry))) (Seen.Open false) (refsIn «item_type» (now (body .entry))) ⌝ }
 {
     match crate::start::open_body(item_type, body) {
         Start::From(start) => {
             let rows = crate::kinds::rows();
-            let own = crate::wanted::own_run(wanted, place);
+            let own = extent_write::no_tree_run();
             scan_from(&rows, body, start, wanted, place, own)
+        }
+        Start::Refused(number) => Scan::Fault(number),
+    }
+}
+
+// The same for a reference that is to be added, by its own place.
+pub fn scan_to_add(item_type: u8, body: &[u8], wanted: Wanted) -> Scan
+    ensures { λ r. ⌜ r ≡ scanOf wanted (placeOf (kindOf wanted) (fieldsOf wanted)) (startOf «item_type» (now (body .entry))) (Seen.Open false) (refsIn «item_type» (now (body .entry))) ⌝ }
+{
+    match crate::start::open_body(item_type, body) {
+        Start::From(start) => {
+            let rows = crate::kinds::rows();
+            scan_first(&rows, body, start, wanted)
         }
         Start::Refused(number) => Scan::Fault(number),
     }

@@ -7,12 +7,12 @@ ghost use mathlib.Core.Bool.{_||_};
 ghost use Prim.Native.Nat.{_+_, _≤_};
 ghost use lib.Dec.{T, eqb, ltb};
 ghost use lib.ListN.{length, drop};
-ghost use Rattle.format.specs.References.{known, payloadLength, refAt, place};
+ghost use Rattle.format.specs.References.{known, payloadLength, refAt, place, placeOf};
 ghost use Rattle.format.specs.Bodies.{named, stops, triple};
 ghost use Rattle.extent_write.specs.Runs.{Fits};
 ghost use Rattle.fields.specs.Lists.{same};
 ghost use Rattle.fields.specs.Numbers.{words};
-ghost use Rattle.inline_refs.specs.Scans.{kindOf, fieldsOf};
+ghost use Rattle.inline_refs.specs.Scans.{kindOf, fieldsOf, treeOf};
 
 // The name of the reference that is looked for.
 pub enum Wanted {
@@ -96,19 +96,36 @@ pub fn place_below(body: &[u8], kind: u8, start: usize, own: TreeRun, limit: u64
     )
 }
 
-// The run over the wanted one's own tree. Only a data reference with a place has hashes compared with it.
-pub fn own_run(wanted: Wanted, place: u64) -> TreeRun
-    ensures { λ r. ⌜ Fits r ⌝ }
+// The run over the wanted one's own tree. Only a data reference has hashes compared with its own.
+pub fn run_of(wanted: Wanted) -> TreeRun
+    ensures { λ r. ⌜ (r .tree ≡ treeOf wanted) × Fits r ⌝ }
 {
-    if place == 0 {
-        return extent_write::no_tree_run();
-    }
     match wanted {
         Wanted::Data(name) => extent_write::tree_run(name.tree),
         Wanted::Block(_) => extent_write::no_tree_run(),
         Wanted::SharedBlock(_) => extent_write::no_tree_run(),
         Wanted::SharedData(_) => extent_write::no_tree_run(),
     }
+}
+
+// What the wanted reference is ordered by, from the run over its own tree.
+pub fn place_with(wanted: Wanted, own: TreeRun) -> u64
+    requires { ⌜ (own .tree ≡ treeOf wanted) × Fits own ⌝ }
+    ensures { λ r. ⌜ r ≡ placeOf (kindOf wanted) (fieldsOf wanted) ⌝ }
+{
+    match wanted {
+        Wanted::Block(name) => name.tree,
+        Wanted::Data(name) => extent_write::hash_with(own, name.objectid, name.offset),
+        Wanted::SharedBlock(parent) => parent,
+        Wanted::SharedData(parent) => parent,
+    }
+}
+
+// The same where no run is at hand.
+pub fn own_place(wanted: Wanted) -> u64
+    ensures { λ r. ⌜ r ≡ placeOf (kindOf wanted) (fieldsOf wanted) ⌝ }
+{
+    place_with(wanted, run_of(wanted))
 }
 
 // Whether a new reference of kind `wanted` with a place goes before this one. Nothing has a place below 0, so that place

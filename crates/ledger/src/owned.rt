@@ -32,7 +32,7 @@ pub fn has_none(sheet: &[u8], items: usize, extent: u64, wanted: Wanted) -> bool
     let key = Key {
         objectid: extent,
         kind: inline_refs::kind_of(wanted),
-        offset: backref_plan::own_place(wanted),
+        offset: inline_refs::own_place(wanted),
     };
     let sought = item_list::seek(sheet, key);
     match sought {

@@ -7,7 +7,7 @@ use Rattle.extent_write.proofs.no_tree_run.Tie as tie
 
 returns : tie.Need-returns
 unfolding leBytes run byteStep steps step
-returns c = refl
+returns c = (refl, refl)
 
 pub no-tree-run-spec : {M : Type 1} → statement M
 no-tree-run-spec = tie.close (tie.spec returns)

@@ -2,7 +2,6 @@ use mathlib.Core.Path.{sym, _∙_}
 use native.Mathlib.Omega.{arith}
 use denote.Ref.{now}
 use Rattle.fields.proofs.Numbers.{areBytes-in}
-use Rattle.backref_plan.specs.Adds.{ownPlace}
 use Rattle.item_list.proofs.Reading.{listed}
 use Rattle.ledger.proofs.OwnItems.{Seat, no-seat, seat}
 use borrow.Author.Needs.{needs}
@@ -13,7 +12,6 @@ seek-requires : tie.Need-seek-requires
 seek-requires c κs = listed _ _ (c .before .before .before .pre .checked)
 
 returns : tie.Need-returns
-unfolding ownPlace
 returns c =
     let a = c .before .before .before .before .before .before .args in
     no-seat _ _ (areBytes-in (now (a .sheet)) (λ i. c .before .before .before .before .before .shared-slice-known .given i .fits)) (c .before .before .before .before .before .before .pre) _ _ _ _
@@ -21,7 +19,6 @@ returns c =
 
 -- an item stands at the key
 stands : (c : tie.After-known-told) → Seat (now (c .before .before .before .before .before .before .before .args .sheet)) (c .before .before .before .before .before .before .before .args .extent) (c .before .before .before .before .before .before .before .args .wanted) (c .before .sought .given .0 .0) (c .before .sought .given .0 .1 .0)
-unfolding ownPlace
 stands c =
     let a = c .before .before .before .before .before .before .before .args in
     seat _ _ (areBytes-in (now (a .sheet)) (λ i. c .before .before .before .before .before .before .shared-slice-known .given i .fits)) (c .before .before .before .before .before .before .before .pre) _ _ _ _
