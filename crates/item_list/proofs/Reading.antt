@@ -5,9 +5,10 @@ use mathlib.Core.List.{List, [], _∷_}
 use Prim.Native.Nat.{ℕ, zero, suc, _+_, _-_, _≤_, _<_}
 use native.Mathlib.Numerals.{add-one}
 use native.Mathlib.Omega.{arith}
-use lib.Dec.{T, leb, eqb}
+use lib.Dec.{T, leb, eqb, leb→le}
+use mir.Facts.{and-yes}
 use lib.ListN.{length, drop, getD}
-use borrow.Author.Tests.{le-leb, lt-leb, eq-eqb, ne-eqb}
+use borrow.Author.Tests.{le-leb, lt-leb}
 use Rattle.fields.specs.Lists.{all}
 use Rattle.fields.specs.Numbers.{areBytes}
 use Rattle.format.specs.declared.Key.{Key}
@@ -20,12 +21,12 @@ use Rattle.item_list.specs.declared.Checked.the-variants.{Count, Refused
 use Rattle.item_list.specs.declared.Place.{Place}
 use Rattle.item_list.specs.declared.Place.the-variants.{At, Missing}
 use Rattle.item_list.specs.declared.Wanted.{Wanted}
-use Rattle.item_list.specs.declared.Wanted.the-variants.{Nothing, Number, Record, AtOrPast}
+use Rattle.item_list.specs.declared.Wanted.the-variants.{Number, Record, AtOrPast}
 use Rattle.item_list.specs.declared.Listing.{Listing}
 use Rattle.item_list.specs.declared.Listing.the-variants.{Refused, Found, Missing as Without}
-use Rattle.item_list.specs.Steps.{itemAt, stepAt, following, checkedOf, itemsIn, itemsOf, Listed}
+use Rattle.item_list.specs.Steps.{itemAt, stepAt, opensList, following, checkedOf, itemsIn, itemsOf, Listed}
 use Rattle.item_list.specs.Seeks.{sizeOf, placeIn, passing}
-use Rattle.item_list.specs.Listings.{listedAt, listingOf, orElse, verdictOf}
+use Rattle.item_list.specs.Listings.{listedAt, listingOf, countOf, orElse, verdictOf}
 use Rattle.item_list.proofs.Steps.{and-false, whole-at, items-end, items-broken, items-over, items-item}
 use Rattle.item_list.proofs.Walks.{ends}
 
@@ -100,26 +101,18 @@ run-first test key (accepted items) = go (rising items)
     go true = ap (λ (n : ℕ). listedAt n (placeIn test 0 1 items)) (omega arith)
     go false = refl
 
--- a test looks at the key alone
-by-key : (wanted : Wanted) (n : ℕ) (i : Item) → passing wanted n (record { key = i .key; bytes = [] }) ≡ passing wanted n i
-unfolding passing isRecord
-by-key Nothing n i = refl
-by-key (Number number) n i = refl
-by-key (Record extent) n i = refl
-by-key (AtOrPast key) n i = refl
-
-module _ (wanted : Wanted) (s : List ℕ) (place : Place) (at n : ℕ) (o : Bool) (key : Key) where
-  pub run-end : stepAt s at ≡ End → run (passing wanted) place at n o key (readItems (4096 - n) (drop at s)) ≡ verdictOf o n place
+module _ (test : ℕ → Item → Bool) (s : List ℕ) (place : Place) (at n : ℕ) (o : Bool) (key : Key) where
+  pub run-end : stepAt s at ≡ End → run test place at n o key (readItems (4096 - n) (drop at s)) ≡ verdictOf o n place
   unfolding run placeIn
   run-end e =
       let z : n + 0 ≡ n = omega arith in
       rw (items-end (4096 - n) s at e, after-nil n key, and-true o, z, place-nil place)
 
-  pub run-broken : stepAt s at ≡ Broken → run (passing wanted) place at n o key (readItems (4096 - n) (drop at s)) ≡ Refused 1
+  pub run-broken : stepAt s at ≡ Broken → run test place at n o key (readItems (4096 - n) (drop at s)) ≡ Refused 1
   unfolding run
   run-broken e = rw (items-broken (4096 - n) s at e)
 
-  pub run-over : 4096 ≤ n → at < length s → run (passing wanted) place at n o key (readItems (4096 - n) (drop at s)) ≡ Refused 1
+  pub run-over : 4096 ≤ n → at < length s → run test place at n o key (readItems (4096 - n) (drop at s)) ≡ Refused 1
   unfolding run
   run-over h l =
       let z : 4096 - n ≡ 0 = omega arith in
@@ -127,44 +120,100 @@ module _ (wanted : Wanted) (s : List ℕ) (place : Place) (at n : ℕ) (o : Bool
 
   -- the item at hand: its key, whether keys still rise, and what is found with it
   pub run-step : (next : ℕ) (here : Key) (o₁ : Bool) (place₁ : Place) → n < 4096 → stepAt s at ≡ Whole next → here ≡ itemAt s at .key
-      → o₁ ≡ (o && following n key here)
-      → place₁ ≡ orElse place (cond (passing wanted n (record { key = here; bytes = [] })) (At n at next) Missing)
-      → run (passing wanted) place at n o key (readItems (4096 - n) (drop at s))
-      ≡ run (passing wanted) place₁ next (n + 1) o₁ here (readItems (4096 - (n + 1)) (drop next s))
+      → o₁ ≡ (o && following n key here) → place₁ ≡ orElse place (cond (test n (itemAt s at)) (At n at next) Missing)
+      → run test place at n o key (readItems (4096 - n) (drop at s))
+      ≡ run test place₁ next (n + 1) o₁ here (readItems (4096 - (n + 1)) (drop next s))
   run-step next here o₁ place₁ h e k p q =
       let z : 4096 - n ≡ suc (4096 - (n + 1)) = omega arith in
-      let d : (cond (passing wanted n (record { key = here; bytes = [] })) (At n at next) Missing) ≡ cond (passing wanted n (itemAt s at)) (At n at next) Missing =
-      ap (λ (x : Key). cond (passing wanted n (record { key = x; bytes = [] })) (At n at next) Missing) k ∙ ap (λ (b : Bool). cond b (At n at next) Missing) (by-key wanted n (itemAt s at)) in
-      rw (p, q, d, k, z, items-item (4096 - (n + 1)) s at next e, add-one n)
-      (run-cons (passing wanted) place at next n o key (itemAt s at) (readItems (4096 - suc n) (drop next s)) (ends s at next (whole-at s at next e)))
+      rw (p, q, k, z, items-item (4096 - (n + 1)) s at next e, add-one n)
+      (run-cons test place at next n o key (itemAt s at) (readItems (4096 - suc n) (drop next s)) (ends s at next (whole-at s at next e)))
+
+-- what is wanted is told by the key alone
+by-key : (wanted : Wanted) (n : ℕ) (i : Item) → passing wanted n (record { key = i .key; bytes = [] }) ≡ passing wanted n i
+unfolding passing isRecord
+by-key (Number number) n i = refl
+by-key (Record extent) n i = refl
+by-key (AtOrPast key) n i = refl
+
+pub found-by-key : (wanted : Wanted) (place place₁ : Place) (n at next : ℕ) (here : Key) (i : Item) → here ≡ i .key
+    → place₁ ≡ orElse place (cond (passing wanted n (record { key = here; bytes = [] })) (At n at next) Missing)
+    → place₁ ≡ orElse place (cond (passing wanted n i) (At n at next) Missing)
+found-by-key wanted place place₁ n at next here i k e =
+    e
+    ∙ ap (λ (b : Bool). orElse place (cond b (At n at next) Missing))
+    (ap (λ (x : Key). passing wanted n (record { key = x; bytes = [] })) k ∙ by-key wanted n i)
 
 pub following-more : (n : ℕ) (last key : Key) → (n ≡ 0 → ⊥) → following n last key ≡ keyBelow last key
 unfolding following
 following-more zero last key h = absurd (h refl)
 following-more (suc n) last key h = refl
 
+-- the same with no search
+count-place : (n : ℕ) (place : Place) → countOf (listedAt n place) ≡ Count n
+unfolding countOf listedAt
+count-place n Missing = refl
+count-place n (At number start end) = refl
+
+counts : (test : ℕ → Item → Bool) (r : Answer (List Item)) → checkedOf r ≡ countOf (listingOf test r)
+unfolding countOf listingOf checkedOf
+counts test (refused number) = refl
+counts test absent = refl
+counts test remove = refl
+counts test (accepted items) = sym (count-place (length items) (placeIn test 0 1 items))
+
+abbrev pub nothing : ℕ → Item → Bool
+nothing n i = false
+
+pub count-first : (key : Key) (r : Answer (List Item))
+    → checkedOf (bind r (λ items. ask (rising items) 2 (accepted items))) ≡ countOf (run nothing Missing 1 0 true key r)
+count-first key r = counts nothing (bind r (λ items. ask (rising items) 2 (accepted items))) ∙ ap countOf (run-first nothing key r)
+
+pub count-refused : (l : Listing) (k : ℕ) → l ≡ Refused k → countOf l ≡ NoList k
+unfolding countOf
+count-refused l k e = ap countOf e
+
+pub none-found : Missing ≡ orElse Missing Missing
+unfolding orElse
+none-found = refl
+
 -- ---- question 1 before the items
 
-pub sheet-empty : (s : List ℕ) → length s < 1 → readSheet s ≡ refused 1
-unfolding readSheet
-sheet-empty [] h = refl
-sheet-empty (v ∷ s) h = absurd (omega arith)
+pub opens-empty : (s : List ℕ) → length s < 1 → false ≡ opensList s
+unfolding opensList
+opens-empty [] h = refl
+opens-empty (v ∷ s) h = absurd (omega arith)
 
-pub sheet-long : (s : List ℕ) → 262144 < length s → readSheet s ≡ refused 1
-unfolding readSheet ask
-sheet-long [] h = refl
-sheet-long (v ∷ s) h = rw (lt-leb (1 + length s) 262144 (omega arith), and-false (eqb v 1))
+pub opens-long : (s : List ℕ) → 262144 < length s → false ≡ opensList s
+unfolding opensList
+opens-long [] h = refl
+opens-long (v ∷ s) h = rw (lt-leb (1 + length s) 262144 (omega arith), and-false (eqb v 1))
 
-pub sheet-version : (s : List ℕ) → (getD s 0 0 ≡ 1 → ⊥) → readSheet s ≡ refused 1
-unfolding readSheet ask
-sheet-version [] h = refl
-sheet-version (v ∷ s) h = rw (ne-eqb v 1 h)
+pub opens-version : (s : List ℕ) → 1 ≤ length s → length s ≤ 262144 → eqb (getD s 0 0) 1 ≡ opensList s
+unfolding opensList
+opens-version [] a b = absurd (omega arith)
+opens-version (v ∷ s) a b = rw (le-leb (1 + length s) 262144 (omega arith)) (sym (and-true (eqb v 1)))
 
-pub sheet-read : (s : List ℕ) → 1 ≤ length s → length s ≤ 262144 → getD s 0 0 ≡ 1
-    → readSheet s ≡ bind (readItems 4096 (drop 1 s)) (λ items. ask (rising items) 2 (accepted items))
-unfolding readSheet ask
-sheet-read [] a b v = absurd (omega arith)
-sheet-read (x ∷ s) a b v = rw (eq-eqb x 1 v, le-leb (1 + length s) 262144 (omega arith))
+sheet-opens : (s : List ℕ) → readSheet s ≡ ask (opensList s) 1 (bind (readItems 4096 (drop 1 s)) (λ items. ask (rising items) 2 (accepted items)))
+unfolding readSheet opensList ask
+sheet-opens [] = refl
+sheet-opens (v ∷ s) = refl
+
+module _ (s : List ℕ) where
+  pub sheet-shut : opensList s ≡ false → readSheet s ≡ refused 1
+  unfolding ask
+  sheet-shut h = sheet-opens s ∙ rw h
+
+  pub sheet-read : opensList s ≡ true → readSheet s ≡ bind (readItems 4096 (drop 1 s)) (λ items. ask (rising items) 2 (accepted items))
+  unfolding ask
+  sheet-read h = sheet-opens s ∙ rw h
+
+pub opens-short : (s : List ℕ) → opensList s ≡ true → length s ≤ 262144
+unfolding opensList
+opens-short [] h = omega arith
+opens-short (v ∷ s) h =
+    let t : length (v ∷ s) ≡ 1 + length s = omega arith in
+    let k : 1 + length s ≤ 262144 = leb→le (1 + length s) 262144 (and-yes (eqb v 1) _ (subst T (sym h) tt) .1) in
+    omega (arith, t, k)
 
 -- ---- from the answer of `find` back
 

@@ -9,6 +9,8 @@ use Rattle.item_list.specs.declared.Place.{Place}
 use Rattle.item_list.specs.declared.Place.the-variants.{At, Missing}
 use Rattle.item_list.specs.declared.Listing.{Listing}
 use Rattle.item_list.specs.declared.Listing.the-variants.{Refused, Found, Missing as Without}
+use Rattle.item_list.specs.declared.Checked.{Checked}
+use Rattle.item_list.specs.declared.Checked.the-variants.{Count, Refused as NoList}
 use Rattle.item_list.specs.Seeks.{placeIn}
 
 -- a list of so many items, and a place in it
@@ -30,3 +32,9 @@ orElse (At number start end) other = At number start end
 -- question 2 at the end of the items
 unfoldable pub verdictOf : Bool → ℕ → Place → Listing
 verdictOf ordered n place = cond ordered (listedAt n place) (Refused 2)
+
+-- the answer with no word of the search
+unfoldable pub countOf : Listing → Checked
+countOf (Refused number) = NoList number
+countOf (Without count) = Count count
+countOf (Found count number start end) = Count count

@@ -1,5 +1,5 @@
 -- Where items stand in an item list (document 01's sheet): the first that passes a test, and the place of a key. Assumes nothing.
-use mathlib.Core.Bool.{Bool, false, not, cond}
+use mathlib.Core.Bool.{Bool, not, cond}
 use mathlib.Core.List.{List, [], _∷_}
 use Prim.Native.Nat.{ℕ, _+_}
 use lib.Dec.{eqb}
@@ -10,7 +10,7 @@ use Rattle.format.specs.Apply.{recordOf}
 use Rattle.item_list.specs.declared.Place.{Place}
 use Rattle.item_list.specs.declared.Place.the-variants.{At, Missing}
 use Rattle.item_list.specs.declared.Wanted.{Wanted}
-use Rattle.item_list.specs.declared.Wanted.the-variants.{Nothing, Number, Record, AtOrPast}
+use Rattle.item_list.specs.declared.Wanted.the-variants.{Number, Record, AtOrPast}
 use Rattle.item_list.specs.declared.Sought.{Sought}
 use Rattle.item_list.specs.declared.Sought.the-variants.{Present, Absent}
 
@@ -35,7 +35,6 @@ abbrev pub atOrPast : Key → ℕ → Item → Bool
 atOrPast key number i = not (keyBelow (i .key) key)
 
 unfoldable pub passing : Wanted → ℕ → Item → Bool
-passing Nothing = λ number i. false
 passing (Number wanted) = numbered wanted
 passing (Record extent) = recorded extent
 passing (AtOrPast key) = atOrPast key

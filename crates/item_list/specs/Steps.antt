@@ -1,9 +1,9 @@
 -- What stands at a position of an item list (document 01's sheet), and what the pass over its items answers. Assumes nothing.
 use mathlib.Core.Path.{_≡_}
-use mathlib.Core.Bool.{Bool, true, cond}
-use mathlib.Core.List.{List, []}
+use mathlib.Core.Bool.{Bool, true, false, _&&_, cond}
+use mathlib.Core.List.{List, [], _∷_}
 use Prim.Native.Nat.{ℕ, zero, suc, _+_}
-use lib.Dec.{leb}
+use lib.Dec.{eqb, leb}
 use lib.ListN.{length, drop}
 use Rattle.format.specs.declared.Key.{Key}
 use Rattle.format.specs.Questions.{Answer, refused, absent, remove, accepted}
@@ -27,6 +27,11 @@ unfoldable pub stepAt : List ℕ → ℕ → Step
 stepAt s at = cond (leb (length s) at) End (cond (wholeItem (drop at s)) (Whole (nextAt s at)) Broken)
 
 -- ---- questions 1 and 2
+
+-- question 1 before the items: version and length
+unfoldable pub opensList : List ℕ → Bool
+opensList [] = false
+opensList (version ∷ bytes) = eqb version 1 && leb (1 + length bytes) 262144
 
 -- a first key follows whatever stands before it; a later one must be above the last
 unfoldable pub following : ℕ → Key → Key → Bool

@@ -1,26 +1,71 @@
 // Questions 1 and 2 alone, and question 3.
 ghost use mathlib.Core.Path.{_≡_};
-ghost use Rattle.format.specs.Items.{readSheet, nodesizeFits};
+ghost use Prim.Native.Nat.{_≤_};
+ghost use lib.ListN.{length, drop};
+ghost use Rattle.format.specs.Questions.{bind, ask, accepted};
+ghost use Rattle.format.specs.Items.{readItems, readSheet, rising, nodesizeFits};
+ghost use Rattle.item_list.specs.declared.Place.the-variants.{Missing};
 ghost use Rattle.item_list.specs.Steps.{checkedOf};
+ghost use Rattle.item_list.specs.Listings.{countOf, verdictOf};
 use super::Checked;
-use super::Listing;
-use super::Wanted;
+use super::Step;
 use super::finding;
+use super::stepping;
+use format::Key;
+
+// The answer after `n` items; of `ahead` see `finding`.
+fn verdict(ordered: bool, n: usize, ahead: u32) -> Checked
+    requires { ⌜ ahead ≤ 1044480 ⌝ }
+    ensures { λ r. ⌜ r ≡ countOf (verdictOf ordered n Missing) ⌝ }
+{
+    if ordered {
+        return Checked::Count(n + (ahead / 1048576) as usize);
+    }
+    Checked::Refused(2)
+}
+
+// The pass of `find` with no search in it: on a short list, what a search carries along takes a third of the time.
+fn walk(s: &[u8]) -> Checked
+    requires { ⌜ length (now s) ≤ 262144 ⌝ }
+    ensures { λ r. ⌜ r ≡ checkedOf (bind (readItems 4096 (drop 1 (now (s .entry)))) (λ items. ask (rising items) 2 (accepted items))) ⌝ }
+{
+    let mut at: usize = 1;
+    let mut n: usize = 0;
+    let mut ordered = true;
+    let mut ahead: u32 = 0;
+    let mut last = Key {
+        objectid: 0,
+        kind: 0,
+        offset: 0,
+    };
+    while n < 4096 {
+        let step = stepping::step_at(s, at);
+        match step {
+            Step::End => return verdict(ordered, n, ahead),
+            Step::Broken => return Checked::Refused(1),
+            Step::Whole { next } => {
+                let key = stepping::key_at(s, at);
+                ordered = finding::follows(ordered, n, last, key);
+                ahead += finding::byte_ahead(s, at);
+                last = key;
+                at = next;
+                n += 1;
+            }
+        }
+    }
+    if at < s.len() {
+        return Checked::Refused(1);
+    }
+    verdict(ordered, n, ahead)
+}
 
 pub fn check(sheet: &[u8]) -> Checked
     ensures { λ r. ⌜ r ≡ checkedOf (readSheet (now (sheet .entry))) ⌝ }
 {
-    let listing = finding::find(sheet, Wanted::Nothing);
-    match listing {
-        Listing::Refused(number) => Checked::Refused(number),
-        Listing::Missing { count } => Checked::Count(count),
-        Listing::Found {
-            count,
-            number: _,
-            start: _,
-            end: _,
-        } => Checked::Count(count),
+    if finding::opens(sheet) {
+        return walk(sheet);
     }
+    Checked::Refused(1)
 }
 
 // Question 3 of a nodesize.

@@ -8,7 +8,7 @@ ghost use Rattle.format.specs.Questions.{bind, ask, accepted};
 ghost use Rattle.format.specs.Items.{readItems, readSheet, rising};
 ghost use Rattle.format.specs.Apply.{recordOf};
 ghost use Rattle.item_list.specs.declared.Place.the-variants.{At, Missing};
-ghost use Rattle.item_list.specs.Steps.{following};
+ghost use Rattle.item_list.specs.Steps.{opensList, following};
 ghost use Rattle.item_list.specs.Seeks.{passing};
 ghost use Rattle.item_list.specs.Listings.{orElse, verdictOf, listingOf};
 use super::Listing;
@@ -19,7 +19,7 @@ use super::stepping;
 use format::Key;
 
 // Whether keys still rise after item number `n` with its key.
-fn follows(ordered: bool, n: usize, last: Key, key: Key) -> bool
+pub fn follows(ordered: bool, n: usize, last: Key, key: Key) -> bool
     ensures { λ r. ⌜ r ≡ (ordered && following n last key) ⌝ }
 {
     if ordered {
@@ -49,7 +49,6 @@ fn passes(wanted: Wanted, n: usize, key: Key) -> bool
     ensures { λ r. ⌜ r ≡ passing wanted n (record { key = key; bytes = [] }) ⌝ }
 {
     match wanted {
-        Wanted::Nothing => false,
         Wanted::Number(number) => n == number,
         Wanted::Record(extent) => is_record(key, extent),
         Wanted::AtOrPast(from) => !stepping::below(key, from),
@@ -78,7 +77,7 @@ fn first_of(place: Place, wanted: Wanted, n: usize, key: Key, at: usize, next: u
 
 // A byte that stands further on. Where an item stands is known only once the one before it was read, so that each would be waited
 // for if the list is far from the processor; a read 512 bytes ahead fetches what comes, meanwhile.
-fn byte_ahead(s: &[u8], at: usize) -> u32
+pub fn byte_ahead(s: &[u8], at: usize) -> u32
     requires { ⌜ (at ≤ length (now s)) × (length (now s) ≤ 262144) ⌝ }
     ensures { λ r. ⌜ r ≤ 255 ⌝ }
 {
@@ -148,17 +147,24 @@ fn walk(s: &[u8], wanted: Wanted) -> Listing
     listing(ordered, n, ahead, place)
 }
 
+// Question 1 before the items: version and length.
+pub fn opens(sheet: &[u8]) -> bool
+    ensures { λ r. ⌜ r ≡ opensList (now (sheet .entry)) ⌝ }
+{
+    if sheet.len() < 1 {
+        return false;
+    }
+    if 262144 < sheet.len() {
+        return false;
+    }
+    sheet[0] == 1
+}
+
 // Whether the bytes are an item list, and where the first wanted item stands.
 pub fn find(sheet: &[u8], wanted: Wanted) -> Listing
     ensures { λ r. ⌜ r ≡ listingOf (passing wanted) (readSheet (now (sheet .entry))) ⌝ }
 {
-    if sheet.len() < 1 {
-        return Listing::Refused(1);
-    }
-    if 262144 < sheet.len() {
-        return Listing::Refused(1);
-    }
-    if sheet[0] == 1 {
+    if opens(sheet) {
         return walk(sheet, wanted);
     }
     Listing::Refused(1)

@@ -32,8 +32,6 @@ pub enum Checked {
 
 // Which item is wanted.
 pub enum Wanted {
-    // None.
-    Nothing,
     // The item of a number.
     Number(usize),
     // The record of an extent.

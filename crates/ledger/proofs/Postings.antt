@@ -5,6 +5,7 @@ use mathlib.Core.Bool.{Bool, true, false, _&&_, _||_}
 use mathlib.Core.Option.{Option, none}
 use mathlib.Core.List.{List}
 use Prim.Native.Nat.{ℕ}
+use native.Mathlib.Omega.{arith}
 use lib.Dec.{T, eqb, leb}
 use mir.Facts.{or-yes, and-yes}
 use lib.Dec.{eqb→eq}
@@ -31,7 +32,7 @@ use Rattle.item_list.specs.Seeks.{placeIn, recorded, passing}
 use Rattle.item_list.proofs.Reading.{listed, sheet-refused}
 use Rattle.item_list.proofs.Places.{record-missing}
 use Rattle.item_write.proofs.Writes.{answered-no}
-use Rattle.ledger.specs.Known.{BalancedList, RecordAt}
+use Rattle.ledger.specs.Known.{BalancedList, RecordAt, beforeFive}
 use Rattle.ledger.specs.Adding.{sharedRef, addChange, SharedWanted}
 
 -- ---- the name of a shared reference
@@ -121,6 +122,18 @@ module _ (s : List ℕ) (extent : ℕ) (change : Change) (is : extent ≡ nameOf
 
 -- ---- questions 1 to 4
 
+both-yes : (a b : Bool) → beforeFive a b ≡ 0 → (a ≡ true) × (b ≡ true)
+unfolding beforeFive
+both-yes true true e = (refl, refl)
+both-yes true false e = absurd (omega arith)
+both-yes false b e = absurd (omega arith)
+
+first-no : (a b : Bool) (next : Answer (List Item)) → (beforeFive a b ≡ 0 → ⊥) → ask a 3 (ask b 4 next) ≡ refused (beforeFive a b)
+unfolding beforeFive ask
+first-no true true next h = absurd (h refl)
+first-no true false next h = refl
+first-no false b next h = refl
+
 module _ (s : List ℕ) (nodesize : ℕ) (change : Change) (room : ℕ) where
   abbrev three : Bool
   three = nodesizeFits nodesize && kindFits change
@@ -135,30 +148,24 @@ module _ (s : List ℕ) (nodesize : ℕ) (change : Change) (room : ℕ) where
     unfolding post onSheet bind
     asks = ap (λ (x : Answer (List Item)). bind x (λ items. ask three 3 (ask (balanced items) 4 (changed nodesize change items)))) (listed s n e .reads)
 
-    pub kind-no : (b : Bool) (old : List ℕ) → b ≡ three → b ≡ false → Answered (posted nodesize s change room) (Denied 3) old old
-    unfolding posted ask
-    kind-no b old f q =
-        answered-no _ room 3 old (asks ∙ ap (λ (x : Bool). ask x 3 (ask (balanced (itemsOf s)) 4 (changed nodesize change (itemsOf s)))) (sym f ∙ q))
+    module _ (k : ℕ) (is : k ≡ beforeFive three (balanced (itemsOf s))) where
+      pub asked-no : (old : List ℕ) → (k ≡ 0 → ⊥) → Answered (posted nodesize s change room) (Denied k) old old
+      unfolding posted
+      asked-no old h = answered-no _ room k old (asks ∙ first-no three (balanced (itemsOf s)) _ (λ z. h (is ∙ z)) ∙ ap refused (sym is))
 
-    module _ (b : Bool) (f : b ≡ three) (yes : b ≡ true) where
-      asks-balance : post nodesize s change ≡ ask (balanced (itemsOf s)) 4 (changed nodesize change (itemsOf s))
-      unfolding ask
-      asks-balance = asks ∙ ap (λ (x : Bool). ask x 3 (ask (balanced (itemsOf s)) 4 (changed nodesize change (itemsOf s)))) (sym f ∙ yes)
+      module _ (zero-is : k ≡ 0) where
+        both : (three ≡ true) × (balanced (itemsOf s) ≡ true)
+        both = both-yes three (balanced (itemsOf s)) (sym is ∙ zero-is)
 
-      pub balance-no : (c : Bool) (old : List ℕ) → c ≡ balanced (itemsOf s) → c ≡ false → Answered (posted nodesize s change room) (Denied 4) old old
-      unfolding posted ask
-      balance-no c old g q = answered-no _ room 4 old (asks-balance ∙ ap (λ (x : Bool). ask x 4 (changed nodesize change (itemsOf s))) (sym g ∙ q))
+        pub kind-yes : T (kindFits change)
+        kind-yes = and-yes (nodesizeFits nodesize) (kindFits change) (subst T (sym (both .0)) tt) .1
 
-      pub kind-yes : T (kindFits change)
-      kind-yes = and-yes (nodesizeFits nodesize) (kindFits change) (subst T (sym yes ∙ f) tt) .1
-
-      module _ (c : Bool) (g : c ≡ balanced (itemsOf s)) (q : c ≡ true) where
         pub balanced-list : BalancedList s n
-        balanced-list = record { checked = e; balance = subst T (sym q ∙ g) tt }
+        balanced-list = record { checked = e; balance = subst T (sym (both .1)) tt }
 
         pub post-answered : (r : Edited) (old new : List ℕ) → Answered (heldSheet room (changed nodesize change (itemsOf s))) r old new
             → Answered (posted nodesize s change room) r old new
         unfolding posted ask
         post-answered r old new h =
             subst (λ (a : Answer (List Item)). Answered (heldSheet room a) r old new)
-            (sym (asks-balance ∙ ap (λ (x : Bool). ask x 4 (changed nodesize change (itemsOf s))) (sym g ∙ q))) h
+            (sym (asks ∙ (λ j. ask (both .0 j) 3 (ask (both .1 j) 4 (changed nodesize change (itemsOf s)))))) h

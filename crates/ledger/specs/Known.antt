@@ -1,6 +1,6 @@
 -- What questions 1 to 5 have shown: a balanced sheet of so many items, and where an extent's record stands in it. Assumes nothing.
 use mathlib.Core.Path.{_≡_}
-use mathlib.Core.Bool.{Bool, true}
+use mathlib.Core.Bool.{Bool, true, cond}
 use mathlib.Core.List.{List}
 use Prim.Native.Nat.{ℕ}
 use lib.Dec.{T}
@@ -16,6 +16,10 @@ use Rattle.item_list.specs.declared.Place.the-variants.{At}
 use Rattle.item_list.specs.declared.Checked.the-variants.{Count}
 use Rattle.item_list.specs.Steps.{checkedOf, itemsOf}
 use Rattle.item_list.specs.Seeks.{placeIn, recorded}
+
+-- questions 3 and 4: the number of the first "no", or 0
+unfoldable pub beforeFive : Bool → Bool → ℕ
+beforeFive three four = cond three (cond four 0 4) 3
 
 pub record BalancedList (s : List ℕ) (n : ℕ) : Type 0 where
   pub checked : checkedOf (readSheet s) ≡ Count n

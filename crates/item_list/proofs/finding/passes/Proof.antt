@@ -7,21 +7,17 @@ use Rattle.item_list.proofs.finding.passes.Tie as tie
 
 returns : tie.Need-returns
 unfolding passing
-returns c = rw (c .enum-told .given .1)
+returns c = rw (c .before .wanted .given .1)
 
 returns-2 : tie.Need-returns-2
 unfolding passing
-returns-2 c = rw (c .before .wanted .given .1)
+returns-2 c = rw (c .before .before .wanted2 .given .1) (c .is-record .ensures)
 
 returns-3 : tie.Need-returns-3
 unfolding passing
-returns-3 c = rw (c .before .before .wanted2 .given .1) (c .is-record .ensures)
-
-returns-4 : tie.Need-returns-4
-unfolding passing
-returns-4 c = rw (c .before .before .wanted3 .given .1) (ap not (c .below .ensures))
+returns-3 c = rw (c .before .before .wanted3 .given .1) (ap not (c .below .ensures))
 
 pub passes-spec : {M : Type 1} → statement M
 passes-spec =
     tie.close
-    (tie.spec (λ c. search needs) (λ c. search needs) (λ c. search needs) (λ c κs. search needs) (λ c. search needs) (λ c κs. search needs) returns returns-2 returns-3 returns-4)
+    (tie.spec (λ c. search needs) (λ c. search needs) (λ c κs. search needs) (λ c. search needs) (λ c κs. search needs) returns returns-2 returns-3)

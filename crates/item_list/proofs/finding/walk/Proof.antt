@@ -9,7 +9,7 @@ use Rattle.format.specs.Items.{readItems, rising}
 use Rattle.item_list.specs.Seeks.{passing}
 use Rattle.item_list.specs.Listings.{listingOf}
 use Rattle.item_list.proofs.Steps.{WholeAt, whole-at, step-end}
-use Rattle.item_list.proofs.Reading.{run, run-first, run-end, run-broken, run-over, run-step}
+use Rattle.item_list.proofs.Reading.{run, run-first, run-end, run-broken, run-over, run-step, found-by-key}
 use Rattle.item_list.proofs.finding.walk.Statement.{statement}
 use Rattle.item_list.proofs.finding.walk.Tie as tie
 
@@ -58,7 +58,7 @@ loop-again c =
     let step = c .before .before .before .before .before in (
       omega arith,
       omega arith,
-      i .2 ∙ run-step _ _ _ _ _ _ _ _ _ _ _ (c .before .before .before .before .before .before .before .before .loop-test .taken) (sym (step .before .before .step-at .ensures) ∙ step .step .given .1) (c .before .before .before .key-at .ensures) (c .before .before .follows .ensures) (c .before .first-of .ensures),
+      i .2 ∙ run-step _ _ _ _ _ _ _ _ _ _ _ (c .before .before .before .before .before .before .before .before .loop-test .taken) (sym (step .before .before .step-at .ensures) ∙ step .step .given .1) (c .before .before .before .key-at .ensures) (c .before .before .follows .ensures) (found-by-key _ _ _ _ _ _ _ _ (c .before .before .before .key-at .ensures) (c .before .first-of .ensures)),
     )
 
 returns-3 : tie.Need-returns-3 Inv-loop μ-loop
