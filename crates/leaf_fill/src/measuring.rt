@@ -52,7 +52,8 @@ fn choose(best: Cutting, leaves: usize) -> Division
 }
 
 // `left` and `right` are what the leaves of a cut before item `i` take; `used` is what the last of the leaves filled from the
-// left takes, and `leaves` how many follow the first.
+// left takes, and `leaves` how many follow the first. The bytes read ahead (see `byte_ahead`) add nothing to that number; a
+// compiler would drop the reads if nothing used them.
 pub fn measure(s: &[u8], nodesize: usize, count: usize) -> Division
     requires { ⌜ Sized (now s) count × (nodesize ≤ 65536) ⌝ }
     ensures { λ r. ⌜ Divided nodesize (itemsOf (now (s .entry))) r ⌝ }
@@ -64,10 +65,11 @@ pub fn measure(s: &[u8], nodesize: usize, count: usize) -> Division
     let mut best = Cutting::Nowhere;
     let mut used: usize = 101;
     let mut leaves: usize = 0;
+    let mut ahead: u32 = 0;
     loop {
         let step = item_list::step_at(s, at);
         match step {
-            Step::End => return choose(best, leaves),
+            Step::End => return choose(best, leaves + (ahead / 1048576) as usize),
             Step::Broken => return Division::TooLarge,
             Step::Whole { next } => {
                 let space = next - at + 4;
@@ -77,6 +79,7 @@ pub fn measure(s: &[u8], nodesize: usize, count: usize) -> Division
                 best = improve(nodesize, left, right, i, best);
                 left += space;
                 right -= space;
+                ahead += item_list::byte_ahead(s, at);
                 i += 1;
                 at = next;
                 if used + space <= nodesize {
