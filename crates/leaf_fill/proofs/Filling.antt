@@ -2,7 +2,7 @@
 use mathlib.Core.Path.{_≡_, refl, sym, ap, _∙_}
 use mathlib.Core.Bool.{cond}
 use mathlib.Core.List.{List, [], _∷_, _++_, append-assoc, append-nil}
-use Prim.Native.Nat.{ℕ, _+_, _-_, _*_, _≤_, _<_}
+use Prim.Native.Nat.{ℕ, _+_, _-_, _≤_, _<_}
 use native.Mathlib.Omega.{arith}
 use native.Mathlib.Nat.{zero-add}
 use lib.Dec.{leb}
@@ -71,17 +71,17 @@ module _ (n : ℕ) (items : List Item) (i used leaves : ℕ) (s : List ℕ) (at 
 
 -- ---- written
 
-pub record Writing (n : ℕ) (items : List Item) (old cuts : List ℕ) (at used leaves i : ℕ) (rest : List Item) : Type 0 where
+pub record Writing (n : ℕ) (items : List Item) (old cuts : List ℕ) (used leaves i : ℕ) (rest : List Item) : Type 0 where
   pub before : List ℕ
   pub cuts-are : cuts ≡ written 0 before old
   pub count : length before ≡ leaves
   pub total : before ++ filled n i used rest ≡ filled n 0 101 items
   pub small : used ≤ 300000
-  pub below : 21 * i < at
+  pub passed : i + length rest ≡ length items
   pub few : leaves ≤ i
   pub long : length cuts ≡ length old
 
-pub writing-none : (n : ℕ) (items : List Item) (old : List ℕ) → Writing n items old old 1 101 0 0 items
+pub writing-none : (n : ℕ) (items : List Item) (old : List ℕ) → Writing n items old old 101 0 0 items
 writing-none n items old =
     record {
       before = [];
@@ -89,32 +89,36 @@ writing-none n items old =
       count = refl;
       total = refl;
       small = omega arith;
-      below = omega arith;
+      passed = zero-add (length items);
       few = omega arith;
       long = refl;
     }
 
-pub writing-all : (n : ℕ) (items : List Item) (old cuts : List ℕ) (at used leaves i : ℕ) (rest : List Item)
-    → Writing n items old cuts at used leaves i rest → rest ≡ [] → cuts ≡ written 0 (filled n 0 101 items) old
-writing-all n items old cuts at used leaves i rest k e =
+pub writing-all : (n : ℕ) (items : List Item) (old cuts : List ℕ) (used leaves i : ℕ) (rest : List Item)
+    → Writing n items old cuts used leaves i rest → rest ≡ [] → cuts ≡ written 0 (filled n 0 101 items) old
+writing-all n items old cuts used leaves i rest k e =
     let h : k .before ≡ filled n 0 101 items =
     sym (append-nil (k .before)) ∙ ap (λ (l : List ℕ). k .before ++ l) (sym (fill-end n i used rest e)) ∙ k .total in
     k .cuts-are ∙ ap (λ (l : List ℕ). written 0 l old) h
 
 module _ (n : ℕ) (items : List Item) (old cuts : List ℕ) (used leaves i : ℕ) (s : List ℕ) (at next : ℕ) (rest : List Item)
-    (k : Writing n items old cuts at used leaves i rest) (m : More s at next rest) where
-  pub writing-stays : n ≤ 65536 → used + (next - at + 4) ≤ n → Writing n items old cuts next (used + (next - at + 4)) leaves (i + 1) (m .others)
+    (k : Writing n items old cuts used leaves i rest) (m : More s at next rest) where
+  passed-one : i + 1 + length (m .others) ≡ length items
+  passed-one = let e = ap length (m .is) in let p = k .passed in omega (arith, e, p)
+
+  pub passed-fewer : i < length items
+  passed-fewer = let e = passed-one in omega arith
+
+  pub writing-stays : n ≤ 65536 → used + (next - at + 4) ≤ n → Writing n items old cuts (used + (next - at + 4)) leaves (i + 1) (m .others)
   writing-stays l h =
-      let b = k .below in
       let f = k .few in
-      let w = m .whole in
       record {
         before = k .before;
         cuts-are = k .cuts-are;
         count = k .count;
         total = ap (λ (t : List ℕ). k .before ++ t) (sym (fill-within s at next rest m n i used h)) ∙ k .total;
         small = omega arith;
-        below = omega (arith, b, w);
+        passed = passed-one;
         few = omega (arith, f);
         long = k .long;
       }
@@ -133,9 +137,8 @@ module _ (n : ℕ) (items : List Item) (old cuts : List ℕ) (used leaves i : �
         omega (arith, e, a, room, c, g)
 
     pub writing-starts : (number : ℕ) → number ≡ i → length s ≤ 262144
-        → Writing n items old (set cuts leaves number) next (101 + (next - at + 4)) (leaves + 1) (i + 1) (m .others)
+        → Writing n items old (set cuts leaves number) (101 + (next - at + 4)) (leaves + 1) (i + 1) (m .others)
     writing-starts number is l =
-        let b = k .below in
         let f = k .few in
         let w = m .whole in
         let c = k .count in
@@ -153,7 +156,7 @@ module _ (n : ℕ) (items : List Item) (old cuts : List ℕ) (used leaves i : �
           total = append-assoc (k .before) (i ∷ []) (filled n (i + 1) (101 + (next - at + 4)) (m .others))
               ∙ ap (λ (t : List ℕ). k .before ++ t) (sym over) ∙ k .total;
           small = omega (arith, w, l);
-          below = omega (arith, b, w);
+          passed = passed-one;
           few = omega (arith, f);
           long = length-set cuts leaves number ∙ g;
         }
