@@ -58,9 +58,50 @@ pub fn rows(b: &mut Bench) {
         || backref::drop_keyed_data_ref(&item, 5, 257, 0),
         &mut |out, len| lent::backref_drop_keyed_data_ref(&item, 5, 257, 0, out, len).into(),
     );
+    b.row(
+        "transaction_keyed_data_ref_names",
+        "",
+        || door::keyed_data_ref_names(black_box(&item), 5, 257, 0),
+        &mut |_, names| {
+            lent::transaction_keyed_data_ref_names(black_box(&item), 5, 257, 0, names).into()
+        },
+    );
+    made(b);
     for count in [1, 6, 60, 1_000] {
         with_references(b, count);
     }
+}
+
+/// What is made or said without a body.
+fn made(b: &mut Bench) {
+    let block =
+        || TreeBlockAllocation { bytenr: black_box(4096), level: 1, generation: 7, owner: 5 };
+    let (mut kind, mut offset) = (0, 0);
+    b.row("extent_write_tree_block_key", "", || block().key(), &mut |_, objectid| {
+        lent::extent_write_tree_block_key(black_box(4096), 1, objectid, &mut kind, &mut offset)
+            .into()
+    });
+    b.row("extent_write_tree_block_body", "", || block().body(), &mut |out, len| {
+        lent::extent_write_tree_block_body(black_box(7), 5, out, len).into()
+    });
+    b.row(
+        "transaction_shared_add_item",
+        "",
+        || door::shared_add_item(4096, black_box(184), 8192, 2),
+        &mut |out, len| lent::transaction_shared_add_item(black_box(184), 2, out, len).into(),
+    );
+    b.row(
+        "transaction_shared_add_inline_size",
+        "",
+        || door::shared_add_inline_size(black_box(184)),
+        &mut |_, size| lent::transaction_shared_add_inline_size(black_box(184), size).into(),
+    );
+    b.row(
+        "transaction_max_inline_extent_item",
+        "",
+        || door::max_inline_extent_item(black_box(16_384)),
+        &mut |_, limit| lent::transaction_max_inline_extent_item(black_box(16_384), limit).into(),
+    );
 }
 
 /// The last reference is the one looked for, so that every call reads the whole body.
@@ -81,6 +122,16 @@ fn with_references(b: &mut Bench, count: u64) {
     b.row("backref_raise_total", size, || backref::raise_total(168, &data, 3), &mut |out, len| {
         lent::backref_raise_total(168, &data, 3, out, len).into()
     });
+    let high = backref::raise_total(168, &data, 3).expect("a total");
+    b.row("backref_lower_total", size, || backref::lower_total(168, &high), &mut |out, len| {
+        lent::backref_lower_total(168, &high, out, len).into()
+    });
+    b.row(
+        "backref_reduce_total",
+        size,
+        || backref::reduce_total(168, &high, 2),
+        &mut |out, len| lent::backref_reduce_total(168, &high, 2, out, len).into(),
+    );
     b.row("backref_with_flags", size, || backref::with_flags(&data, 256), &mut |out, len| {
         lent::backref_with_flags(&data, 256, out, len).into()
     });
@@ -133,6 +184,12 @@ fn with_references(b: &mut Bench, count: u64) {
         size,
         || backref::add_inline_tree_ref(169, &block, 3),
         &mut |out, len| lent::backref_add_inline_tree_ref(169, &block, 3, out, len).into(),
+    );
+    b.row(
+        "backref_add_inline_keyed_block",
+        size,
+        || backref::add_inline_keyed(169, &block, Keyed::Block { tree: 3 }, 1),
+        &mut |out, len| lent::backref_add_inline_keyed_block(169, &block, 3, 1, out, len).into(),
     );
     let two = backref::raise_total(169, &block, 1).expect("a total");
     b.row(

@@ -7,6 +7,7 @@ use original::chunk::DiskKey;
 use original::extent_write::TreeBlockAllocation;
 use original::leaf_edit::{self, OwnedItem};
 use original::transaction::door;
+use std::hint::black_box;
 
 /// Records of data extents, with a tree block's record last.
 fn list(count: u64) -> Vec<OwnedItem> {
@@ -80,6 +81,17 @@ fn with_items(b: &mut Bench, count: u64) {
     b.row("leaf_edit_fit", size, || leaf_edit::fit(node, &items), &mut |_, fits| {
         lent::leaf_edit_fit(node, &sheet, fits).into()
     });
+    b.row("leaf_edit_fits", size, || leaf_edit::fits(node, &items, &item), &mut |_, fits| {
+        lent::leaf_edit_fits(node, &sheet, &data, fits).into()
+    });
+    // The original has its items in memory: an item by its number is a place in them.
+    let mut start = 0;
+    b.row(
+        "leaf_edit_item",
+        size,
+        || items.get(black_box(count as usize - 1)).map(|i| i.data.len()),
+        &mut |_, len| lent::leaf_edit_item(&sheet, count - 1, &mut start, len).into(),
+    );
     b.row("leaf_edit_split", size, || leaf_edit::split(&items), &mut |_, count| {
         lent::leaf_edit_split(&sheet, &mut cuts, count).into()
     });
