@@ -151,6 +151,16 @@ leBytes-le (b ∷ bytes) t =
 pub leBytes-le-at : (width : ℕ) (bytes : List ℕ) → length bytes ≡ width → T (areBytes bytes) → leBytes width (le bytes) ≡ bytes
 leBytes-le-at width bytes e t = ap (λ (n : ℕ). leBytes n (le bytes)) (sym e) ∙ leBytes-le bytes t
 
+-- a number read from bytes and written elsewhere is a copy of them
+pub copied-number : (width at from number : ℕ) (src old new : List ℕ) → from + width ≤ length src → ((i : ℕ) → getD src i 0 < 256)
+    → number ≡ le (part from width src)
+    → new ≡ written at (leBytes width number) old
+    → new ≡ written at (part from width src) old
+copied-number width at from number src old new h f read wrote =
+    wrote ∙ ap (λ (n : ℕ). written at (leBytes width n) old) read
+    ∙ ap (λ (l : List ℕ). written at l old)
+    (leBytes-le-at width (part from width src) (length-part width from src h) (areBytes-part from width src (areBytes-in src f)))
+
 pub beBytes-be-at : (width : ℕ) (bytes : List ℕ) → length bytes ≡ width → T (areBytes bytes) → beBytes width (be bytes) ≡ bytes
 unfolding be beBytes
 beBytes-be-at width bytes e t =

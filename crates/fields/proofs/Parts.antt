@@ -1,11 +1,11 @@
 -- Laws of parts of a run of bytes, and of bytes written into others. Assumes nothing.
-use mathlib.Core.Path.{_≡_, refl, sym, ap, _∙_, subst}
-use mathlib.Core.List.{List, [], _∷_, _++_, append-assoc}
+use mathlib.Core.Path.{_≡_, refl, sym, ap, ap₂, _∙_, subst}
+use mathlib.Core.List.{List, [], _∷_, _++_, append-assoc, append-nil}
 use Prim.Native.Nat.{ℕ, zero, suc, _+_, _-_, _≤_, _<_}
 use native.Mathlib.Nat.{add-zero, zero-add, add-suc, suc-add}
 use native.Mathlib.Numerals.{add-one, towards-suc}
 use native.Mathlib.Omega.{arith}
-use lib.ListN.{length, take, drop, getD, set, length-append, length-drop}
+use lib.ListN.{length, take, drop, getD, set, length-append, length-drop, take-append-drop}
 use lib.Seq.{sets, sets-eq, length-sets, drop-cons, take-add, take-all, take-at, drop-at, drop-drop, length-take-le}
 use Rattle.fields.specs.Parts.{part, written, spliced}
 
@@ -68,6 +68,9 @@ stores new old at h = sets-eq new old at h
 pub stores-one : (old : List ℕ) (at a : ℕ) → at + 1 ≤ length old → set old at a ≡ written at (a ∷ []) old
 stores-one old at a h = stores (a ∷ []) old at h
 
+pub stores-two : (old : List ℕ) (at a b : ℕ) → at + 2 ≤ length old → set (set old at a) (at + 1) b ≡ written at (a ∷ b ∷ []) old
+stores-two old at a b h = simp towards-suc (simp towards-suc at (stores (a ∷ b ∷ []) old at h))
+
 pub stores-four : (old : List ℕ) (at a b c d : ℕ) → at + 4 ≤ length old
     → set (set (set (set old at a) (at + 1) b) (at + 2) c) (at + 3) d ≡ written at (a ∷ b ∷ c ∷ d ∷ []) old
 stores-four old at a b c d h = simp towards-suc (simp towards-suc at (stores (a ∷ b ∷ c ∷ d ∷ []) old at h))
@@ -113,6 +116,79 @@ part-written at size new old e h =
     ∙ ap (take size) (drop-at (take at old) (new ++ drop (at + length new) old) at (length-take-le at old h))
     ∙ take-at new (drop (at + length new) old) size e
 
+-- a write over another that it covers
+pub written-over : (at : ℕ) (a b old : List ℕ) → length a ≤ length b → at + length b ≤ length old
+    → written at b (written at a old) ≡ written at b old
+written-over at a b old small h =
+    let front : length (take at old) ≡ at = length-take-le at old (omega arith) in
+    let both : length (take at old ++ a) ≡ at + length a = simp (length-append, front) in
+    let k : ℕ = length b - length a in
+    let e : at + length b ≡ at + length a + k = omega arith in
+    let rest : List ℕ = drop (at + length a) old in
+    let before : take at (written at a old) ≡ take at old =
+    ap (take at) (append-assoc (take at old) a rest) ∙ take-at (take at old) (a ++ rest) at front in
+    let behind : drop (at + length b) (written at a old) ≡ drop (at + length b) old =
+    ap (λ (i : ℕ). drop i (written at a old)) e ∙ sym (drop-drop k (at + length a) (written at a old))
+    ∙ ap (drop k) (drop-at (take at old ++ a) rest (at + length a) both)
+    ∙ drop-drop k (at + length a) old ∙ ap (λ (i : ℕ). drop i old) (sym e) in
+    ap₂ (λ (f g : List ℕ). f ++ b ++ g) before behind
+
+-- ---- a list copied part by part
+
+-- two parts side by side, as two calls in a row leave them
+pub copied-pair : (at from m n : ℕ) (src old one two : List ℕ) → from + (m + n) ≤ length src → at + (m + n) ≤ length old
+    → one ≡ written at (part from m src) old
+    → two ≡ written (at + m) (part (from + m) n src) one
+    → two ≡ written at (part from (m + n) src) old
+copied-pair at from m n src old one two h room e₁ e₂ =
+    let h₁ : from + m ≤ length src = omega arith in
+    let h₂ : from + m + n ≤ length src = omega arith in
+    written-pair at m n (part from m src) (part (from + m) n src) old one two (length-part m from src h₁) (length-part n (from + m) src h₂) room e₁ e₂
+    ∙ ap (λ (l : List ℕ). written at l old) (sym (part-add m n from src))
+
+-- nothing is copied yet
+pub copied-none : (at : ℕ) (src old : List ℕ) → old ≡ written at (part 0 0 src) old
+copied-none at src old =
+    sym (take-append-drop at old)
+    ∙ ap₂ (λ (l : List ℕ) (k : ℕ). l ++ drop k old) (sym (append-nil (take at old))) (sym (add-zero at))
+
+-- the next part of a list that is copied from its front on
+pub copied-next : (at i n : ℕ) (src old one two : List ℕ) → i + n ≤ length src → at + length src ≤ length old
+    → one ≡ written at (part 0 i src) old
+    → two ≡ written (at + i) (part i n src) one
+    → two ≡ written at (part 0 (i + n) src) old
+copied-next at i n src old one two h room e₁ e₂ =
+    copied-pair at 0 i n src old one two (omega arith) (omega arith) e₁
+    (e₂ ∙ ap (λ (k : ℕ). written (at + i) (part k n src) one) (sym (zero-add i)))
+
+-- the last part may start within what is copied already: the bytes written twice are the same both times
+pub copied-last : (at i a n : ℕ) (src old one two : List ℕ) → a ≤ i → i ≤ length src → a + n ≡ length src → at + length src ≤ length old
+    → one ≡ written at (part 0 i src) old
+    → two ≡ written (at + a) (part a n src) one
+    → two ≡ written at src old
+copied-last at i a n src old one two low high e room e₁ e₂ =
+    let base : List ℕ = written at (part 0 a src) old in
+    let ha : length (part 0 a src) ≡ a = length-part a 0 src (omega arith) in
+    let hn : length (part a n src) ≡ n = length-part n a src (omega arith) in
+    let hm : length (part a (i - a) src) ≡ i - a = length-part (i - a) a src (omega arith) in
+    let hb : length base ≡ length old = length-written at (part 0 a src) old (omega arith) in
+    let split : i ≡ a + (i - a) = omega arith in
+    let first : one ≡ written (at + a) (part a (i - a) src) base =
+    e₁ ∙ ap (λ (k : ℕ). written at (part 0 k src) old) split
+    ∙ sym (copied-next at a (i - a) src old base (written (at + a) (part a (i - a) src) base) (omega arith) room refl refl) in
+    copied-next at a n src old base two (omega arith) room refl
+    (e₂ ∙ ap (written (at + a) (part a n src)) first
+    ∙ written-over (at + a) (part a (i - a) src) (part a n src) base (omega arith) (omega arith))
+    ∙ ap (λ (l : List ℕ). written at l old) (part-all (a + n) src (sym e))
+
+-- the two blocks of a list that is at most twice as long as one of them
+pub copied-ends : (at n : ℕ) (src old one two : List ℕ) → n ≤ length src → length src ≤ n + n → at + length src ≤ length old
+    → one ≡ written at (part 0 n src) old
+    → two ≡ written (at + (length src - n)) (part (length src - n) n src) one
+    → two ≡ written at src old
+copied-ends at n src old one two long short room e₁ e₂ =
+    copied-last at n (length src - n) n src old one two (omega arith) long (omega arith) room e₁ e₂
+
 -- ---- splices
 
 pub length-spliced : (from to : ℕ) (new old : List ℕ) → from ≤ length old
@@ -122,18 +198,3 @@ length-spliced from to new old h = simp (length-append, length-drop, length-take
 -- a splice that keeps the length is a write
 pub spliced-written : (from to : ℕ) (new old : List ℕ) → from + length new ≡ to → spliced from to new old ≡ written from new old
 spliced-written from to new old e = ap (λ (k : ℕ). take from old ++ new ++ drop k old) (sym e)
-
--- what stands before, the new bytes and what stands after, written one after the other into an output, are the splice
-pub splice-writes : (from to : ℕ) (new old out one two three : List ℕ) → from ≤ length old
-    → from + length new + (length old - to) ≤ length out
-    → one ≡ written 0 (part 0 from old) out
-    → two ≡ written from new one
-    → three ≡ written (from + length new) (part to (length old - to) old) two
-    → three ≡ written 0 (spliced from to new old) out
-splice-writes from to new old out one two three h room e₁ e₂ e₃ =
-    let front : length (take from old) ≡ from = length-take-le from old h in
-    let both : length (take from old ++ new) ≡ from + length new = simp (length-append, front) in
-    let r₁ : from + length new ≤ length out = omega arith in
-    let r₂ : from + length new + length (drop to old) ≤ length out = simp length-drop (omega arith) in
-    e₃ ∙ rw (e₂, e₁, part-rest to old, written-next (take from old) new out from front r₁)
-    (written-next (take from old ++ new) (drop to old) out (from + length new) both r₂)
