@@ -15,11 +15,11 @@ use format::Key;
 
 // The answer after `n` items; of `ahead` see `finding`.
 fn verdict(ordered: bool, n: usize, ahead: u32) -> Checked
-    requires { ⌜ ahead ≤ 1044480 ⌝ }
+    requires { ⌜ ahead ≤ 2088960 ⌝ }
     ensures { λ r. ⌜ r ≡ countOf (verdictOf ordered n Missing) ⌝ }
 {
     if ordered {
-        return Checked::Count(n + (ahead / 1048576) as usize);
+        return Checked::Count(n + (ahead / 2097152) as usize);
     }
     Checked::Refused(2)
 }
@@ -46,7 +46,7 @@ fn walk(s: &[u8]) -> Checked
             Step::Whole { next } => {
                 let key = stepping::key_at(s, at);
                 ordered = finding::follows(ordered, n, last, key);
-                ahead += finding::byte_ahead(s, at);
+                ahead += finding::bytes_ahead(s, at);
                 last = key;
                 at = next;
                 n += 1;

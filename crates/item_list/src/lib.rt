@@ -7,7 +7,7 @@ mod stepping;
 
 pub use checking::check;
 pub use checking::nodesize_fits;
-pub use finding::byte_ahead;
+pub use finding::bytes_ahead;
 pub use finding::find;
 use format::Key;
 pub use search::seek;

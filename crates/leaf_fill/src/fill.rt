@@ -8,7 +8,7 @@ ghost use Rattle.item_list.specs.Steps.{itemsOf};
 ghost use Rattle.leaf_fill.specs.Division.{Sized};
 use item_list::Step;
 
-// The number of the first item of each later leaf. The bytes read ahead (see `byte_ahead`) add nothing to it; a compiler would
+// The number of the first item of each later leaf. The bytes read ahead (see `bytes_ahead`) add nothing to it; a compiler would
 // drop the reads if nothing used them.
 pub fn fill_write(s: &[u8], nodesize: usize, count: usize, cuts: &mut [u16])
     requires { ⌜ Sized (now s) count × (nodesize ≤ 65536) × (length (filled nodesize 0 101 (itemsOf (now s))) ≤ length (now cuts)) ⌝ }
@@ -26,14 +26,14 @@ pub fn fill_write(s: &[u8], nodesize: usize, count: usize, cuts: &mut [u16])
             Step::Broken => return,
             Step::Whole { next } => {
                 let space = next - at + 4;
-                ahead += item_list::byte_ahead(s, at);
+                ahead += item_list::bytes_ahead(s, at);
                 at = next;
                 i += 1;
                 if used + space <= nodesize {
                     used += space;
                     continue;
                 }
-                cuts[leaves] = (i - 1 + (ahead / 1048576) as usize) as u16;
+                cuts[leaves] = (i - 1 + (ahead / 2097152) as usize) as u16;
                 leaves += 1;
                 used = 101 + space;
             }

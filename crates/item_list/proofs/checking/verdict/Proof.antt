@@ -10,7 +10,7 @@ returns : tie.Need-returns
 unfolding countOf verdictOf listedAt
 returns c =
     let a = c .before .args in
-    let e : a .n + a .ahead / 1048576 ≡ a .n = omega arith in
+    let e : a .n + a .ahead / 2097152 ≡ a .n = omega arith in
     rw (c .if1 .taken, e)
 
 returns-2 : tie.Need-returns-2

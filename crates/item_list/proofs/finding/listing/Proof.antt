@@ -10,14 +10,14 @@ returns : tie.Need-returns
 unfolding verdictOf listedAt
 returns c =
     let a = c .before .before .before .before .args in
-    let e : a .n + a .ahead / 1048576 ≡ a .n = omega arith in
+    let e : a .n + a .ahead / 2097152 ≡ a .n = omega arith in
     rw (c .before .before .before .if1 .taken, c .before .place .given .1, e)
 
 returns-2 : tie.Need-returns-2
 unfolding verdictOf listedAt
 returns-2 c =
     let a = c .before .before .before .args in
-    let e : a .n + a .ahead / 1048576 ≡ a .n = omega arith in
+    let e : a .n + a .ahead / 2097152 ≡ a .n = omega arith in
     rw (c .before .before .if1 .taken, c .enum-told .given .1, e)
 
 returns-3 : tie.Need-returns-3

@@ -14,7 +14,7 @@ use Rattle.leaf_fill.proofs.fill.fill_write.Tie as tie
 
 abbrev Inv-loop : tie.InvT-loop
 Inv-loop s nodesize count cuts₀ at₀ used₀ leaves₀ i₀ ahead₀ cuts at used leaves i ahead =
-    (i ≤ 4096) × (ahead ≤ 255 * i) × Walked s at (λ (rest : List Item). Writing nodesize (itemsOf s) cuts₀ cuts used leaves i rest)
+    (i ≤ 4096) × (ahead ≤ 510 * i) × Walked s at (λ (rest : List Item). Writing nodesize (itemsOf s) cuts₀ cuts used leaves i rest)
 
 abbrev μ-loop : tie.MeasureT-loop
 μ-loop s nodesize count cuts₀ at₀ used₀ leaves₀ i₀ ahead₀ cuts at used leaves i ahead = length s - at
@@ -63,13 +63,13 @@ sub-space c = let w = more c .whole in omega arith
 add-space : tie.Need-add-space Inv-loop μ-loop
 add-space c = let w = more c .whole in omega arith
 
-byte-ahead-requires : tie.Need-byte-ahead-requires Inv-loop μ-loop
-byte-ahead-requires c κs = let w = more c .whole in let z = c .before .before .before .before .before .before .before .pre .0 .small in (omega arith, omega arith)
+bytes-ahead-requires : tie.Need-bytes-ahead-requires Inv-loop μ-loop
+bytes-ahead-requires c κs = let w = more c .whole in let z = c .before .before .before .before .before .before .before .pre .0 .small in (omega arith, omega arith)
 
 add-ahead : tie.Need-add-ahead Inv-loop μ-loop
 add-ahead c =
     let i = c .before .before .before .before .before .loop .inv in
-    let b = c .byte-ahead .ensures in
+    let b = c .bytes-ahead .ensures in
     omega arith
 
 add-i : tie.Need-add-i Inv-loop μ-loop
@@ -88,7 +88,7 @@ loop-again : tie.Need-loop-again Inv-loop μ-loop
 loop-again c =
     let m = more (c .before .before) in
     let e = fewer (c .before .before) in
-    let b = c .before .byte-ahead .ensures in
+    let b = c .before .bytes-ahead .ensures in
     let i = c .before .before .before .before .before .before .loop .inv in (
       omega arith,
       omega arith,
@@ -99,11 +99,11 @@ sub-cuts : tie.Need-sub-cuts Inv-loop μ-loop
 sub-cuts c = omega arith
 
 -- the bytes read ahead add nothing to the number
-nothing-added : (c : tie.After-byte-ahead Inv-loop μ-loop) → (c .before .before .before .before .before .loop .ahead + c .byte-ahead .result) / 1048576 ≡ 0
+nothing-added : (c : tie.After-bytes-ahead Inv-loop μ-loop) → (c .before .before .before .before .before .loop .ahead + c .bytes-ahead .result) / 2097152 ≡ 0
 nothing-added c =
     let i = c .before .before .before .before .before .loop .inv in
     let e = fewer (c .before) in
-    let b = c .byte-ahead .ensures in
+    let b = c .bytes-ahead .ensures in
     omega arith
 
 add-cuts : tie.Need-add-cuts Inv-loop μ-loop
@@ -137,7 +137,7 @@ loop-again-2 : tie.Need-loop-again-2 Inv-loop μ-loop
 loop-again-2 c =
     let m = more (c .before .before) in
     let e = fewer (c .before .before) in
-    let b = c .before .byte-ahead .ensures in
+    let b = c .before .bytes-ahead .ensures in
     let n = nothing-added (c .before) in
     let i = c .before .before .before .before .before .before .loop .inv in (
       omega arith,
@@ -148,4 +148,4 @@ loop-again-2 c =
 pub fill-write-spec : {M : Type 1} → statement M
 fill-write-spec =
     tie.close
-    (tie.spec Inv-loop μ-loop loop-holds (λ c κs. search needs) enum-told same-length returns enum-told-2 same-length-2 returns-2 enum-known-step sub-space add-space byte-ahead-requires add-ahead add-i add-if1 add-used loop-less loop-again sub-cuts (λ c. search needs) add-cuts cast-cuts-2 mul-cuts slice-write-cuts add-leaves add-used-2 loop-less-2 loop-again-2)
+    (tie.spec Inv-loop μ-loop loop-holds (λ c κs. search needs) enum-told same-length returns enum-told-2 same-length-2 returns-2 enum-known-step sub-space add-space bytes-ahead-requires add-ahead add-i add-if1 add-used loop-less loop-again sub-cuts (λ c. search needs) add-cuts cast-cuts-2 mul-cuts slice-write-cuts add-leaves add-used-2 loop-less-2 loop-again-2)

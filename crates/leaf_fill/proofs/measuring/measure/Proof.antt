@@ -16,7 +16,7 @@ use Rattle.leaf_fill.proofs.measuring.measure.Tie as tie
 
 abbrev Inv-loop : tie.InvT-loop
 Inv-loop s nodesize count at₀ i₀ left₀ right₀ best₀ used₀ leaves₀ ahead₀ at i left right best used leaves ahead =
-    (i ≤ 4096) × (ahead ≤ 255 * i) × Walked s at (λ (rest : List Item). Measuring nodesize (itemsOf s) i left right best used leaves rest)
+    (i ≤ 4096) × (ahead ≤ 510 * i) × Walked s at (λ (rest : List Item). Measuring nodesize (itemsOf s) i left right best used leaves rest)
 
 abbrev μ-loop : tie.MeasureT-loop
 μ-loop s nodesize count at₀ i₀ left₀ right₀ best₀ used₀ leaves₀ ahead₀ at i left right best used leaves ahead = length s - at
@@ -45,7 +45,7 @@ returns c =
     let a = c .before .before .before .before .before .before .args in
     let l = c .before .before .before .before .loop in
     let i = l .inv in
-    let e : l .leaves + l .ahead / 1048576 ≡ l .leaves = omega arith in
+    let e : l .leaves + l .ahead / 2097152 ≡ l .leaves = omega arith in
     subst (Divided (a .nodesize) (itemsOf (now (a .s)))) (sym (c .choose .ensures ∙ ap (chosen (l .best)) e))
     (measuring-all _ _ _ _ _ _ _ _ _ (i .2 .so) (rest-end _ _ _ (i .2 .rest) (sym (c .before .before .before .step-at .ensures) ∙ c .before .enum-told .given .1)))
 
@@ -92,13 +92,13 @@ add-left c =
 sub-right : tie.Need-sub-right Inv-loop μ-loop
 sub-right c = let f = space-here _ _ _ _ _ _ _ _ _ _ (c .before .before .before .before .before .before .loop .inv .2 .so .passed) (more (c .before .before)) in omega (arith, f)
 
-byte-ahead-requires : tie.Need-byte-ahead-requires Inv-loop μ-loop
-byte-ahead-requires c κs = let w = more (c .before .before) .whole in let z = c .before .before .before .before .before .before .before .before .pre .0 .small in (omega arith, omega arith)
+bytes-ahead-requires : tie.Need-bytes-ahead-requires Inv-loop μ-loop
+bytes-ahead-requires c κs = let w = more (c .before .before) .whole in let z = c .before .before .before .before .before .before .before .before .pre .0 .small in (omega arith, omega arith)
 
 add-ahead : tie.Need-add-ahead Inv-loop μ-loop
 add-ahead c =
     let i = c .before .before .before .before .before .before .before .loop .inv in
-    let b = c .byte-ahead .ensures in
+    let b = c .bytes-ahead .ensures in
     omega arith
 
 add-i : tie.Need-add-i Inv-loop μ-loop
@@ -117,7 +117,7 @@ loop-again : tie.Need-loop-again Inv-loop μ-loop
 loop-again c =
     let m = more (c .before .before .before .before) in
     let e = fewer (c .before .before .before .before) in
-    let b = c .before .byte-ahead .ensures in
+    let b = c .before .bytes-ahead .ensures in
     let i = c .before .before .before .before .before .before .before .before .loop .inv in (
       omega arith,
       omega arith,
@@ -140,7 +140,7 @@ loop-again-2 : tie.Need-loop-again-2 Inv-loop μ-loop
 loop-again-2 c =
     let m = more (c .before .before .before .before) in
     let e = fewer (c .before .before .before .before) in
-    let b = c .before .byte-ahead .ensures in
+    let b = c .before .bytes-ahead .ensures in
     let i = c .before .before .before .before .before .before .before .before .loop .inv in (
       omega arith,
       omega arith,
@@ -150,4 +150,4 @@ loop-again-2 c =
 pub measure-spec : {M : Type 1} → statement M
 measure-spec =
     tie.close
-    (tie.spec Inv-loop μ-loop add-right mul-right add-right-2 loop-holds (λ c κs. search needs) enum-told (λ c. search needs) add-choose (λ c κs. search needs) returns enum-told-2 returns-2 enum-known-step sub-space add-space add-if1 returns-3 (λ c κs. search needs) add-left sub-right byte-ahead-requires add-ahead add-i add-if2 add-used loop-less loop-again add-leaves add-used-2 loop-less-2 loop-again-2)
+    (tie.spec Inv-loop μ-loop add-right mul-right add-right-2 loop-holds (λ c κs. search needs) enum-told (λ c. search needs) add-choose (λ c κs. search needs) returns enum-told-2 returns-2 enum-known-step sub-space add-space add-if1 returns-3 (λ c κs. search needs) add-left sub-right bytes-ahead-requires add-ahead add-i add-if2 add-used loop-less loop-again add-leaves add-used-2 loop-less-2 loop-again-2)
