@@ -14,12 +14,10 @@ use format::Key;
 
 // The bytes of `src` from `from` up to `to` go to `out` at `at`. Returns the position past them.
 pub fn append(src: &[u8], from: usize, to: usize, out: &mut [u8], at: usize) -> usize
-    requires { ⌜ (from ≤ to) × (to ≤ length (now src)) × (at + (to - from) ≤ length (now out)) ⌝ }
+    requires { ⌜ (from ≤ to) × (to ≤ length (now src)) × (to - from ≤ 262144) × (at + (to - from) ≤ length (now out)) ⌝ }
     ensures { λ r. ⌜ (r ≡ at + (to - from)) × (now (out .exit) ≡ written at (part from (to - from) (now (src .entry))) (now (out .entry))) ⌝ }
 {
-    let n = to - from;
-    fields::copy_at(src, from, n, out, at);
-    at + n
+    fields::append(&src[from..to], out, at)
 }
 
 fn put_kind(out: &mut [u8], at: usize, kind: u8)
@@ -56,7 +54,7 @@ pub fn room_for(room: usize, size: usize, count: usize) -> bool
 
 // The bytes of `sheet` with an item in place of those from `start` up to `end`.
 fn write_item(sheet: &[u8], start: usize, end: usize, key: Key, body: &[u8], out: &mut [u8])
-    requires { ⌜ (start ≤ end) × (end ≤ length (now sheet)) × (length (now body) ≤ 65535) × (start + (21 + length (now body)) + (length (now sheet) - end) ≤ length (now out)) ⌝ }
+    requires { ⌜ (start ≤ end) × (end ≤ length (now sheet)) × (length (now sheet) ≤ 262144) × (length (now body) ≤ 65535) × (start + (21 + length (now body)) + (length (now sheet) - end) ≤ length (now out)) ⌝ }
     ensures { λ _. ⌜ now (out .exit) ≡ written 0 (spliced start end (itemBytes (record { key = key; bytes = now (body .entry) })) (now (sheet .entry))) (now (out .entry)) ⌝ }
 {
     let n = body.len();

@@ -16,7 +16,7 @@ use Rattle.fields.proofs.Parts.{length-spliced}
 use Rattle.format.specs.declared.Key.{Key}
 use Rattle.format.specs.Questions.{Answer, refused, absent, remove, accepted, ask, bind}
 use Rattle.format.specs.Items.{Item, readSheet, itemBytes, sheetBytes, onSheet, nodesizeFits, dataFits}
-use Rattle.format.specs.Sheets.{hasKey, inserted, insert, spaceOf}
+use Rattle.format.specs.Sheets.{hasKey, inserted, insert, insertUnbounded, spaceOf}
 use Rattle.format.proofs.Answers.{ask-yes, ask-no}
 use Rattle.format.proofs.Items.{ReadsSheet, sheet, broken, unsorted, readSheet-decides, length-itemBytes}
 use Rattle.format.proofs.Splices.{sheet-put}
@@ -53,7 +53,7 @@ at-taken new k items (Absent p) f g = let z : _≡_ {A = ℕ} 0 1 = cc in absurd
 
 -- ---- refusals before the slot
 
-pub slot-refused : (s : List ℕ) (new : Item) (three : Bool) (k : ℕ) → slotOf (new .key) three (readSheet s) ≡ Refused k
+slot-refused : (s : List ℕ) (new : Item) (three : Bool) (k : ℕ) → slotOf (new .key) three (readSheet s) ≡ Refused k
     → onSheet s three (inserted new) ≡ refused k
 unfolding slotOf onSheet bind ask
 slot-refused s new three k e = go (readSheet-decides s)
@@ -162,7 +162,7 @@ module _ (nodesize : ℕ) (s : List ℕ) (new : Item) where
   unfolding insert
   insert-is = after-slot s three (inserted new) (λ result. ask (leb (spaceOf result) nodesize) 18 (accepted result))
 
-  pub insert-refused : (k : ℕ) → slotOf (new .key) three (readSheet s) ≡ Refused k → insert nodesize s new ≡ refused k
+  insert-refused : (k : ℕ) → slotOf (new .key) three (readSheet s) ≡ Refused k → insert nodesize s new ≡ refused k
   unfolding bind
   insert-refused k e =
       insert-is ∙ ap (λ (x : Answer (List Item)). bind x (λ result. ask (leb (spaceOf result) nodesize) 18 (accepted result))) (slot-refused s new three k e)
@@ -174,16 +174,52 @@ module _ (nodesize : ℕ) (s : List ℕ) (new : Item) where
         insert-is ∙ ap (λ (x : Answer (List Item)). bind x (λ result. ask (leb (spaceOf result) nodesize) 18 (accepted result))) (i .result)
         ∙ ap (λ (m : ℕ). ask (leb m nodesize) 18 (accepted (i .items))) (i .space)
 
-    pub insert-large : nodesize < 125 + length s + 4 * n + length (new .bytes) → insert nodesize s new ≡ refused 18
+    insert-large : nodesize < 125 + length s + 4 * n + length (new .bytes) → insert nodesize s new ≡ refused 18
     unfolding ask
     insert-large h = insert-then ∙ rw (lt-leb (125 + length s + 4 * n + length (new .bytes)) nodesize h)
 
-    pub insert-done : 125 + length s + 4 * n + length (new .bytes) ≤ nodesize → insert nodesize s new ≡ accepted (i .items)
+    insert-done : 125 + length s + 4 * n + length (new .bytes) ≤ nodesize → insert nodesize s new ≡ accepted (i .items)
     unfolding ask
     insert-done h = insert-then ∙ rw (le-leb (125 + length s + 4 * n + length (new .bytes)) nodesize h)
 
-    pub fits-new : T (dataFits (new .bytes))
+    fits-new : T (dataFits (new .bytes))
     fits-new = and-yes (nodesizeFits nodesize) _ (subst T (sym (i .three-is)) tt) .1
+
+-- ---- both inserts: question 18 is asked where the new item is bounded
+
+module _ (nodesize : ℕ) (s : List ℕ) (new : Item) where
+  abbrev pub sizesFit : Bool → Bool
+  sizesFit bounded = cond bounded (nodesizeFits nodesize && dataFits (new .bytes)) (dataFits (new .bytes))
+
+  abbrev pub putNew : Bool → Answer (List Item)
+  putNew bounded = cond bounded (insert nodesize s new) (insertUnbounded s new)
+
+  pub put-refused : (bounded : Bool) (k : ℕ) → slotOf (new .key) (sizesFit bounded) (readSheet s) ≡ Refused k → putNew bounded ≡ refused k
+  unfolding insertUnbounded
+  put-refused true k e = insert-refused nodesize s new k e
+  put-refused false k e = slot-refused s new (dataFits (new .bytes)) k e
+
+  pub put-fits : (bounded : Bool) (at n : ℕ) → Insertable s new (sizesFit bounded) at n → T (dataFits (new .bytes))
+  put-fits true at n i = fits-new nodesize s new at n i
+  put-fits false at n i = subst T (sym (i .three-is)) tt
+
+  pub put-large : (bounded : Bool) (at n : ℕ) → Insertable s new (sizesFit bounded) at n → bounded ≡ true
+      → nodesize < 125 + length s + 4 * n + length (new .bytes)
+      → putNew bounded ≡ refused 18
+  put-large true at n i b h = insert-large nodesize s new at n i h
+  put-large false at n i b h = let z : _≡_ {A = ℕ} 0 1 = cc in absurd (omega arith)
+
+  pub put-within : (bounded : Bool) (at n : ℕ) (i : Insertable s new (sizesFit bounded) at n) → bounded ≡ true
+      → 125 + length s + 4 * n + length (new .bytes) ≤ nodesize
+      → putNew bounded ≡ accepted (i .items)
+  put-within true at n i b h = insert-done nodesize s new at n i h
+  put-within false at n i b h = let z : _≡_ {A = ℕ} 0 1 = cc in absurd (omega arith)
+
+  pub put-unbounded : (bounded : Bool) (at n : ℕ) (i : Insertable s new (sizesFit bounded) at n) → bounded ≡ false
+      → putNew bounded ≡ accepted (i .items)
+  unfolding insertUnbounded
+  put-unbounded true at n i b = let z : _≡_ {A = ℕ} 0 1 = cc in absurd (omega arith)
+  put-unbounded false at n i b = i .result
 
 -- ---- the slot, as code finds it
 

@@ -1,6 +1,6 @@
 // An item put in or taken out.
 ghost use mathlib.Core.Path.{_≡_};
-ghost use mathlib.Core.Bool.{_&&_};
+ghost use mathlib.Core.Bool.{_&&_, cond};
 ghost use lib.ListN.{length};
 ghost use lib.Dec.{leb};
 ghost use Rattle.format.specs.Questions.{Answered};
@@ -78,32 +78,53 @@ pub fn new_fits(nodesize: u32, size: usize) -> bool
     false
 }
 
+// Question 3 of a new item with so many bytes of data, and of the nodesize where a leaf's size is asked for.
+fn sizes_fit(bounded: bool, nodesize: u32, size: usize) -> bool
+    ensures { λ r. ⌜ r ≡ cond bounded (nodesizeFits nodesize && leb size 65535) (leb size 65535) ⌝ }
+{
+    if bounded {
+        return new_fits(nodesize, size);
+    }
+    size <= 65535
+}
+
+// The list with one more item; where it is `bounded`, only if it still fits a leaf. One function for both calls: what is called
+// from one place is joined to its caller.
+fn put_new(
+    sheet: &[u8],
+    key: Key,
+    body: &[u8],
+    bounded: bool,
+    nodesize: u32,
+    out: &mut [u8],
+) -> Edited
+    ensures { λ r. ⌜ Answered (heldSheet (length (now (out .entry))) (cond bounded (insert nodesize (now (sheet .entry)) (record { key = key; bytes = now (body .entry) })) (insertUnbounded (now (sheet .entry)) (record { key = key; bytes = now (body .entry) })))) r (now (out .entry)) (now (out .exit)) ⌝ }
+{
+    let slot = slot_for(sheet, key, sizes_fit(bounded, nodesize, body.len()));
+    match slot {
+        Slot::Refused(number) => return Edited::Refused(number),
+        Slot::Free { at, count } => {
+            let space = 125 + sheet.len() + 4 * count + body.len();
+            if bounded {
+                if (nodesize as usize) < space {
+                    return Edited::Refused(18);
+                }
+            }
+            return item_write::put_item(sheet, at, at, count + 1, key, body, out);
+        }
+    }
+}
+
 // The list with one more item, however large.
 pub fn insert_unbounded(sheet: &[u8], key: Key, body: &[u8], out: &mut [u8]) -> Edited
     ensures { λ r. ⌜ Answered (heldSheet (length (now (out .entry))) (insertUnbounded (now (sheet .entry)) (record { key = key; bytes = now (body .entry) }))) r (now (out .entry)) (now (out .exit)) ⌝ }
 {
-    let slot = slot_for(sheet, key, body.len() <= 65535);
-    match slot {
-        Slot::Refused(number) => return Edited::Refused(number),
-        Slot::Free { at, count } => {
-            return item_write::put_item(sheet, at, at, count + 1, key, body, out);
-        }
-    }
+    put_new(sheet, key, body, false, 0, out)
 }
 
 // The list with one more item, if it still fits a leaf.
 pub fn insert(nodesize: u32, sheet: &[u8], key: Key, body: &[u8], out: &mut [u8]) -> Edited
     ensures { λ r. ⌜ Answered (heldSheet (length (now (out .entry))) (insert nodesize (now (sheet .entry)) (record { key = key; bytes = now (body .entry) }))) r (now (out .entry)) (now (out .exit)) ⌝ }
 {
-    let slot = slot_for(sheet, key, new_fits(nodesize, body.len()));
-    match slot {
-        Slot::Refused(number) => return Edited::Refused(number),
-        Slot::Free { at, count } => {
-            let space = 125 + sheet.len() + 4 * count + body.len();
-            if (nodesize as usize) < space {
-                return Edited::Refused(18);
-            }
-            return item_write::put_item(sheet, at, at, count + 1, key, body, out);
-        }
-    }
+    put_new(sheet, key, body, true, nodesize, out)
 }

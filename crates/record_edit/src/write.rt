@@ -38,7 +38,7 @@ fn append_record(
     out: &mut [u8],
 ) -> usize
     requires { ⌜ EditIn plan (now body) ⌝ }
-    requires { ⌜ (start ≤ length (now sheet)) × (editLength plan (length (now body)) ≤ 65535) × (start + 21 + editLength plan (length (now body)) ≤ length (now out)) ⌝ }
+    requires { ⌜ (start ≤ length (now sheet)) × (editLength plan (length (now body)) ≤ 65535) × (start + 21 + editLength plan (length (now body)) ≤ length (now out)) × (length (now sheet) ≤ 262144) ⌝ }
     ensures { λ r. ⌜ (r ≡ start + 21 + editLength plan (length (now (body .entry)))) × (now (out .exit) ≡ written 0 (take start (now (sheet .entry)) ++ itemBytes (record { key = key; bytes = edited plan (now (body .entry)) })) (now (out .entry))) ⌝ }
 {
     let size = backref_plan::plan_length(plan, body.len());
@@ -50,7 +50,7 @@ fn append_record(
 // All from the end of the record, with the second edit.
 fn append_rest(sheet: &[u8], end: usize, behind: Behind, out: &mut [u8], at: usize)
     requires { ⌜ BehindIn behind end (now sheet) ⌝ }
-    requires { ⌜ at + restLength behind end (length (now sheet)) ≤ length (now out) ⌝ }
+    requires { ⌜ (at + restLength behind end (length (now sheet)) ≤ length (now out)) × (length (now sheet) ≤ 262144) ⌝ }
     ensures { λ _. ⌜ now (out .exit) ≡ written at (restOf behind end (now (sheet .entry))) (now (out .entry)) ⌝ }
 {
     let new = behind.new;
@@ -62,7 +62,7 @@ fn append_rest(sheet: &[u8], end: usize, behind: Behind, out: &mut [u8], at: usi
 fn write_record(sheet: &[u8], stand: Record, plan: Plan, behind: Behind, out: &mut [u8])
     requires { ⌜ EditIn plan (dataOf (now sheet) (stand .start) (stand .end)) ⌝ }
     requires { ⌜ BehindIn behind (stand .end) (now sheet) ⌝ }
-    requires { ⌜ (stand .start + 21 ≤ stand .end) × (editLength plan (stand .end - (stand .start + 21)) ≤ 65535) × (sheetLength stand plan behind (length (now sheet)) ≤ length (now out)) ⌝ }
+    requires { ⌜ (stand .start + 21 ≤ stand .end) × (editLength plan (stand .end - (stand .start + 21)) ≤ 65535) × (sheetLength stand plan behind (length (now sheet)) ≤ length (now out)) × (length (now sheet) ≤ 262144) ⌝ }
     ensures { λ _. ⌜ now (out .exit) ≡ written 0 (editedSheet (now (sheet .entry)) stand behind (edited plan (dataOf (now (sheet .entry)) (stand .start) (stand .end)))) (now (out .entry)) ⌝ }
 {
     let start = stand.start;

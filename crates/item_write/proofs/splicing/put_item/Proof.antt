@@ -11,7 +11,7 @@ write-item-requires : tie.Need-write-item-requires
 write-item-requires c κs =
     let l = room-out _ _ _ (sym (c .before .before .room-for .ensures) ∙ c .before .if1 .taken) in
     let pre = c .before .before .before .before .before .before .pre in
-    (pre .0, pre .1, pre .3, omega (arith, l))
+    (pre .0, pre .1, pre .2, pre .3, omega (arith, l))
 
 returns : tie.Need-returns
 returns c =

@@ -11,14 +11,14 @@ append-requires : tie.Need-append-requires
 append-requires c κs =
     let l = room-out _ _ _ (sym (c .before .before .room-for .ensures) ∙ c .before .if1 .taken) in
     let pre = c .before .before .before .before .before .pre in
-    (omega arith, omega (arith, pre), omega (arith, l, pre))
+    (omega arith, omega (arith, pre), omega (arith, pre), omega (arith, l, pre))
 
 append-requires-2 : tie.Need-append-requires-2
 append-requires-2 c κs =
     let l = room-out _ _ _ (sym (c .before .before .before .before .before .before .room-for .ensures) ∙ c .before .before .before .before .before .if1 .taken) in
     let pre = c .before .before .before .before .before .before .before .before .before .pre in
     let r = c .before .before .before .append .ensures .0 in
-    (pre .1, omega arith, omega (arith, l, pre, r))
+    (pre .1, omega arith, omega (arith, pre), omega (arith, l, pre, r))
 
 returns : tie.Need-returns
 returns c =

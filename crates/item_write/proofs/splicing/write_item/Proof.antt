@@ -9,7 +9,7 @@ returns : tie.Need-returns
 returns c =
     let a = c .before .before .before .before .before .before .before .before .before .before .before .before .before .before .before .before .before .before .before .args in
     let pre = c .before .before .before .before .before .before .before .before .before .before .before .before .before .before .before .before .before .before .before .pre in
-    item-writes (now (a .sheet)) (a .start) (a .end) (omega arith) (record { key = a .key; bytes = now (a .body) }) (now (a .out)) _ _ _ _ _ _ _ (pre .3)
+    item-writes (now (a .sheet)) (a .start) (a .end) (omega arith) (record { key = a .key; bytes = now (a .body) }) (now (a .out)) _ _ _ _ _ _ _ (pre .4)
     (c .before .before .before .before .before .before .before .before .before .before .before .before .before .before .append .ensures) (c .before .before .before .before .before .before .before .before .before .before .append-head .ensures) (c .before .before .before .before .before .before .append2 .ensures) (c .before .before .append3 .ensures .1)
 
 pub write-item-spec : {M : Type 1} → statement M

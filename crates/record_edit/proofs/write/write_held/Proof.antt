@@ -28,7 +28,8 @@ write-record-requires c κs =
     let s = size .before .before .before .before .before in
     let e = size .plan-length .ensures in
     let l = room-out _ _ _ (sym (c .before .before .room-for .ensures) ∙ c .before .if3 .taken) in
-    (s .pre .0, (s .pre .1 .0, held-fits (now (s .args .sheet)) (s .args .stand) (s .args .plan) (s .args .behind) (s .pre .1 .0) (s .pre .1 .1 .0) (length (now (s .args .out))) _ _ e (c .before .before .before .before .before .before .before .before .if2 .left) refl l))
+    let f = held-fits (now (s .args .sheet)) (s .args .stand) (s .args .plan) (s .args .behind) (s .pre .1 .0) (s .pre .1 .1 .0) (length (now (s .args .out))) _ _ e (c .before .before .before .before .before .before .before .before .if2 .left) refl l in
+    (s .pre .0, (s .pre .1 .0, (f .0, f .1, f .2, s .pre .1 .1 .1)))
 
 returns-3 : tie.Need-returns-3
 returns-3 c =

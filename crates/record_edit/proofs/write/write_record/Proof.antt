@@ -9,14 +9,15 @@ use Rattle.record_edit.proofs.write.write_record.Tie as tie
 append-record-requires : tie.Need-append-record-requires
 append-record-requires c κs =
     let s = c .before .before .before .before in
-    (s .pre .0, record-fits (now (s .args .sheet)) (s .args .stand) (s .args .plan) (s .args .behind) (s .pre .1 .0) (s .pre .1 .1 .0) (length (now (s .args .out))) (s .pre .1 .1 .1) (s .pre .1 .1 .2))
+    let f = record-fits (now (s .args .sheet)) (s .args .stand) (s .args .plan) (s .args .behind) (s .pre .1 .0) (s .pre .1 .1 .0) (length (now (s .args .out))) (s .pre .1 .1 .1) (s .pre .1 .1 .2) in
+    (s .pre .0, (f .0, f .1, f .2, s .pre .1 .1 .3))
 
 append-rest-requires : tie.Need-append-rest-requires
 append-rest-requires c κs =
     let call = c .before .before .before in
     let s = call .before .before .before .before .before in
     let f = rest-fits (now (s .args .sheet)) (s .args .stand) (s .args .plan) (s .args .behind) (s .pre .1 .0) (s .pre .1 .1 .0) (length (now (s .args .out))) _ (call .append-record .ensures .0) (s .pre .1 .1 .2) in
-    (s .pre .1 .0, omega (arith, f))
+    (s .pre .1 .0, (omega (arith, f), s .pre .1 .1 .3))
 
 returns : tie.Need-returns
 returns c =
