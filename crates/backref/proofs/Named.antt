@@ -1,17 +1,17 @@
 -- The plans by wanted name, as the definitions have them; and a planned call's answer. Assumes nothing.
-use mathlib.Core.Path.{_≡_, refl, subst}
-use mathlib.Core.Bool.{false}
+use mathlib.Core.Path.{_≡_, refl, sym, subst}
+use mathlib.Core.Bool.{true, false}
 use mathlib.Core.List.{List}
 use Prim.Native.Nat.{ℕ}
+use lib.Dec.{T, eqb→eq}
 use borrow.Author.Tests.{ne-eqb}
 use Rattle.format.specs.declared.Edited.{Edited}
 use Rattle.format.specs.declared.Taken.{Taken}
 use Rattle.format.specs.declared.SharedRef.{SharedRef}
 use Rattle.format.specs.Questions.{Answer, ask, TakenOut, Answered, AnsweredTaken}
-use Rattle.format.specs.References.{placeOf}
-use Rattle.format.specs.Bodies.{heldBody, sharedKind, addInlineShared, heldTaken, takeInlineShared}
+use Rattle.format.specs.Bodies.{heldBody, one, sharedKind, addInlineShared, heldTaken, takeInlineShared}
 use Rattle.inline_refs.specs.Scans.{kindOf, fieldsOf}
-use Rattle.inline_refs.specs.declared.wanted.Wanted.the-variants.{SharedBlock, SharedData}
+use Rattle.inline_refs.specs.declared.wanted.Wanted.{Wanted}
 use Rattle.backref_plan.specs.declared.plan.Plan.{Plan}
 use Rattle.backref_plan.specs.declared.plan.Outcome.the-variants.{Refused}
 use Rattle.backref_plan.specs.Plans.{planAnswer, planTaken, Planned, PlannedTaken}
@@ -28,28 +28,26 @@ pub answered-taken : {p : Plan} {body : List ℕ} {a : Answer TakenOut} (room : 
     → AnsweredTaken (heldTaken room (planTaken p body)) r old new → AnsweredTaken (heldTaken room a) r old new
 answered-taken room {r} {old} {new} h w = subst (λ (x : Answer TakenOut). AnsweredTaken (heldTaken room x) r old new) (h .says) w
 
-module _ (type : ℕ) (d : List ℕ) (s : SharedRef) (amount : ℕ) (plan : Plan) where
-  pub shared-block : s .kind ≡ 182 → Planned plan d (addInline type d (SharedBlock (s .parent)) amount false) → Planned plan d (addInlineShared type d s amount)
-  unfolding addInlineShared addInline spotOf ownPlace placeOf kindOf fieldsOf sharedKind ask
-  shared-block e h = plan-same plan d _ _ (rw e refl) h
+pub other-kind : (kind : ℕ) → sharedKind kind ≡ true → (kind ≡ 182 → ⊥) → kind ≡ 184
+unfolding sharedKind
+other-kind kind t h = eqb→eq kind 184 (subst T (sym (rw (ne-eqb kind 182 h) at t)) tt)
 
-  pub shared-data : s .kind ≡ 184 → Planned plan d (addInline type d (SharedData (s .parent)) amount false) → Planned plan d (addInlineShared type d s amount)
-  unfolding addInlineShared addInline spotOf ownPlace placeOf kindOf fieldsOf sharedKind ask
-  shared-data e h = plan-same plan d _ _ (rw e refl) h
-
-  pub shared-other : (s .kind ≡ 182 → ⊥) → (s .kind ≡ 184 → ⊥) → plan .outcome ≡ Refused 3 → Planned plan d (addInlineShared type d s amount)
-  unfolding addInlineShared sharedKind ask
-  shared-other h k o = plan-refused plan d _ 3 o (simp (ne-eqb _ _ h, ne-eqb _ _ k))
-
+-- a wanted name that is the shared one, of a kind that is shared
 module _ (type : ℕ) (d : List ℕ) (s : SharedRef) (plan : Plan) where
-  pub take-block : s .kind ≡ 182 → PlannedTaken plan d (takeInline type d (SharedBlock (s .parent))) → PlannedTaken plan d (takeInlineShared type d s)
-  unfolding takeInlineShared takeInline kindOf fieldsOf sharedKind ask
-  take-block e h = taken-same plan d _ _ (rw e refl) h
+  module _ (w : Wanted) (shared : sharedKind (s .kind) ≡ true) (names : (kindOf w ≡ s .kind) × (fieldsOf w ≡ one (s .parent)) × (ownPlace w ≡ s .parent)) where
+    pub shared-is : (amount : ℕ) → Planned plan d (addInline type d w amount false) → Planned plan d (addInlineShared type d s amount)
+    unfolding addInlineShared addInline spotOf ask
+    shared-is amount h = plan-same plan d _ _ (rw (shared, names .0, names .1, names .2) refl) h
 
-  pub take-data : s .kind ≡ 184 → PlannedTaken plan d (takeInline type d (SharedData (s .parent))) → PlannedTaken plan d (takeInlineShared type d s)
-  unfolding takeInlineShared takeInline kindOf fieldsOf sharedKind ask
-  take-data e h = taken-same plan d _ _ (rw e refl) h
+    pub take-is : PlannedTaken plan d (takeInline type d w) → PlannedTaken plan d (takeInlineShared type d s)
+    unfolding takeInlineShared takeInline ask
+    take-is h = taken-same plan d _ _ (rw (shared, names .0, names .1) refl) h
 
-  pub take-other : (s .kind ≡ 182 → ⊥) → (s .kind ≡ 184 → ⊥) → plan .outcome ≡ Refused 3 → PlannedTaken plan d (takeInlineShared type d s)
-  unfolding takeInlineShared sharedKind ask
-  take-other h k o = taken-refused plan d _ 3 o (simp (ne-eqb _ _ h, ne-eqb _ _ k))
+  module _ (other : sharedKind (s .kind) ≡ false) (o : plan .outcome ≡ Refused 3) where
+    pub shared-other : (amount : ℕ) → Planned plan d (addInlineShared type d s amount)
+    unfolding addInlineShared ask
+    shared-other amount = plan-refused plan d _ 3 o (rw other refl)
+
+    pub take-other : PlannedTaken plan d (takeInlineShared type d s)
+    unfolding takeInlineShared ask
+    take-other = taken-refused plan d _ 3 o (rw other refl)

@@ -5,6 +5,7 @@ use format::Edited;
 use format::Keyed;
 use format::SharedRef;
 use format::Taken;
+use inline_refs::Wanted;
 ghost use lib.ListN.{length};
 ghost use Rattle.format.specs.Questions.{Answered, AnsweredTaken};
 ghost use Rattle.format.specs.Bodies.{heldBody, raiseTotal, lowerTotal, reduceTotal, withFlags, dropInlineTreeRef, dropInlineDataRef, addInlineTreeRef, addInlineDataRef, addInlineShared, addInlineKeyed, heldTaken, takeInlineShared};
@@ -78,16 +79,24 @@ pub fn add_inline_shared(
     backref_plan::write_plan(body, plan, out)
 }
 
-pub fn add_inline_keyed(
+pub fn add_keyed_block(item_type: u8, body: &[u8], name: BlockRef, out: &mut [u8]) -> Edited
+    ensures { λ r. ⌜ Answered (heldBody (length (now (out .entry))) (addInlineKeyed «item_type» (now (body .entry)) (Keyed.Block name) 1)) r (now (out .entry)) (now (out .exit)) ⌝ }
+{
+    let plan = backref_plan::plan_add_keyed(item_type, body, Wanted::Block(name), name.tree, 1);
+    backref_plan::write_plan(body, plan, out)
+}
+
+// A data reference that is the only one goes before the first higher type: place 0.
+pub fn add_keyed_data(
     item_type: u8,
     body: &[u8],
-    keyed: Keyed,
+    name: DataRef,
     count: u32,
     out: &mut [u8],
 ) -> Edited
-    ensures { λ r. ⌜ Answered (heldBody (length (now (out .entry))) (addInlineKeyed «item_type» (now (body .entry)) keyed count)) r (now (out .entry)) (now (out .exit)) ⌝ }
+    ensures { λ r. ⌜ Answered (heldBody (length (now (out .entry))) (addInlineKeyed «item_type» (now (body .entry)) (Keyed.Data name) count)) r (now (out .entry)) (now (out .exit)) ⌝ }
 {
-    let plan = crate::plans::plan_add_keyed_name(item_type, body, keyed, count);
+    let plan = backref_plan::plan_add_keyed(item_type, body, Wanted::Data(name), 0, count);
     backref_plan::write_plan(body, plan, out)
 }
 

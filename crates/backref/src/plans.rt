@@ -2,10 +2,13 @@
 use backref_plan::Plan;
 use format::BlockRef;
 use format::DataRef;
-use format::Keyed;
 use format::SharedRef;
 use inline_refs::Wanted;
-ghost use Rattle.format.specs.Bodies.{dropInlineTreeRef, dropInlineDataRef, addInlineTreeRef, addInlineData, addInlineShared, addInlineKeyed, takeInlineShared};
+ghost use mathlib.Core.Path.{_≡_};
+ghost use mathlib.Core.Bool.{true};
+ghost use Rattle.format.specs.Bodies.{dropInlineTreeRef, dropInlineDataRef, addInlineTreeRef, addInlineData, addInlineShared, takeInlineShared, sharedKind, one};
+ghost use Rattle.inline_refs.specs.Scans.{kindOf, fieldsOf};
+ghost use Rattle.backref_plan.specs.Adds.{ownPlace};
 ghost use Rattle.backref_plan.specs.Plans.{Planned, PlannedTaken};
 
 pub fn plan_drop_tree(item_type: u8, body: &[u8], name: BlockRef) -> Plan
@@ -32,42 +35,38 @@ pub fn plan_add_data(item_type: u8, body: &[u8], name: DataRef, amount: u32) -> 
     backref_plan::plan_add_inline(item_type, body, Wanted::Data(name), amount, true)
 }
 
+// Whether a kind is a shared reference's.
+fn is_shared(kind: u8) -> bool
+    ensures { λ r. ⌜ r ≡ sharedKind kind ⌝ }
+{
+    kind == 182 || kind == 184
+}
+
+// The reference that is looked for, of a kind that is shared.
+fn wanted_of(name: SharedRef) -> Wanted
+    requires { ⌜ sharedKind (name .kind) ≡ true ⌝ }
+    ensures { λ r. ⌜ (kindOf r ≡ name .kind) × (fieldsOf r ≡ one (name .parent)) × (ownPlace r ≡ name .parent) ⌝ }
+{
+    if name.kind == 182 {
+        return Wanted::SharedBlock(name.parent);
+    }
+    Wanted::SharedData(name.parent)
+}
+
 pub fn plan_add_shared(item_type: u8, body: &[u8], name: SharedRef, amount: u32) -> Plan
     ensures { λ r. ⌜ Planned r (now (body .entry)) (addInlineShared «item_type» (now (body .entry)) name amount) ⌝ }
 {
-    if name.kind == 182 {
-        let wanted = Wanted::SharedBlock(name.parent);
-        return backref_plan::plan_add_inline(item_type, body, wanted, amount, false);
-    }
-    if name.kind == 184 {
-        let wanted = Wanted::SharedData(name.parent);
-        return backref_plan::plan_add_inline(item_type, body, wanted, amount, false);
+    if is_shared(name.kind) {
+        return backref_plan::plan_add_inline(item_type, body, wanted_of(name), amount, false);
     }
     backref_plan::refuse(3)
-}
-
-// A data reference that is the only one goes before the first higher type: place 0.
-pub fn plan_add_keyed_name(item_type: u8, body: &[u8], keyed: Keyed, count: u32) -> Plan
-    ensures { λ r. ⌜ Planned r (now (body .entry)) (addInlineKeyed «item_type» (now (body .entry)) keyed count) ⌝ }
-{
-    match keyed {
-        Keyed::Block(name) => {
-            backref_plan::plan_add_keyed(item_type, body, Wanted::Block(name), name.tree, 1)
-        }
-        Keyed::Data(name) => {
-            backref_plan::plan_add_keyed(item_type, body, Wanted::Data(name), 0, count)
-        }
-    }
 }
 
 pub fn plan_take_shared(item_type: u8, body: &[u8], name: SharedRef) -> Plan
     ensures { λ r. ⌜ PlannedTaken r (now (body .entry)) (takeInlineShared «item_type» (now (body .entry)) name) ⌝ }
 {
-    if name.kind == 182 {
-        return backref_plan::plan_take_inline(item_type, body, Wanted::SharedBlock(name.parent));
-    }
-    if name.kind == 184 {
-        return backref_plan::plan_take_inline(item_type, body, Wanted::SharedData(name.parent));
+    if is_shared(name.kind) {
+        return backref_plan::plan_take_inline(item_type, body, wanted_of(name));
     }
     backref_plan::refuse(3)
 }

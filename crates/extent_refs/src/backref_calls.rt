@@ -58,13 +58,7 @@ pub extern "C" fn backref_add_inline_keyed_block(
 ) -> u32
     ensures { λ r. ⌜ Coded (heldBody (length (now (out .entry))) (addInlineKeyed «item_type» (now (body .entry)) (Keyed.Block (record { tree = tree })) count)) r (now (len .exit)) (now (out .entry)) (now (out .exit)) ⌝ }
 {
-    let answer = backref::add_inline_keyed(
-        item_type,
-        body,
-        Keyed::Block(BlockRef { tree }),
-        count,
-        out,
-    );
+    let answer = backref::add_keyed_block(item_type, body, BlockRef { tree }, out);
     codes::put_edited(answer, len)
 }
 
@@ -81,14 +75,14 @@ pub extern "C" fn backref_add_inline_keyed_data(
 ) -> u32
     ensures { λ r. ⌜ Coded (heldBody (length (now (out .entry))) (addInlineKeyed «item_type» (now (body .entry)) (Keyed.Data (record { tree = tree; objectid = objectid; offset = offset })) count)) r (now (len .exit)) (now (out .entry)) (now (out .exit)) ⌝ }
 {
-    let answer = backref::add_inline_keyed(
+    let answer = backref::add_keyed_data(
         item_type,
         body,
-        Keyed::Data(DataRef {
+        DataRef {
             tree,
             objectid,
             offset,
-        }),
+        },
         count,
         out,
     );

@@ -1,18 +1,22 @@
-use Rattle.backref.proofs.Named.{shared-block, shared-data, shared-other}
+use mathlib.Core.Path.{sym, _∙_}
+use Rattle.backref.proofs.Named.{shared-is, shared-other}
 use borrow.Author.Needs.{needs}
 use Rattle.backref.proofs.plans.plan_add_shared.Statement.{statement}
 use Rattle.backref.proofs.plans.plan_add_shared.Tie as tie
 
+-- the kind is shared
+shared : tie.Need-wanted-of-requires
+shared c κs = sym (c .before .is-shared .ensures) ∙ c .if1 .taken
+
 returns : tie.Need-returns
-returns c = shared-block _ _ _ _ _ (c .before .if1 .taken) (c .plan-add-inline .ensures)
+returns c =
+    let wanted = c .before in
+    shared-is _ _ _ _ _ (sym (wanted .before .before .is-shared .ensures) ∙ wanted .before .if1 .taken) (wanted .wanted-of .ensures) _ (c .plan-add-inline .ensures)
 
 returns-2 : tie.Need-returns-2
-returns-2 c = shared-data _ _ _ _ _ (c .before .if2 .taken) (c .plan-add-inline2 .ensures)
-
-returns-3 : tie.Need-returns-3
-returns-3 c = shared-other _ _ _ _ _ (c .before .before .before .if1 .left) (c .before .if2 .left) (c .refuse .ensures)
+returns-2 c = shared-other _ _ _ _ (sym (c .before .before .is-shared .ensures) ∙ c .before .if1 .left) (c .refuse .ensures) _
 
 pub plan-add-shared-spec : {M : Type 1} → statement M
 plan-add-shared-spec =
     tie.close
-    (tie.spec (λ c κs. search needs) returns (λ c κs. search needs) returns-2 (λ c κs. search needs) returns-3)
+    (tie.spec (λ c κs. search needs) shared (λ c κs. search needs) returns (λ c κs. search needs) returns-2)

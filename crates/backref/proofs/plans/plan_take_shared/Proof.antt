@@ -1,18 +1,22 @@
-use Rattle.backref.proofs.Named.{take-block, take-data, take-other}
+use mathlib.Core.Path.{sym, _∙_}
+use Rattle.backref.proofs.Named.{take-is, take-other}
 use borrow.Author.Needs.{needs}
 use Rattle.backref.proofs.plans.plan_take_shared.Statement.{statement}
 use Rattle.backref.proofs.plans.plan_take_shared.Tie as tie
 
+-- the kind is shared
+shared : tie.Need-wanted-of-requires
+shared c κs = sym (c .before .is-shared .ensures) ∙ c .if1 .taken
+
 returns : tie.Need-returns
-returns c = take-block _ _ _ _ (c .before .if1 .taken) (c .plan-take-inline .ensures)
+returns c =
+    let wanted = c .before in
+    take-is _ _ _ _ _ (sym (wanted .before .before .is-shared .ensures) ∙ wanted .before .if1 .taken) (wanted .wanted-of .ensures) (c .plan-take-inline .ensures)
 
 returns-2 : tie.Need-returns-2
-returns-2 c = take-data _ _ _ _ (c .before .if2 .taken) (c .plan-take-inline2 .ensures)
-
-returns-3 : tie.Need-returns-3
-returns-3 c = take-other _ _ _ _ (c .before .before .before .if1 .left) (c .before .if2 .left) (c .refuse .ensures)
+returns-2 c = take-other _ _ _ _ (sym (c .before .before .is-shared .ensures) ∙ c .before .if1 .left) (c .refuse .ensures)
 
 pub plan-take-shared-spec : {M : Type 1} → statement M
 plan-take-shared-spec =
     tie.close
-    (tie.spec (λ c κs. search needs) returns (λ c κs. search needs) returns-2 (λ c κs. search needs) returns-3)
+    (tie.spec (λ c κs. search needs) shared (λ c κs. search needs) returns (λ c κs. search needs) returns-2)
