@@ -26,3 +26,4 @@ pub use plans::plan_add_tree;
 pub use plans::plan_drop_data;
 pub use plans::plan_drop_tree;
 pub use plans::plan_take_shared;
+pub use plans::shared_kind;

@@ -36,7 +36,7 @@ pub fn plan_add_data(item_type: u8, body: &[u8], name: DataRef, amount: u32) -> 
 }
 
 // Whether a kind is a shared reference's.
-fn is_shared(kind: u8) -> bool
+pub fn shared_kind(kind: u8) -> bool
     ensures { λ r. ⌜ r ≡ sharedKind kind ⌝ }
 {
     kind == 182 || kind == 184
@@ -56,7 +56,7 @@ fn wanted_of(name: SharedRef) -> Wanted
 pub fn plan_add_shared(item_type: u8, body: &[u8], name: SharedRef, amount: u32) -> Plan
     ensures { λ r. ⌜ Planned r (now (body .entry)) (addInlineShared «item_type» (now (body .entry)) name amount) ⌝ }
 {
-    if is_shared(name.kind) {
+    if shared_kind(name.kind) {
         return backref_plan::plan_add_inline(item_type, body, wanted_of(name), amount, false);
     }
     backref_plan::refuse(3)
@@ -65,7 +65,7 @@ pub fn plan_add_shared(item_type: u8, body: &[u8], name: SharedRef, amount: u32)
 pub fn plan_take_shared(item_type: u8, body: &[u8], name: SharedRef) -> Plan
     ensures { λ r. ⌜ PlannedTaken r (now (body .entry)) (takeInlineShared «item_type» (now (body .entry)) name) ⌝ }
 {
-    if is_shared(name.kind) {
+    if shared_kind(name.kind) {
         return backref_plan::plan_take_inline(item_type, body, wanted_of(name));
     }
     backref_plan::refuse(3)

@@ -28,8 +28,8 @@ fn kind_fits(change: Change) -> bool
             extent: _,
             name,
             amount: _,
-        } => transaction::shared_kind(name.kind),
-        Change::DropShared { extent: _, name } => transaction::shared_kind(name.kind),
+        } => backref::shared_kind(name.kind),
+        Change::DropShared { extent: _, name } => backref::shared_kind(name.kind),
         Change::AddBlock { extent: _, name: _ } => true,
         Change::AddData {
             extent: _,

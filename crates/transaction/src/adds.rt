@@ -46,21 +46,11 @@ pub fn limit_for(nodesize: u32, size: usize, grown_only: bool) -> usize
     limit
 }
 
-// Question 3 of a shared kind.
-pub fn shared_kind(kind: u8) -> bool
-    ensures { λ r. ⌜ r ≡ sharedKind kind ⌝ }
-{
-    if kind == 182 {
-        return true;
-    }
-    kind == 184
-}
-
 fn shared_fits(nodesize: u32, kind: u8) -> bool
     ensures { λ r. ⌜ r ≡ (nodesizeFits nodesize && sharedKind kind) ⌝ }
 {
     if item_list::nodesize_fits(nodesize) {
-        return shared_kind(kind);
+        return backref::shared_kind(kind);
     }
     false
 }

@@ -1,6 +1,5 @@
 // apply_shared_drop.
 use super::Spot;
-use super::adds;
 use super::stand;
 use backref_plan::Plan;
 use format::Edited;
@@ -36,7 +35,7 @@ pub fn apply_shared_drop(
 ) -> Edited
     ensures { λ r. ⌜ Answered (heldSheet (length (now (out .entry))) (applySharedDropTo (now (sheet .entry)) bytenr name count «as_item»)) r (now (out .entry)) (now (out .exit)) ⌝ }
 {
-    let spot = stand::find(sheet, bytenr, adds::shared_kind(name.kind));
+    let spot = stand::find(sheet, bytenr, backref::shared_kind(name.kind));
     match spot {
         Spot::Refused(number) => return Edited::Refused(number),
         Spot::At {

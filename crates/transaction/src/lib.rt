@@ -10,7 +10,6 @@ pub use adds::is_unread;
 pub use adds::limit_for;
 pub use adds::plan_keyed;
 pub use adds::plan_shared;
-pub use adds::shared_kind;
 pub use drops::apply_shared_drop;
 pub use stand::find;
 pub use stand::put_back;

@@ -1,7 +1,7 @@
 use borrow.Author.Tests.{eq-eqb, ne-eqb}
 use Rattle.format.specs.Bodies.{sharedKind}
-use Rattle.backref.proofs.plans.is_shared.Statement.{statement}
-use Rattle.backref.proofs.plans.is_shared.Tie as tie
+use Rattle.backref.proofs.plans.shared_kind.Statement.{statement}
+use Rattle.backref.proofs.plans.shared_kind.Tie as tie
 
 returns : tie.Need-returns
 unfolding sharedKind
@@ -11,5 +11,5 @@ returns-2 : tie.Need-returns-2
 unfolding sharedKind
 returns-2 c = simp (ne-eqb _ _ (c .if1 .left))
 
-pub is-shared-spec : {M : Type 1} → statement M
-is-shared-spec = tie.close (tie.spec returns returns-2)
+pub shared-kind-spec : {M : Type 1} → statement M
+shared-kind-spec = tie.close (tie.spec returns returns-2)
