@@ -16,7 +16,7 @@ use Rattle.backref_plan.specs.declared.plan.Outcome.{Outcome}
 use Rattle.backref_plan.specs.declared.plan.Outcome.the-variants.{Edit, Absent, Remove, Refused}
 use Rattle.backref_plan.specs.declared.plan.Plan.{Plan}
 use Rattle.backref_plan.specs.Plans.{edited, planned, planAnswer, EditIn, within, PlanIn, Planned}
-use Rattle.backref_plan.proofs.Writes.{length-edit, same}
+use Rattle.backref_plan.proofs.Writes.{front-of, length-edit, same}
 
 -- ---- the writer
 
@@ -81,11 +81,8 @@ module _ (p : Plan) (body : List ℕ) where
     abbrev lentNew : List ℕ
     lentNew = part 0 (p .size - 0) (p .new)
 
-    lent-new : lentNew ≡ take (p .size) (p .new)
-    lent-new = let e : p .size - 0 ≡ p .size = omega arith in ap (λ (k : ℕ). take k (p .new)) e
-
     length-lent : length lentNew ≡ p .size
-    length-lent = ap length lent-new ∙ length-take-le (p .size) (p .new) new-in
+    length-lent = ap length (front-of (p .size) (p .new)) ∙ length-take-le (p .size) (p .new) new-in
 
     -- what `put_edit` asks for, and what it wrote
     pub put-asks : (at room : ℕ) → at + (p .from + p .size + (length body - p .to)) ≤ room
@@ -101,7 +98,7 @@ module _ (p : Plan) (body : List ℕ) where
     unfolding edited
     put-edited out new at r e = (
       e .0 ∙ ap (λ (k : ℕ). at + (p .from + k + (length body - p .to))) length-lent,
-      e .1 ∙ ap (λ (l : List ℕ). written at (written 0 (leBytes 8 (p .total)) (spliced (p .from) (p .to) l body)) out) lent-new,
+      e .1 ∙ ap (λ (l : List ℕ). written at (written 0 (leBytes 8 (p .total)) (spliced (p .from) (p .to) l body)) out) (front-of (p .size) (p .new)),
     )
 
     pub same-edited : (out o₁ o₂ o₃ : List ℕ) → p .from + p .size ≡ p .to

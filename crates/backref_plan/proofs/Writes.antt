@@ -3,14 +3,13 @@ use mathlib.Core.Path.{_≡_, refl, sym, ap, ap₂, _∙_}
 use mathlib.Core.List.{List, [], _∷_, _++_, append-assoc}
 use Prim.Native.Nat.{ℕ, _+_, _-_, _≤_}
 use native.Mathlib.Omega.{arith}
-use lib.ListN.{length, take, drop, replicate, length-append, length-drop}
+use lib.ListN.{length, take, drop, replicate, length-append}
 use lib.Seq.{take-add, drop-at, take-append-le, drop-append-le, length-take-le}
 use Rattle.fields.specs.Numbers.{leBytes, wordBytes}
 use Rattle.fields.specs.Parts.{part, written, spliced}
 use Rattle.fields.proofs.Numbers.{length-leBytes}
 use Rattle.fields.proofs.Parts.{part-rest, length-part, length-written, written-pair, written-front, spliced-written}
 use Rattle.format.specs.References.{rowIn, payloadLength, countPosition, counted, ref, refBytes}
-use Rattle.format.specs.Bodies.{one}
 use Rattle.format.specs.declared.DataRef.{DataRef}
 use Rattle.inline_refs.specs.Scans.{kindOf, fieldsOf}
 use Rattle.inline_refs.specs.declared.wanted.Wanted.{Wanted}
@@ -45,6 +44,10 @@ holds (SharedBlock parent) count = record { front = refl; long = refl }
 holds (SharedData parent) count = record { front = refl; long = refl }
 
 -- ---- four writes
+
+-- the first bytes of a list as code lends them, `[0..size]`
+pub front-of : (size : ℕ) (new : List ℕ) → part 0 (size - 0) new ≡ take size new
+front-of size new = let e : size - 0 ≡ size = omega arith in ap (λ (n : ℕ). take n new) e
 
 -- the next piece behind what is written from `at` on
 pub written-then : (a b out one two : List ℕ) (at n : ℕ) → n ≡ at + length a → at + (length a + length b) ≤ length out
