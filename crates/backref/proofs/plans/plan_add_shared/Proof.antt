@@ -10,7 +10,7 @@ returns-2 : tie.Need-returns-2
 returns-2 c = shared-data _ _ _ _ _ (c .before .if2 .taken) (c .plan-add-inline2 .ensures)
 
 returns-3 : tie.Need-returns-3
-returns-3 c = shared-other _ _ _ _ _ (c .before .before .before .if1 .left) (c .before .if2 .left) (c .refuse .ensures)
+returns-3 c = shared-other _ _ _ _ _ (c .before .before .before .if1 .left) (c .before .if2 .left) (c .refuse .ensures .0)
 
 pub plan-add-shared-spec : {M : Type 1} → statement M
 plan-add-shared-spec =

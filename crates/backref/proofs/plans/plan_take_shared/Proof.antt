@@ -10,7 +10,7 @@ returns-2 : tie.Need-returns-2
 returns-2 c = take-data _ _ _ _ (c .before .if2 .taken) (c .plan-take-inline2 .ensures)
 
 returns-3 : tie.Need-returns-3
-returns-3 c = take-other _ _ _ _ (c .before .before .before .if1 .left) (c .before .if2 .left) (c .refuse .ensures)
+returns-3 c = take-other _ _ _ _ (c .before .before .before .if1 .left) (c .before .if2 .left) (c .refuse .ensures .0)
 
 pub plan-take-shared-spec : {M : Type 1} → statement M
 plan-take-shared-spec =
