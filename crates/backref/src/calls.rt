@@ -14,28 +14,28 @@ pub fn raise_total(body: &[u8], amount: u64, out: &mut [u8]) -> Edited
     ensures { λ r. ⌜ Answered (heldBody (length (now (out .entry))) (raiseTotal (now (body .entry)) amount)) r (now (out .entry)) (now (out .exit)) ⌝ }
 {
     let plan = backref_plan::plan_raise_total(body, amount);
-    backref_plan::write_plan(body, plan, out)
+    backref_plan::write_same(body, plan, out)
 }
 
 pub fn lower_total(body: &[u8], out: &mut [u8]) -> Edited
     ensures { λ r. ⌜ Answered (heldBody (length (now (out .entry))) (lowerTotal (now (body .entry)))) r (now (out .entry)) (now (out .exit)) ⌝ }
 {
     let plan = backref_plan::plan_lower_total(body);
-    backref_plan::write_plan(body, plan, out)
+    backref_plan::write_same(body, plan, out)
 }
 
 pub fn reduce_total(body: &[u8], amount: u64, out: &mut [u8]) -> Edited
     ensures { λ r. ⌜ Answered (heldBody (length (now (out .entry))) (reduceTotal (now (body .entry)) amount)) r (now (out .entry)) (now (out .exit)) ⌝ }
 {
     let plan = backref_plan::plan_reduce_total(body, amount);
-    backref_plan::write_plan(body, plan, out)
+    backref_plan::write_same(body, plan, out)
 }
 
 pub fn with_flags(body: &[u8], set: u64, out: &mut [u8]) -> Edited
     ensures { λ r. ⌜ Answered (heldBody (length (now (out .entry))) (withFlags (now (body .entry)) set)) r (now (out .entry)) (now (out .exit)) ⌝ }
 {
     let plan = backref_plan::plan_with_flags(body, set);
-    backref_plan::write_plan(body, plan, out)
+    backref_plan::write_same(body, plan, out)
 }
 
 pub fn drop_inline_tree_ref(item_type: u8, body: &[u8], tree: u64, out: &mut [u8]) -> Edited

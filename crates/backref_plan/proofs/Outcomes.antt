@@ -3,9 +3,10 @@ use mathlib.Core.Path.{_≡_, refl, sym, ap, subst, _∙_}
 use mathlib.Core.List.{List}
 use Prim.Native.Nat.{ℕ, _+_, _-_, _≤_, _<_}
 use native.Mathlib.Omega.{arith}
-use lib.ListN.{length, take, drop}
+use lib.ListN.{length, take}
+use lib.Seq.{length-take-le}
 use Rattle.fields.specs.Numbers.{leBytes}
-use Rattle.fields.specs.Parts.{written}
+use Rattle.fields.specs.Parts.{part, written, spliced}
 use Rattle.format.specs.declared.Edited.{Edited}
 use Rattle.format.specs.declared.Edited.the-variants.{Written, Absent as NoMatch, Remove as Gone, Refused as Denied}
 use Rattle.format.specs.Questions.{Answer, refused, absent, remove, accepted, bind, held, lent, editedOf, Answered}
@@ -15,7 +16,7 @@ use Rattle.backref_plan.specs.declared.plan.Outcome.{Outcome}
 use Rattle.backref_plan.specs.declared.plan.Outcome.the-variants.{Edit, Absent, Remove, Refused}
 use Rattle.backref_plan.specs.declared.plan.Plan.{Plan}
 use Rattle.backref_plan.specs.Plans.{edited, planned, planAnswer, EditIn, within, PlanIn, Planned}
-use Rattle.backref_plan.proofs.Writes.{length-edit, four, same}
+use Rattle.backref_plan.proofs.Writes.{front-of, length-edit, same}
 
 -- ---- the writer
 
@@ -55,7 +56,9 @@ module _ (p : Plan) (body : List ℕ) where
     pub length-edited : length (edited p body) ≡ p .from + p .size + (length body - p .to)
     unfolding edited
     length-edited =
-        length-edit (p .from) (p .to) (p .size) (p .total) (p .new) body body (h .low) (h .order) (h .high) new-in
+        let l : length (take (p .size) (p .new)) ≡ p .size = length-take-le (p .size) (p .new) new-in in
+        length-edit (p .from) (p .to) (p .total) (take (p .size) (p .new)) body (h .low) (h .order) (h .high)
+        ∙ ap (λ (k : ℕ). p .from + k + (length body - p .to)) l
 
     module _ (old : List ℕ) (n : ℕ) (e : n ≡ p .from + p .size + (length body - p .to)) where
       pub edit-no-room : length old < n → Answered (heldBody (length old) (accepted (edited p body))) (Denied 21) old old
@@ -74,19 +77,32 @@ module _ (p : Plan) (body : List ℕ) where
           (held-body (edited p body) (length old) (subst (λ (m : ℕ). m ≤ length old) (e ∙ sym length-edited) k) (subst (λ (m : ℕ). m ≤ 65535) (e ∙ sym length-edited) l))
           w)
 
-    pub four-edited : (out o₁ o₂ o₃ o₄ : List ℕ) → p .from + p .size + (length body - p .to) ≤ length out
-        → o₁ ≡ written 0 (leBytes 8 (p .total)) out
-        → o₂ ≡ written 8 (take (p .from - 8) (drop 8 body)) o₁
-        → o₃ ≡ written (p .from) (take (p .size) (p .new)) o₂
-        → o₄ ≡ written (p .from + p .size) (take (length body - p .to) (drop (p .to) body)) o₃
-        → o₄ ≡ written 0 (edited p body) out
+    -- the new bytes of a plan as the code lends them
+    abbrev lentNew : List ℕ
+    lentNew = part 0 (p .size - 0) (p .new)
+
+    length-lent : length lentNew ≡ p .size
+    length-lent = ap length (front-of (p .size) (p .new)) ∙ length-take-le (p .size) (p .new) new-in
+
+    -- what `put_edit` asks for, and what it wrote
+    pub put-asks : (at room : ℕ) → at + (p .from + p .size + (length body - p .to)) ≤ room
+        → ((8 ≤ p .from) × (p .from ≤ p .to) × (p .to ≤ length body) × (length body ≤ 65535) × (length lentNew ≤ 29)) × (at + (p .from + length lentNew + (length body - p .to)) ≤ room)
+    put-asks at room k =
+        let l = length-lent in
+        let s = h .small in
+        ((h .low, h .order, h .high, h .fits, omega arith), omega arith)
+
+    pub put-edited : (out new : List ℕ) (at r : ℕ)
+        → (r ≡ at + (p .from + length lentNew + (length body - p .to))) × (new ≡ written at (written 0 (leBytes 8 (p .total)) (spliced (p .from) (p .to) lentNew body)) out)
+        → (r ≡ at + (p .from + p .size + (length body - p .to))) × (new ≡ written at (edited p body) out)
     unfolding edited
-    four-edited out o₁ o₂ o₃ o₄ room e₁ e₂ e₃ e₄ =
-        four (p .from) (p .to) (p .size) (p .total) (p .new) body out (h .low) (h .order) (h .high) new-in
-        o₁ o₂ o₃ o₄ room e₁ e₂ e₃ e₄
+    put-edited out new at r e = (
+      e .0 ∙ ap (λ (k : ℕ). at + (p .from + k + (length body - p .to))) length-lent,
+      e .1 ∙ ap (λ (l : List ℕ). written at (written 0 (leBytes 8 (p .total)) (spliced (p .from) (p .to) l body)) out) (front-of (p .size) (p .new)),
+    )
 
     pub same-edited : (out o₁ o₂ o₃ : List ℕ) → p .from + p .size ≡ p .to
-        → o₁ ≡ written 0 (take (length body) body) out
+        → o₁ ≡ written 0 body out
         → o₂ ≡ written (p .from) (take (p .size) (p .new)) o₁
         → o₃ ≡ written 0 (leBytes 8 (p .total)) o₂
         → o₃ ≡ written 0 (edited p body) out
@@ -94,7 +110,23 @@ module _ (p : Plan) (body : List ℕ) where
     same-edited out o₁ o₂ o₃ whole e₁ e₂ e₃ =
         same (p .from) (p .to) (p .size) (p .total) (p .new) body out o₁ o₂ o₃ (h .low) whole (h .high) new-in e₁ e₂ e₃
 
+    -- an edit that keeps the body's length
+    module _ (old : List ℕ) (e : p .from + p .size ≡ p .to) where
+      kept-length : length body ≡ p .from + p .size + (length body - p .to)
+      kept-length = let k = h .high in omega arith
+
+      pub same-no-room : length old < length body → Answered (heldBody (length old) (accepted (edited p body))) (Denied 21) old old
+      same-no-room k = edit-no-room old (length body) kept-length k
+
+      pub same-written : (new : List ℕ) → length body ≤ length old → new ≡ written 0 (edited p body) old
+          → Answered (heldBody (length old) (accepted (edited p body))) (Written (length body)) old new
+      same-written new k w = edit-written old (length body) kept-length new k (h .fits) w
+
 -- ---- the contract of a plan, by its outcome
+
+-- a plan that is another keeps the length if that one does
+pub keeps-length : {p q : Plan} → p ≡ q → q .from + q .size ≡ q .to → p .from + p .size ≡ p .to
+keeps-length e h = subst (λ (x : Plan). x .from + x .size ≡ x .to) (sym e) h
 
 module _ (p : Plan) (body : List ℕ) (answer : Answer (List ℕ)) where
   pub plan-edit : (bytes : List ℕ) → p .outcome ≡ Edit → EditIn p body → answer ≡ accepted bytes → bytes ≡ edited p body → Planned p body answer

@@ -1,16 +1,15 @@
--- Laws of planned edits: the bytes of a new reference, and four writes from left to right as one edit. Assumes nothing.
+-- Laws of planned edits: the bytes of a new reference, and four writes one after the other as one edit. Assumes nothing.
 use mathlib.Core.Path.{_≡_, refl, sym, ap, ap₂, _∙_}
 use mathlib.Core.List.{List, [], _∷_, _++_, append-assoc}
 use Prim.Native.Nat.{ℕ, _+_, _-_, _≤_}
 use native.Mathlib.Omega.{arith}
-use lib.ListN.{length, take, drop, replicate, length-append, length-drop}
+use lib.ListN.{length, take, drop, replicate, length-append}
 use lib.Seq.{take-add, drop-at, take-append-le, drop-append-le, length-take-le}
 use Rattle.fields.specs.Numbers.{leBytes, wordBytes}
 use Rattle.fields.specs.Parts.{part, written, spliced}
 use Rattle.fields.proofs.Numbers.{length-leBytes}
-use Rattle.fields.proofs.Parts.{part-all, part-rest, length-part, length-written, written-next, written-front, spliced-written}
+use Rattle.fields.proofs.Parts.{part-rest, length-part, length-written, written-pair, written-front, spliced-written}
 use Rattle.format.specs.References.{rowIn, payloadLength, countPosition, counted, ref, refBytes}
-use Rattle.format.specs.Bodies.{one}
 use Rattle.format.specs.declared.DataRef.{DataRef}
 use Rattle.inline_refs.specs.Scans.{kindOf, fieldsOf}
 use Rattle.inline_refs.specs.declared.wanted.Wanted.{Wanted}
@@ -46,68 +45,91 @@ holds (SharedData parent) count = record { front = refl; long = refl }
 
 -- ---- four writes
 
-module _ (from to size total : ℕ) (new body out : List ℕ) (low : 8 ≤ from) (order : from ≤ to) (high : to ≤ length body) (full : size ≤ length new) where
-  abbrev parts : List ℕ
-  parts = ((leBytes 8 total ++ part 8 (from - 8) body) ++ take size new) ++ drop to body
+-- the first bytes of a list as code lends them, `[0..size]`
+pub front-of : (size : ℕ) (new : List ℕ) → part 0 (size - 0) new ≡ take size new
+front-of size new = let e : size - 0 ≡ size = omega arith in ap (λ (n : ℕ). take n new) e
 
-  pub parts-edit : written 0 (leBytes 8 total) (spliced from to (take size new) body) ≡ parts
+-- the next piece behind what is written from `at` on
+pub written-then : (a b out one two : List ℕ) (at n : ℕ) → n ≡ at + length a → at + (length a + length b) ≤ length out
+    → one ≡ written at a out
+    → two ≡ written n b one
+    → two ≡ written at (a ++ b) out
+written-then a b out one two at n e h e₁ e₂ =
+    written-pair at (length a) (length b) a b out one two refl refl h e₁ (e₂ ∙ ap (λ (k : ℕ). written k b one) e)
+
+module _ (from to total : ℕ) (new body : List ℕ) (low : 8 ≤ from) (order : from ≤ to) (high : to ≤ length body) where
+  abbrev kept : List ℕ
+  kept = part 8 (from - 8) body
+
+  abbrev rest : List ℕ
+  rest = part to (length body - to) body
+
+  abbrev whole : List ℕ
+  whole = written 0 (leBytes 8 total) (spliced from to new body)
+
+  length-kept : length kept ≡ from - 8
+  length-kept = let h : 8 + (from - 8) ≤ length body = omega arith in length-part (from - 8) 8 body h
+
+  length-rest : length rest ≡ length body - to
+  length-rest = let h : to + (length body - to) ≤ length body = omega arith in length-part (length body - to) to body h
+
+  pub parts-edit : whole ≡ ((leBytes 8 total ++ kept) ++ new) ++ rest
   parts-edit =
-      let b : List ℕ = part 8 (from - 8) body in
       let e : 8 + (from - 8) ≡ from = omega arith in
       let t8 : length (take 8 body) ≡ 8 = length-take-le 8 body (omega arith) in
-      let split : take from body ≡ take 8 body ++ part 8 (from - 8) body = ap (λ (k : ℕ). take k body) (sym e) ∙ take-add 8 (from - 8) body in
+      let split : take from body ≡ take 8 body ++ kept = ap (λ (k : ℕ). take k body) (sym e) ∙ take-add 8 (from - 8) body in
       let n₁ : 8 ≤ length (take from body) = omega (arith, length-take-le from body (omega arith)) in
-      let n₂ : 8 ≤ length (take from body ++ take size new) = omega (arith, length-append (take from body) (take size new)) in
-      written-front (leBytes 8 total) (spliced from to (take size new) body)
-      ∙ ap (λ (k : ℕ). leBytes 8 total ++ drop k (spliced from to (take size new) body)) (length-leBytes 8 total)
+      let n₂ : 8 ≤ length (take from body ++ new) = omega (arith, length-append (take from body) new) in
+      written-front (leBytes 8 total) (spliced from to new body)
+      ∙ ap (λ (k : ℕ). leBytes 8 total ++ drop k (spliced from to new body)) (length-leBytes 8 total)
       ∙ ap (λ (l : List ℕ). leBytes 8 total ++ l)
-      (drop-append-le 8 (take from body ++ take size new) (drop to body) n₂
+      (drop-append-le 8 (take from body ++ new) (drop to body) n₂
       ∙ ap (λ (l : List ℕ). l ++ drop to body)
-      (drop-append-le 8 (take from body) (take size new) n₁
-      ∙ ap (λ (l : List ℕ). drop 8 l ++ take size new) split
-      ∙ ap (λ (l : List ℕ). l ++ take size new) (drop-at (take 8 body) b 8 t8)))
-      ∙ sym (append-assoc (leBytes 8 total) (b ++ take size new) (drop to body))
-      ∙ ap (λ (l : List ℕ). l ++ drop to body) (sym (append-assoc (leBytes 8 total) b (take size new)))
+      (drop-append-le 8 (take from body) new n₁
+      ∙ ap (λ (l : List ℕ). drop 8 l ++ new) split
+      ∙ ap (λ (l : List ℕ). l ++ new) (drop-at (take 8 body) kept 8 t8)))
+      ∙ sym (append-assoc (leBytes 8 total) (kept ++ new) (drop to body))
+      ∙ ap₂ (λ (l r : List ℕ). l ++ r) (sym (append-assoc (leBytes 8 total) kept new)) (sym (part-rest to body))
 
-  pub length-edit : length (written 0 (leBytes 8 total) (spliced from to (take size new) body)) ≡ from + size + (length body - to)
+  pub length-edit : length whole ≡ from + length new + (length body - to)
   length-edit =
-      let h : 8 + (from - 8) ≤ length body = omega arith in
       ap length parts-edit
       ∙ omega (
         arith,
-        length-append ((leBytes 8 total ++ part 8 (from - 8) body) ++ take size new) (drop to body),
-        length-append (leBytes 8 total ++ part 8 (from - 8) body) (take size new),
-        length-append (leBytes 8 total) (part 8 (from - 8) body),
+        length-append ((leBytes 8 total ++ kept) ++ new) rest,
+        length-append (leBytes 8 total ++ kept) new,
+        length-append (leBytes 8 total) kept,
         length-leBytes 8 total,
-        length-part (from - 8) 8 body h,
-        length-take-le size new full,
-        length-drop to body,
+        length-kept,
+        length-rest,
       )
 
-  pub four : (o₁ o₂ o₃ o₄ : List ℕ) → from + size + (length body - to) ≤ length out
-      → o₁ ≡ written 0 (leBytes 8 total) out
-      → o₂ ≡ written 8 (part 8 (from - 8) body) o₁
-      → o₃ ≡ written from (part 0 size new) o₂
-      → o₄ ≡ written (from + size) (part to (length body - to) body) o₃
-      → o₄ ≡ written 0 (written 0 (leBytes 8 total) (spliced from to (take size new) body)) out
-  four o₁ o₂ o₃ o₄ room e₁ e₂ e₃ e₄ =
+  -- as four calls in a row leave it: where each ends and what it wrote
+  pub four : (out o₁ o₂ o₃ o₄ : List ℕ) (at r₂ r₃ r₄ : ℕ) → at + (from + length new + (length body - to)) ≤ length out
+      → o₁ ≡ written at (leBytes 8 total) out
+      → (r₂ ≡ at + 8 + length kept) × (o₂ ≡ written (at + 8) kept o₁)
+      → (r₃ ≡ r₂ + length new) × (o₃ ≡ written r₂ new o₂)
+      → (r₄ ≡ r₃ + length rest) × (o₄ ≡ written r₃ rest o₃)
+      → (r₄ ≡ at + (from + length new + (length body - to))) × (o₄ ≡ written at whole out)
+  four out o₁ o₂ o₃ o₄ at r₂ r₃ r₄ room e₁ e₂ e₃ e₄ =
       let a : List ℕ = leBytes 8 total in
-      let b : List ℕ = part 8 (from - 8) body in
-      let c : List ℕ = take size new in
-      let h : 8 + (from - 8) ≤ length body = omega arith in
       let la : length a ≡ 8 = length-leBytes 8 total in
-      let lb : length b ≡ from - 8 = length-part (from - 8) 8 body h in
-      let lc : length c ≡ size = length-take-le size new full in
-      let lab : length (a ++ b) ≡ from = omega (arith, length-append a b) in
-      let labc : length ((a ++ b) ++ c) ≡ from + size = omega (arith, length-append (a ++ b) c) in
-      let r₁ : 8 + length b ≤ length out = omega arith in
-      let r₂ : from + length c ≤ length out = omega arith in
-      let r₃ : from + size + length (drop to body) ≤ length out = simp length-drop room in
-      e₄ ∙ ap (λ (l : List ℕ). written (from + size) l o₃) (part-rest to body)
-      ∙ ap (written (from + size) (drop to body)) (e₃ ∙ ap (written from c) (e₂ ∙ ap (written 8 b) e₁ ∙ written-next a b out 8 la r₁)
-      ∙ written-next (a ++ b) c out from lab r₂)
-      ∙ written-next ((a ++ b) ++ c) (drop to body) out (from + size) labc r₃
-      ∙ ap (λ (l : List ℕ). written 0 l out) (sym parts-edit)
+      let lb = length-kept in
+      let ld = length-rest in
+      let lab : length (a ++ kept) ≡ from = length-append a kept ∙ omega (arith, la, lb, low) in
+      let labc : length ((a ++ kept) ++ new) ≡ from + length new = length-append (a ++ kept) new ∙ omega (arith, lab) in
+      let n₁ : at + 8 ≡ at + length a = omega (arith, la) in
+      let n₂ : r₂ ≡ at + length (a ++ kept) = omega (arith, lab, lb, e₂ .0, low) in
+      let n₃ : r₃ ≡ at + length ((a ++ kept) ++ new) = omega (arith, labc, lb, e₂ .0, e₃ .0, low) in
+      let h₁ : at + (length a + length kept) ≤ length out = omega (arith, la, lb, low, room) in
+      let h₂ : at + (length (a ++ kept) + length new) ≤ length out = omega (arith, lab, room) in
+      let h₃ : at + (length ((a ++ kept) ++ new) + length rest) ≤ length out = omega (arith, labc, ld, room) in
+      let w₂ : o₂ ≡ written at (a ++ kept) out = written-then a kept out o₁ o₂ at (at + 8) n₁ h₁ e₁ (e₂ .1) in
+      let w₃ : o₃ ≡ written at ((a ++ kept) ++ new) out = written-then (a ++ kept) new out o₂ o₃ at r₂ n₂ h₂ w₂ (e₃ .1) in
+      let w₄ : o₄ ≡ written at (((a ++ kept) ++ new) ++ rest) out = written-then ((a ++ kept) ++ new) rest out o₃ o₄ at r₃ n₃ h₃ w₃ (e₄ .1) in (
+        omega (arith, lb, ld, e₂ .0, e₃ .0, e₄ .0, low),
+        w₄ ∙ ap (λ (l : List ℕ). written at l out) (sym parts-edit),
+      )
 
 pub wanted-small : (w : Wanted) (size : ℕ) → size ≡ 1 + payloadLength (kindOf w) → size ≤ 29
 unfolding kindOf payloadLength rowIn
@@ -130,7 +152,7 @@ written-within at x body out h =
     ∙ sym (written-front (written at x body) out)
 
 pub same : (from to size total : ℕ) (new body out o₁ o₂ o₃ : List ℕ) → 8 ≤ from → from + size ≡ to → to ≤ length body → size ≤ length new
-    → o₁ ≡ written 0 (part 0 (length body) body) out
+    → o₁ ≡ written 0 body out
     → o₂ ≡ written from (take size new) o₁
     → o₃ ≡ written 0 (leBytes 8 total) o₂
     → o₃ ≡ written 0 (written 0 (leBytes 8 total) (spliced from to (take size new) body)) out
@@ -141,6 +163,6 @@ same from to size total new body out o₁ o₂ o₃ low whole high full e₁ e�
     let kept : length (written from n body) ≡ length body = length-written from n body inside in
     let head : 0 + length (leBytes 8 total) ≤ length (written from n body) = omega (arith, length-leBytes 8 total, kept) in
     e₃
-    ∙ ap (written 0 (leBytes 8 total)) (e₂ ∙ ap (written from n) (e₁ ∙ ap (λ (l : List ℕ). written 0 l out) (part-all (length body) body refl)) ∙ written-within from n body out inside)
+    ∙ ap (written 0 (leBytes 8 total)) (e₂ ∙ ap (written from n) e₁ ∙ written-within from n body out inside)
     ∙ written-within 0 (leBytes 8 total) (written from n body) out head
     ∙ ap (λ (l : List ℕ). written 0 (written 0 (leBytes 8 total) l) out) (sym (spliced-written from to n body (omega arith)))

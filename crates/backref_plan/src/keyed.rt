@@ -6,6 +6,7 @@ use crate::plan::refuse;
 use crate::plan::without;
 use format::DataRef;
 ghost use mathlib.Core.Path.{_≡_};
+ghost use Prim.Native.Nat.{_+_};
 ghost use lib.ListN.{replicate};
 ghost use Rattle.fields.specs.Numbers.{leBytes};
 ghost use Rattle.fields.specs.Parts.{written};
@@ -24,6 +25,7 @@ fn count_bytes(count: u32) -> [u8; 32]
 // One count off the item; at count 1 the item goes. Its first eight bytes stay, as a body's total would.
 pub fn plan_drop_keyed(item: &[u8], name: DataRef) -> Plan
     ensures { λ r. ⌜ Planned r (now (item .entry)) (dropKeyedDataRef (now (item .entry)) name) ⌝ }
+    ensures { λ r. ⌜ r .from + r .size ≡ r .to ⌝ }
 {
     if 65535 < item.len() {
         return refuse(3);

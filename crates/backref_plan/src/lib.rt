@@ -23,5 +23,7 @@ pub use totals::plan_raise_total;
 pub use totals::plan_reduce_total;
 pub use totals::plan_with_flags;
 pub use write::plan_length;
+pub use write::put_edit;
 pub use write::write_plan;
+pub use write::write_same;
 pub use write::write_taken;

@@ -1,5 +1,6 @@
 // Planned edits of a body: an edit is planned first and written later, so that a call on a sheet needs no second buffer.
 ghost use mathlib.Core.Path.{_≡_};
+ghost use Prim.Native.Nat.{_+_};
 ghost use Rattle.backref_plan.specs.Plans.{planned};
 
 pub enum Outcome {
@@ -25,6 +26,7 @@ pub struct Plan {
 // No edit.
 pub fn without(outcome: Outcome) -> Plan
     ensures { λ r. ⌜ r .outcome ≡ outcome ⌝ }
+    ensures { λ r. ⌜ r .from + r .size ≡ r .to ⌝ }
 {
     Plan {
         outcome,
@@ -39,6 +41,7 @@ pub fn without(outcome: Outcome) -> Plan
 
 pub fn refuse(number: u32) -> Plan
     ensures { λ r. ⌜ r .outcome ≡ Outcome.Refused number ⌝ }
+    ensures { λ r. ⌜ r .from + r .size ≡ r .to ⌝ }
 {
     without(Outcome::Refused(number))
 }

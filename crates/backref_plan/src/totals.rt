@@ -4,6 +4,7 @@ use crate::plan::Plan;
 use crate::plan::edit;
 use crate::plan::refuse;
 ghost use mathlib.Core.Path.{_≡_};
+ghost use Prim.Native.Nat.{_+_};
 ghost use lib.ListN.{replicate};
 ghost use Rattle.fields.specs.Numbers.{leBytes};
 ghost use Rattle.fields.specs.Parts.{written};
@@ -33,6 +34,7 @@ fn set_total(total: u64) -> Plan
 
 pub fn plan_raise_total(body: &[u8], amount: u64) -> Plan
     ensures { λ r. ⌜ Planned r (now (body .entry)) (raiseTotal (now (body .entry)) amount) ⌝ }
+    ensures { λ r. ⌜ r .from + r .size ≡ r .to ⌝ }
 {
     let fault = head_fault(body);
     if fault != 0 {
@@ -47,6 +49,7 @@ pub fn plan_raise_total(body: &[u8], amount: u64) -> Plan
 
 pub fn plan_lower_total(body: &[u8]) -> Plan
     ensures { λ r. ⌜ Planned r (now (body .entry)) (lowerTotal (now (body .entry))) ⌝ }
+    ensures { λ r. ⌜ r .from + r .size ≡ r .to ⌝ }
 {
     let fault = head_fault(body);
     if fault != 0 {
@@ -61,6 +64,7 @@ pub fn plan_lower_total(body: &[u8]) -> Plan
 
 pub fn plan_reduce_total(body: &[u8], amount: u64) -> Plan
     ensures { λ r. ⌜ Planned r (now (body .entry)) (reduceTotal (now (body .entry)) amount) ⌝ }
+    ensures { λ r. ⌜ r .from + r .size ≡ r .to ⌝ }
 {
     let fault = head_fault(body);
     if fault != 0 {
@@ -84,6 +88,7 @@ fn word_bytes(word: u64) -> [u8; 32]
 
 pub fn plan_with_flags(body: &[u8], set: u64) -> Plan
     ensures { λ r. ⌜ Planned r (now (body .entry)) (withFlags (now (body .entry)) set) ⌝ }
+    ensures { λ r. ⌜ r .from + r .size ≡ r .to ⌝ }
 {
     let fault = head_fault(body);
     if fault != 0 {

@@ -7,10 +7,8 @@ use native.Mathlib.Omega.{arith}
 use lib.ListN.{length, take, drop, length-append, length-drop}
 use lib.Seq.{length-take-le, take-add, take-append-le, take-take, drop-at, drop-append-le}
 use borrow.Author.Tests.{le-leb, lt-leb}
-use Rattle.fields.specs.Numbers.{leBytes}
 use Rattle.fields.specs.Parts.{part, written, spliced}
-use Rattle.fields.proofs.Numbers.{length-leBytes}
-use Rattle.fields.proofs.Parts.{part-rest, length-part, written-pair, length-spliced}
+use Rattle.fields.proofs.Parts.{part-rest, length-part, length-spliced}
 use Rattle.format.specs.declared.Key.{Key}
 use Rattle.format.specs.declared.Edited.{Edited}
 use Rattle.format.specs.declared.Edited.the-variants.{Written, Absent as NoMatch, Remove as Gone, Refused as Denied}
@@ -24,68 +22,15 @@ use Rattle.item_list.proofs.Steps.{and-false}
 use Rattle.backref_plan.specs.declared.plan.Outcome.the-variants.{Edit, Absent, Remove, Refused}
 use Rattle.backref_plan.specs.declared.plan.Plan.{Plan}
 use Rattle.backref_plan.specs.Plans.{edited, planned, planAnswer, EditIn}
-use Rattle.backref_plan.proofs.Writes.{parts-edit}
+use Rattle.backref_plan.proofs.Writes.{front-of, written-then}
 use Rattle.backref_plan.proofs.Outcomes.{plan-is, length-edited}
 use Rattle.record_edit.specs.declared.Behind.{Behind}
 use Rattle.record_edit.specs.declared.Record.{Record}
 use Rattle.record_edit.specs.Records.{dataOf, editLength, BehindIn, restOf, restLength, sheetLength, editedSheet, heldRecord, heldEdit}
 
--- ---- pieces one after the other
-
--- the next piece behind what is written from `at` on
-pub written-then : (a b out one two : List ℕ) (at n : ℕ) → n ≡ at + length a → at + (length a + length b) ≤ length out
-    → one ≡ written at a out
-    → two ≡ written n b one
-    → two ≡ written at (a ++ b) out
-written-then a b out one two at n e h e₁ e₂ =
-    written-pair at (length a) (length b) a b out one two refl refl h e₁ (e₂ ∙ ap (λ (k : ℕ). written k b one) e)
-
-front-of : (size : ℕ) (new : List ℕ) → part 0 (size - 0) new ≡ take size new
-front-of size new = let e : size - 0 ≡ size = omega arith in ap (λ (n : ℕ). take n new) e
-
 -- ---- a planned body
 
 module _ (p : Plan) (body : List ℕ) (h : EditIn p body) where
-  size-in : p .size ≤ length (p .new)
-  size-in = let s = h .small in let f = h .full in omega arith
-
-  pub edit-writes : (out o₁ o₂ o₃ o₄ : List ℕ) (at r₂ r₃ r₄ : ℕ) → at + editLength p (length body) ≤ length out
-      → o₁ ≡ written at (leBytes 8 (p .total)) out
-      → (r₂ ≡ at + 8 + (p .from - 8)) × (o₂ ≡ written (at + 8) (part 8 (p .from - 8) body) o₁)
-      → (r₃ ≡ r₂ + (p .size - 0)) × (o₃ ≡ written r₂ (part 0 (p .size - 0) (p .new)) o₂)
-      → (r₄ ≡ r₃ + (length body - p .to)) × (o₄ ≡ written r₃ (part (p .to) (length body - p .to) body) o₃)
-      → (r₄ ≡ at + editLength p (length body)) × (o₄ ≡ written at (edited p body) out)
-  unfolding edited
-  edit-writes out o₁ o₂ o₃ o₄ at r₂ r₃ r₄ room e₁ e₂ e₃ e₄ =
-      let low = h .low in
-      let order = h .order in
-      let high = h .high in
-      let a : List ℕ = leBytes 8 (p .total) in
-      let b : List ℕ = part 8 (p .from - 8) body in
-      let c : List ℕ = take (p .size) (p .new) in
-      let d : List ℕ = drop (p .to) body in
-      let k : 8 + (p .from - 8) ≤ length body = omega arith in
-      let la : length a ≡ 8 = length-leBytes 8 (p .total) in
-      let lb : length b ≡ p .from - 8 = length-part (p .from - 8) 8 body k in
-      let lc : length c ≡ p .size = length-take-le (p .size) (p .new) size-in in
-      let ld : length d ≡ length body - p .to = length-drop (p .to) body in
-      let lab : length (a ++ b) ≡ p .from = length-append a b ∙ omega (arith, la, lb, low) in
-      let labc : length ((a ++ b) ++ c) ≡ p .from + p .size = length-append (a ++ b) c ∙ omega (arith, lab, lc) in
-      let n₁ : at + 8 ≡ at + length a = omega (arith, la) in
-      let n₂ : r₂ ≡ at + length (a ++ b) = omega (arith, lab, e₂ .0, low) in
-      let n₃ : r₃ ≡ at + length ((a ++ b) ++ c) = omega (arith, labc, e₂ .0, e₃ .0, low) in
-      let h₁ : at + (length a + length b) ≤ length out = omega (arith, la, lb, low, room) in
-      let h₂ : at + (length (a ++ b) + length c) ≤ length out = omega (arith, lab, lc, room) in
-      let h₃ : at + (length ((a ++ b) ++ c) + length d) ≤ length out = omega (arith, labc, ld, room) in
-      let w₂ : o₂ ≡ written at (a ++ b) out = written-then a b out o₁ o₂ at (at + 8) n₁ h₁ e₁ (e₂ .1) in
-      let w₃ : o₃ ≡ written at ((a ++ b) ++ c) out =
-      written-then (a ++ b) c out o₂ o₃ at r₂ n₂ h₂ w₂ (e₃ .1 ∙ ap (λ (l : List ℕ). written r₂ l o₂) (front-of (p .size) (p .new))) in
-      let w₄ : o₄ ≡ written at (((a ++ b) ++ c) ++ d) out =
-      written-then ((a ++ b) ++ c) d out o₃ o₄ at r₃ n₃ h₃ w₃ (e₄ .1 ∙ ap (λ (l : List ℕ). written r₃ l o₃) (part-rest (p .to) body)) in (
-        omega (arith, e₂ .0, e₃ .0, e₄ .0, low),
-        w₄ ∙ ap (λ (l : List ℕ). written at l out) (sym (parts-edit (p .from) (p .to) (p .size) (p .total) (p .new) body body low order high size-in)),
-      )
-
   abbrev item : Key → Item
   item key = record { key = key; bytes = edited p body }
 

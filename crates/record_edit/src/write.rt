@@ -22,10 +22,8 @@ fn append_edit(body: &[u8], plan: Plan, out: &mut [u8], at: usize) -> usize
     ensures { λ r. ⌜ (r ≡ at + editLength plan (length (now (body .entry)))) × (now (out .exit) ≡ written at (edited plan (now (body .entry))) (now (out .entry))) ⌝ }
 {
     let new = plan.new;
-    fields::put_u64_le(out, at, plan.total);
-    let one = item_write::append(body, 8, plan.from, out, at + 8);
-    let two = item_write::append(&new, 0, plan.size, out, one);
-    item_write::append(body, plan.to, body.len(), out, two)
+    let size = plan.size;
+    backref_plan::put_edit(body, plan.from, plan.to, &new[0..size], plan.total, out, at)
 }
 
 // All up to the end of the record, with its planned body.

@@ -6,7 +6,7 @@ use Rattle.backref.proofs.calls.raise_total.Tie as tie
 returns : tie.Need-returns
 returns c =
     let write = c .before .before in
-    answered _ (write .before .before .plan-raise-total .ensures) (write .write-plan .ensures)
+    answered _ (write .before .before .plan-raise-total .ensures .0) (write .write-same .ensures)
 
 pub raise-total-spec : {M : Type 1} → statement M
 raise-total-spec =

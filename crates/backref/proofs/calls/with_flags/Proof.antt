@@ -6,7 +6,7 @@ use Rattle.backref.proofs.calls.with_flags.Tie as tie
 returns : tie.Need-returns
 returns c =
     let write = c .before .before in
-    answered _ (write .before .before .plan-with-flags .ensures) (write .write-plan .ensures)
+    answered _ (write .before .before .plan-with-flags .ensures .0) (write .write-same .ensures)
 
 pub with-flags-spec : {M : Type 1} → statement M
 with-flags-spec =

@@ -6,7 +6,7 @@ use Rattle.backref.proofs.keyed.drop_keyed_data_ref.Tie as tie
 returns : tie.Need-returns
 returns c =
     let write = c .before .before in
-    answered _ (write .before .before .plan-drop-keyed .ensures) (write .write-plan .ensures)
+    answered _ (write .before .before .plan-drop-keyed .ensures .0) (write .write-same .ensures)
 
 pub drop-keyed-data-ref-spec : {M : Type 1} → statement M
 drop-keyed-data-ref-spec =

@@ -14,7 +14,7 @@ returns c =
     shared-is _ _ _ _ _ (sym (wanted .before .before .shared-kind .ensures) ∙ wanted .before .if1 .taken) (wanted .wanted-of .ensures) _ (c .plan-add-inline .ensures)
 
 returns-2 : tie.Need-returns-2
-returns-2 c = shared-other _ _ _ _ (sym (c .before .before .shared-kind .ensures) ∙ c .before .if1 .left) (c .refuse .ensures) _
+returns-2 c = shared-other _ _ _ _ (sym (c .before .before .shared-kind .ensures) ∙ c .before .if1 .left) (c .refuse .ensures .0) _
 
 pub plan-add-shared-spec : {M : Type 1} → statement M
 plan-add-shared-spec =

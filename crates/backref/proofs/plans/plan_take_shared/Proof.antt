@@ -14,7 +14,7 @@ returns c =
     take-is _ _ _ _ _ (sym (wanted .before .before .shared-kind .ensures) ∙ wanted .before .if1 .taken) (wanted .wanted-of .ensures) (c .plan-take-inline .ensures)
 
 returns-2 : tie.Need-returns-2
-returns-2 c = take-other _ _ _ _ (sym (c .before .before .shared-kind .ensures) ∙ c .before .if1 .left) (c .refuse .ensures)
+returns-2 c = take-other _ _ _ _ (sym (c .before .before .shared-kind .ensures) ∙ c .before .if1 .left) (c .refuse .ensures .0)
 
 pub plan-take-shared-spec : {M : Type 1} → statement M
 plan-take-shared-spec =

@@ -4,7 +4,7 @@ use Rattle.backref_plan.proofs.adds.edit_raised.Statement.{statement}
 use Rattle.backref_plan.proofs.adds.edit_raised.Tie as tie
 
 returns : tie.Need-returns
-returns c = raise-full (c .before .if1 .taken) (c .refuse .ensures)
+returns c = raise-full (c .before .if1 .taken) (c .refuse .ensures .0)
 
 returns-2 : tie.Need-returns-2
 returns-2 c =

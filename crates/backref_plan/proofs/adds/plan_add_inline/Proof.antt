@@ -30,7 +30,7 @@ returns c =
     let r = scan-reads (a .item-type) (now (a .body)) (a .wanted) _ _ (sym (seen .seen .given .1) ∙ scan .scan-to-add .ensures) in
     let bytes = areBytes-in (now (a .body)) (λ i. scan .before .shared-slice-known .given i .fits) in
     give-ten (a .item-type) (now (a .body)) (a .wanted) _ (a .amount) (a .by-scan) _ _ r bytes refl _ (sym (c .before .before .before .before .at .given .1) ∙ site .site-of .ensures)
-    (sym (c .before .before .may-add .ensures) ∙ not-true _ (c .before .if1 .taken)) (c .refuse2 .ensures)
+    (sym (c .before .before .may-add .ensures) ∙ not-true _ (c .before .if1 .taken)) (c .refuse2 .ensures .0)
 
 returns-2 : tie.Need-returns-2
 unfolding ownPlace
@@ -43,7 +43,7 @@ returns-2 c =
     let r = scan-reads (a .item-type) (now (a .body)) (a .wanted) _ _ (sym (seen .seen .given .1) ∙ scan .scan-to-add .ensures) in
     let bytes = areBytes-in (now (a .body)) (λ i. scan .before .shared-slice-known .given i .fits) in
     give-nine (a .item-type) (now (a .body)) (a .wanted) _ (a .amount) (a .by-scan) _ _ r bytes refl _ _ _ (sym (c .before .before .before .before .at2 .given .1) ∙ site .site-of .ensures)
-    (sym (c .before .before .counts .ensures) ∙ not-true _ (c .before .if2 .taken)) (c .refuse3 .ensures)
+    (sym (c .before .before .counts .ensures) ∙ not-true _ (c .before .if2 .taken)) (c .refuse3 .ensures .0)
 
 returns-3 : tie.Need-returns-3
 unfolding ownPlace
@@ -56,13 +56,13 @@ returns-3 c =
     let r = scan-reads (a .item-type) (now (a .body)) (a .wanted) _ _ (sym (seen .seen .given .1) ∙ scan .scan-to-add .ensures) in
     let bytes = areBytes-in (now (a .body)) (λ i. scan .before .shared-slice-known .given i .fits) in
     give-eleven (a .item-type) (now (a .body)) (a .wanted) _ (a .amount) (a .by-scan) _ _ r bytes refl _ _ _ (sym (c .before .before .before .before .before .at2 .given .1) ∙ site .site-of .ensures)
-    (sym (c .before .before .before .counts .ensures) ∙ not-false _ (c .before .before .if2 .left)) (c .before .if3 .taken) (c .refuse4 .ensures)
+    (sym (c .before .before .before .counts .ensures) ∙ not-false _ (c .before .before .if2 .left)) (c .before .if3 .taken) (c .refuse4 .ensures .0)
 
 returns-4 : tie.Need-returns-4
 returns-4 c =
     let scan = c .before .before .before .before in
     let a = scan .before .before .args in
-    give-fault (a .item-type) (now (a .body)) (a .wanted) _ (a .amount) _ (a .by-scan) _ (sym (c .before .before .number .given .1) ∙ scan .scan-to-add .ensures) (c .refuse .ensures)
+    give-fault (a .item-type) (now (a .body)) (a .wanted) _ (a .amount) _ (a .by-scan) _ (sym (c .before .before .number .given .1) ∙ scan .scan-to-add .ensures) (c .refuse .ensures .0)
 
 returns-5 : tie.Need-returns-5
 unfolding ownPlace

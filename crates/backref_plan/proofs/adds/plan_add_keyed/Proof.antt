@@ -28,7 +28,7 @@ returns c =
     let r = scan-reads (a .item-type) (now (a .body)) (a .wanted) (a .place) _ (sym (seen .seen .given .1) ∙ scan .scan-body .ensures) in
     let bytes = areBytes-in (now (a .body)) (λ i. scan .before .shared-slice-known .given i .fits) in
     key-ten (a .item-type) (now (a .body)) (a .wanted) (a .place) (a .amount) _ _ r bytes _ (sym (c .before .before .before .before .before .at .given .1) ∙ site .site-anywhere .ensures)
-    _ (c .before .before .before .any-kin .ensures) (sym (c .before .before .may-key .ensures) ∙ not-true _ (c .before .if1 .taken)) (c .refuse2 .ensures)
+    _ (c .before .before .before .any-kin .ensures) (sym (c .before .before .may-key .ensures) ∙ not-true _ (c .before .if1 .taken)) (c .refuse2 .ensures .0)
 
 returns-2 : tie.Need-returns-2
 returns-2 c =
@@ -40,7 +40,7 @@ returns-2 c =
     let r = scan-reads (a .item-type) (now (a .body)) (a .wanted) (a .place) _ (sym (seen .seen .given .1) ∙ scan .scan-body .ensures) in
     let bytes = areBytes-in (now (a .body)) (λ i. scan .before .shared-slice-known .given i .fits) in
     key-nine (a .item-type) (now (a .body)) (a .wanted) (a .place) (a .amount) _ _ r bytes _ _ _ (sym (c .before .before .before .before .at2 .given .1) ∙ site .site-anywhere .ensures)
-    (sym (c .before .before .counts .ensures) ∙ not-true _ (c .before .if2 .taken)) (c .refuse3 .ensures)
+    (sym (c .before .before .counts .ensures) ∙ not-true _ (c .before .if2 .taken)) (c .refuse3 .ensures .0)
 
 returns-3 : tie.Need-returns-3
 returns-3 c =
@@ -52,13 +52,13 @@ returns-3 c =
     let r = scan-reads (a .item-type) (now (a .body)) (a .wanted) (a .place) _ (sym (seen .seen .given .1) ∙ scan .scan-body .ensures) in
     let bytes = areBytes-in (now (a .body)) (λ i. scan .before .shared-slice-known .given i .fits) in
     key-eleven (a .item-type) (now (a .body)) (a .wanted) (a .place) (a .amount) _ _ r bytes _ _ _ (sym (c .before .before .before .before .before .at2 .given .1) ∙ site .site-anywhere .ensures)
-    (sym (c .before .before .before .counts .ensures) ∙ not-false _ (c .before .before .if2 .left)) (c .before .if3 .taken) (c .refuse4 .ensures)
+    (sym (c .before .before .before .counts .ensures) ∙ not-false _ (c .before .before .if2 .left)) (c .before .if3 .taken) (c .refuse4 .ensures .0)
 
 returns-4 : tie.Need-returns-4
 returns-4 c =
     let scan = c .before .before .before .before in
     let a = scan .before .before .args in
-    key-fault (a .item-type) (now (a .body)) (a .wanted) (a .place) (a .amount) _ _ (sym (c .before .before .number .given .1) ∙ scan .scan-body .ensures) (c .refuse .ensures)
+    key-fault (a .item-type) (now (a .body)) (a .wanted) (a .place) (a .amount) _ _ (sym (c .before .before .number .given .1) ∙ scan .scan-body .ensures) (c .refuse .ensures .0)
 
 returns-5 : tie.Need-returns-5
 returns-5 c =

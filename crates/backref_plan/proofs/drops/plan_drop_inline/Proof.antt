@@ -17,7 +17,7 @@ returns c =
     let scan = seen .before .before in
     let a = scan .before .before .args in
     let r = scan-reads (a .item-type) (now (a .body)) (a .wanted) 0 _ (sym (seen .seen .given .1) ∙ scan .scan-body .ensures) in
-    drop-absent (a .item-type) (now (a .body)) (a .wanted) _ _ r (sym (c .before .enum-told .given .1) ∙ hit .hit-of .ensures) (c .without .ensures)
+    drop-absent (a .item-type) (now (a .body)) (a .wanted) _ _ r (sym (c .before .enum-told .given .1) ∙ hit .hit-of .ensures) (c .without .ensures .0)
 
 get-u64-le-requires : tie.Need-get-u64-le-requires
 get-u64-le-requires c κs =
@@ -36,7 +36,7 @@ returns-2 c =
     let a = scan .before .before .args in
     let r = scan-reads (a .item-type) (now (a .body)) (a .wanted) 0 _ (sym (seen .seen .given .1) ∙ scan .scan-body .ensures) in
     drop-low (a .item-type) (now (a .body)) (a .wanted) _ _ r _ _ _ _ (sym (got .before .before .at .given .1) ∙ hit .hit-of .ensures)
-    (got .get-u64-le .ensures) (c .before .if1 .taken) (c .refuse2 .ensures)
+    (got .get-u64-le .ensures) (c .before .if1 .taken) (c .refuse2 .ensures .0)
 
 returns-3 : tie.Need-returns-3
 returns-3 c =
@@ -54,7 +54,7 @@ returns-4 : tie.Need-returns-4
 returns-4 c =
     let scan = c .before .before .before .before in
     let a = scan .before .before .args in
-    drop-fault (a .item-type) (now (a .body)) (a .wanted) _ _ (sym (c .before .before .number .given .1) ∙ scan .scan-body .ensures) (c .refuse .ensures)
+    drop-fault (a .item-type) (now (a .body)) (a .wanted) _ _ (sym (c .before .before .number .given .1) ∙ scan .scan-body .ensures) (c .refuse .ensures .0)
 
 returns-5 : tie.Need-returns-5
 returns-5 c =

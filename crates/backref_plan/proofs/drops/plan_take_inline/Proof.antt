@@ -16,7 +16,7 @@ returns c =
     let scan = seen .before .before in
     let a = scan .before .before .args in
     let r = scan-reads (a .item-type) (now (a .body)) (a .wanted) 0 _ (sym (seen .seen .given .1) ∙ scan .scan-body .ensures) in
-    take-absent (a .item-type) (now (a .body)) (a .wanted) _ _ r (sym (c .before .enum-told .given .1) ∙ hit .hit-of .ensures) (c .without .ensures)
+    take-absent (a .item-type) (now (a .body)) (a .wanted) _ _ r (sym (c .before .enum-told .given .1) ∙ hit .hit-of .ensures) (c .without .ensures .0)
 
 get-u64-le-requires : tie.Need-get-u64-le-requires
 get-u64-le-requires c κs =
@@ -30,7 +30,7 @@ returns-2 : tie.Need-returns-2
 returns-2 c =
     let scan = c .before .before .before .before in
     let a = scan .before .before .args in
-    take-fault (a .item-type) (now (a .body)) (a .wanted) _ _ (sym (c .before .before .number .given .1) ∙ scan .scan-body .ensures) (c .refuse .ensures)
+    take-fault (a .item-type) (now (a .body)) (a .wanted) _ _ (sym (c .before .before .number .given .1) ∙ scan .scan-body .ensures) (c .refuse .ensures .0)
 
 returns-3 : tie.Need-returns-3
 returns-3 c =

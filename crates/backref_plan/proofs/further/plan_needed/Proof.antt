@@ -7,7 +7,7 @@ returns : tie.Need-returns
 returns c = needs-edit _ (c .enum-told .given .1)
 
 returns-2 : tie.Need-returns-2
-returns-2 c = needs-absent _ _ (c .before .enum-told2 .given .1) (c .refuse .ensures)
+returns-2 c = needs-absent _ _ (c .before .enum-told2 .given .1) (c .refuse .ensures .0)
 
 returns-3 : tie.Need-returns-3
 returns-3 c = needs-remove _ (c .enum-told3 .given .1)

@@ -5,7 +5,7 @@ use Rattle.backref_plan.proofs.further.plan_reduced.Statement.{statemen
 use Rattle.backref_plan.proofs.further.plan_reduced.Tie as tie
 
 returns : tie.Need-returns
-returns c = reduced-low _ _ _ (c .before .before .before .enum-told .given .1) (omega arith) (c .before .if1 .taken) (c .refuse .ensures)
+returns c = reduced-low _ _ _ (c .before .before .before .enum-told .given .1) (omega arith) (c .before .if1 .taken) (c .refuse .ensures .0)
 
 returns-2 : tie.Need-returns-2
 returns-2 c = reduced-edit _ _ _ (c .before .before .before .enum-told .given .1) (omega arith) (c .before .if1 .left) (c .edit .ensures)

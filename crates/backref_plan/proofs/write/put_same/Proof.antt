@@ -11,7 +11,7 @@ returns c =
     let first = second .before .before .before .before .before in
     let s = first .before .before .before .before .before in
     same-edited (s .args .plan) (now (s .args .body)) (s .pre .0) (now (s .args .out)) _ _ _ (s .pre .1 .0)
-    (first .copy-at .ensures) (second .copy-at2 .ensures) (total .put-u64-le .ensures)
+    (first .append .ensures .1) (second .copy-at .ensures) (total .put-u64-le .ensures)
 
 pub put-same-spec : {M : Type 1} → statement M
 put-same-spec =

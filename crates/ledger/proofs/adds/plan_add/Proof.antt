@@ -4,7 +4,7 @@ use Rattle.ledger.proofs.adds.plan_add.Statement.{statement}
 use Rattle.ledger.proofs.adds.plan_add.Tie as tie
 
 returns : tie.Need-returns
-returns c = body-zero _ _ _ _ _ (c .before .before .before .wanted2 .given .1) (c .before .if1 .taken) (c .refuse .ensures)
+returns c = body-zero _ _ _ _ _ (c .before .before .before .wanted2 .given .1) (c .before .if1 .taken) (c .refuse .ensures .0)
 
 returns-2 : tie.Need-returns-2
 returns-2 c = body-block _ _ _ _ _ (c .before .before .wanted .given .1) (c .plan-add-tree .ensures)

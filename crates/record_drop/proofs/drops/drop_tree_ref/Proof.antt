@@ -35,7 +35,7 @@ put-without-requires c κs =
     place-fits (now (s .args .sheet)) (areBytes-in (now (s .args .sheet)) (λ i. place .before .before .before .before .before .before .before .before .before .shared-slice-known .given i .fits))
     (s .pre .0) (s .args .end) _ _ _ (sym (place .before .before .item-behind .ensures) ∙ place .place .given .1) in
     let from = f .1 in
-    (c .before .plan-lower-total .ensures .inside, (s .pre .1 .0, f .0, omega arith, f .2, s .pre .1 .2))
+    (c .before .plan-lower-total .ensures .0 .inside, (s .pre .1 .0, f .0, omega arith, f .2, s .pre .1 .2))
 
 returns-3 : tie.Need-returns-3
 returns-3 c d st =
@@ -44,7 +44,7 @@ returns-3 c d st =
     tree-item (now (s .args .sheet)) (s .args .start) (s .args .end) (s .args .items) (s .args .name) _ (place .before .before .before .before .before .before .before .key-at .ensures)
     _ (place .before .before .before .before .before .plan-drop-tree .ensures) (length (now (s .args .out))) d st
     (place .before .before .before .enum-told .given .1) _ _ _ _ (now (s .args .out)) _ (sym (place .before .before .item-behind .ensures) ∙ place .place .given .1)
-    (c .before .before .before .before .plan-lower-total .ensures) (c .before .before .put-without .ensures)
+    (c .before .before .before .before .plan-lower-total .ensures .0) (c .before .before .put-without .ensures)
 
 pub drop-tree-ref-spec : {M : Type 1} → statement M
 drop-tree-ref-spec =

@@ -45,7 +45,7 @@ put-without-requires c κs =
     place-fits (now (s .args .sheet)) (areBytes-in (now (s .args .sheet)) (λ i. place .before .before .before .before .before .before .before .before .before .shared-slice-known .given i .fits))
     (s .pre .0) (s .args .end) _ _ _ (sym (place .before .before .item-behind .ensures) ∙ place .place .given .1) in
     let from = f .1 in
-    (c .before .plan-reduce-total .ensures .inside, (s .pre .1 .0, f .0, omega arith, f .2, s .pre .1 .2))
+    (c .before .plan-reduce-total .ensures .0 .inside, (s .pre .1 .0, f .0, omega arith, f .2, s .pre .1 .2))
 
 returns-3 : tie.Need-returns-3
 returns-3 c d st goods =
@@ -54,7 +54,7 @@ returns-3 c d st goods =
     shared-item (now (s .args .sheet)) (s .args .start) (s .args .end) (s .args .items) (s .args .name) _ (place .before .before .before .before .before .before .before .key-at .ensures)
     _ (place .before .before .before .before .before .plan-shared .ensures) (length (now (s .args .out))) d st
     (place .before .before .before .enum-told .given .1) _ _ _ _ _ (now (s .args .out)) _ goods (sym (place .before .before .item-behind .ensures) ∙ place .place .given .1)
-    (c .before .before .before .before .before .before .item-count .ensures) (c .before .before .before .before .plan-reduce-total .ensures) (c .before .before .put-without .ensures)
+    (c .before .before .before .before .before .before .item-count .ensures) (c .before .before .before .before .plan-reduce-total .ensures .0) (c .before .before .put-without .ensures)
 
 pub drop-shared-ref-spec : {M : Type 1} → statement M
 drop-shared-ref-spec =

@@ -1,20 +1,30 @@
+use native.Mathlib.Omega.{arith}
+use lib.ListN.{length}
 use denote.Ref.{now}
-use Rattle.record_edit.proofs.Writes.{edit-writes}
+use Rattle.backref_plan.proofs.Outcomes.{put-asks, put-edited}
 use borrow.Author.Needs.{needs}
 use Rattle.record_edit.proofs.write.append_edit.Statement.{statement}
 use Rattle.record_edit.proofs.write.append_edit.Tie as tie
 
+part-end : tie.Need-part-put-edit-end
+part-end c =
+    let h = c .before .before .before .before .pre .0 in
+    let s = h .small in
+    let f = h .full in
+    omega arith
+
+put-edit-requires : tie.Need-put-edit-requires
+put-edit-requires c κs =
+    let s = c .before .before .before .before .before .before in
+    put-asks (s .args .plan) (now (s .args .body)) (s .pre .0) (s .args .at) (length (now (s .args .out))) (s .pre .1)
+
 returns : tie.Need-returns
 returns c =
-    let third = c .before .before in
-    let second = third .before .before .before .before in
-    let first = second .before .before .before .before .before in
-    let total = first .before .before .before .before in
-    let s = total .before .before .before .before .before in
-    edit-writes (s .args .plan) (now (s .args .body)) (s .pre .0) (now (s .args .out)) _ _ _ _ (s .args .at) _ _ _ (s .pre .1)
-    (total .put-u64-le .ensures) (first .append .ensures) (second .append2 .ensures) (third .append3 .ensures)
+    let put = c .before .before in
+    let s = put .before .before .before .before .before .before .before in
+    put-edited (s .args .plan) (now (s .args .body)) (s .pre .0) (now (s .args .out)) _ (s .args .at) _ (put .put-edit .ensures)
 
 pub append-edit-spec : {M : Type 1} → statement M
 append-edit-spec =
     tie.close
-    (tie.spec (λ c κs. search needs) (λ c. search needs) (λ c κs. search needs) (λ c. search needs) (λ c κs. search needs) (λ c κs. search needs) (λ c. search needs) returns)
+    (tie.spec (λ c. search needs) (λ c. search needs) part-end put-edit-requires (λ c. search needs) returns)
