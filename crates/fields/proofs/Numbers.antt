@@ -169,6 +169,28 @@ beBytes-be-at width bytes e t =
 pub beBytes-be : (bytes : List ℕ) → T (areBytes bytes) → beBytes (length bytes) (be bytes) ≡ bytes
 beBytes-be bytes t = beBytes-be-at (length bytes) bytes refl t
 
+-- ---- a number with its bytes turned round
+
+-- read lowest byte first and turned, it is the number read highest byte first
+pub read-turned : (width at low number : ℕ) (src : List ℕ) → at + width ≤ length src → ((i : ℕ) → getD src i 0 < 256)
+    → low ≡ le (part at width src)
+    → number ≡ le (beBytes width low)
+    → number ≡ be (part at width src)
+unfolding be beBytes
+read-turned width at low number src h f read turned =
+    turned ∙ ap (λ (n : ℕ). le (reverse (leBytes width n))) read
+    ∙ ap (λ (l : List ℕ). le (reverse l))
+    (leBytes-le-at width (part at width src) (length-part width at src h) (areBytes-part at width src (areBytes-in src f)))
+
+-- turned and written lowest byte first, it stands highest byte first
+pub written-turned : (width at number low : ℕ) (old new : List ℕ) → low ≡ le (beBytes width number)
+    → new ≡ written at (leBytes width low) old
+    → new ≡ written at (beBytes width number) old
+written-turned width at number low old new turned wrote =
+    wrote ∙ ap (λ (n : ℕ). written at (leBytes width n) old) turned
+    ∙ ap (λ (l : List ℕ). written at l old)
+    (leBytes-le-at width (beBytes width number) (length-beBytes width number) (areBytes-beBytes width number))
+
 -- ---- a number of twice a width, by its halves
 
 pub le-halves : (m at : ℕ) (list : List ℕ) → at + m + m ≤ length list
@@ -193,6 +215,14 @@ pub beBytes-halves : (number : ℕ) → beBytes 8 number ≡ beBytes 4 (number /
 unfolding beBytes
 beBytes-halves number =
     ap reverse (leBytes-halves number) ∙ reverse-append (leBytes 4 (number % 4294967296)) (leBytes 4 (number / 4294967296))
+
+pub turned-halves : (number : ℕ)
+    → le (beBytes 8 number) ≡ le (beBytes 4 (number / 4294967296)) + 4294967296 * le (beBytes 4 (number % 4294967296))
+turned-halves number =
+    let high : List ℕ = beBytes 4 (number / 4294967296) in
+    let low : List ℕ = beBytes 4 (number % 4294967296) in
+    ap le (beBytes-halves number) ∙ le-append high low
+    ∙ ap (λ (k : ℕ). le high + 256 ^ k * le low) (length-beBytes 4 (number / 4294967296))
 
 -- ---- words
 

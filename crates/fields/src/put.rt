@@ -1,4 +1,7 @@
-// Writes a byte, and numbers of four and eight bytes. Eight bytes are two writes of four.
+// Writes a byte, and numbers of four and eight bytes. Eight bytes are two writes of four. With the lowest byte first the compiler
+// makes one store of them; with the highest first it does so late, or, in a row of more than eight single writes, not at all. So a
+// number that is to stand highest byte first has its bytes turned round, which is one instruction, and is then written lowest first.
+use super::get;
 ghost use mathlib.Core.Path.{_≡_};
 ghost use mathlib.Core.List.{[], _∷_};
 ghost use Prim.Native.Nat.{_+_, _≤_};
@@ -38,11 +41,7 @@ pub fn put_u32_be(out: &mut [u8], at: usize, v: u32)
     requires { ⌜ at + 4 ≤ length (now out) ⌝ }
     ensures { λ _. ⌜ now (out .exit) ≡ written at (beBytes 4 v) (now (out .entry)) ⌝ }
 {
-    let a = (v % 256) as u8;
-    let b = (v / 256 % 256) as u8;
-    let c = (v / 256 / 256 % 256) as u8;
-    let d = (v / 256 / 256 / 256 % 256) as u8;
-    put_bytes(out, at, d, c, b, a);
+    put_u32_le(out, at, get::turned_u32(v));
 }
 
 pub fn put_u64_le(out: &mut [u8], at: usize, v: u64)
@@ -59,8 +58,5 @@ pub fn put_u64_be(out: &mut [u8], at: usize, v: u64)
     requires { ⌜ at + 8 ≤ length (now out) ⌝ }
     ensures { λ _. ⌜ now (out .exit) ≡ written at (beBytes 8 v) (now (out .entry)) ⌝ }
 {
-    let low = (v % 4294967296) as u32;
-    let high = (v / 4294967296) as u32;
-    put_u32_be(out, at, high);
-    put_u32_be(out, at + 4, low);
+    put_u64_le(out, at, get::turned_u64(v));
 }

@@ -1,18 +1,16 @@
-use mathlib.Core.Path.{sym, ap, _∙_}
 use denote.Ref.{now}
-use Rattle.fields.specs.Numbers.{be}
-use Rattle.fields.proofs.Parts.{part-is}
+use Rattle.fields.proofs.Numbers.{read-turned}
 use borrow.Author.Needs.{needs}
 use Rattle.fields.proofs.get.get_u32_be.Statement.{statement}
 use Rattle.fields.proofs.get.get_u32_be.Tie as tie
 
 returns : tie.Need-returns
-unfolding be
 returns c =
-    let start = c .before .before .before .before .before .before in
-    c .join-bytes .ensures ∙ ap be (sym (part-is 4 (start .args .at) (now (start .args .s)) (start .pre)))
+    let known = c .before .before in
+    let start = known .before in
+    read-turned 4 (start .args .at) _ _ (now (start .args .s)) (start .pre) (λ i. known .shared-slice-known .given i .fits) (c .before .get-u32-le .ensures) (c .turned-u32 .ensures)
 
 pub get-u32-be-spec : {M : Type 1} → statement M
 get-u32-be-spec =
     tie.close
-    (tie.spec (λ c. search needs) (λ c. search needs) (λ c. search needs) (λ c. search needs) (λ c. search needs) (λ c. search needs) (λ c. search needs) (λ c κs. search needs) returns)
+    (tie.spec (λ c κs. search needs) (λ c κs. search needs) returns)

@@ -1,16 +1,16 @@
-use native.Mathlib.Omega.{arith}
 use denote.Ref.{now}
-use Rattle.fields.proofs.Numbers.{be-halves}
+use Rattle.fields.proofs.Numbers.{read-turned}
 use borrow.Author.Needs.{needs}
 use Rattle.fields.proofs.get.get_u64_be.Statement.{statement}
 use Rattle.fields.proofs.get.get_u64_be.Tie as tie
 
 returns : tie.Need-returns
 returns c =
-    let a = c .before .before .before .before .args in
-    omega (arith, be-halves 4 (a .at) (now (a .s)) (omega arith))
+    let known = c .before .before in
+    let start = known .before in
+    read-turned 8 (start .args .at) _ _ (now (start .args .s)) (start .pre) (λ i. known .shared-slice-known .given i .fits) (c .before .get-u64-le .ensures) (c .turned-u64 .ensures)
 
 pub get-u64-be-spec : {M : Type 1} → statement M
 get-u64-be-spec =
     tie.close
-    (tie.spec (λ c. search needs) (λ c κs. search needs) (λ c κs. search needs) (λ c κs. search needs) returns)
+    (tie.spec (λ c κs. search needs) (λ c κs. search needs) returns)

@@ -1,13 +1,16 @@
-use Rattle.fields.specs.Numbers.{beBytes, leBytes}
+use denote.Ref.{now}
+use Rattle.fields.proofs.Numbers.{written-turned}
 use borrow.Author.Needs.{needs}
 use Rattle.fields.proofs.put.put_u32_be.Statement.{statement}
 use Rattle.fields.proofs.put.put_u32_be.Tie as tie
 
 returns : tie.Need-returns
-unfolding beBytes leBytes
-returns c = c .before .before .put-bytes .ensures
+returns c =
+    let put = c .before .before in
+    let a = put .before .before .before .before .args in
+    written-turned 4 (a .at) (a .v) _ (now (a .out)) _ (put .before .turned-u32 .ensures) (put .put-u32-le .ensures)
 
 pub put-u32-be-spec : {M : Type 1} → statement M
 put-u32-be-spec =
     tie.close
-    (tie.spec (λ c. search needs) (λ c. search needs) (λ c. search needs) (λ c. search needs) (λ c κs. search needs) (λ c. search needs) returns)
+    (tie.spec (λ c κs. search needs) (λ c κs. search needs) (λ c. search needs) returns)
