@@ -102,12 +102,6 @@ le-append (x ∷ a) b =
     ap (λ (k : ℕ). k * le b) (pow-succ' 256 (length a)) ∙ mul-assoc 256 (256 ^ length a) (le b) in
     omega (arith, le-append a b)
 
-pub be-append : (a b : List ℕ) → be (a ++ b) ≡ be b + 256 ^ length b * be a
-unfolding be
-be-append a b =
-    ap le (reverse-append a b) ∙ le-append (reverse b) (reverse a)
-    ∙ ap (λ (k : ℕ). le (reverse b) + 256 ^ k * le (reverse a)) (length-reverse b)
-
 -- the bytes of a number in two parts
 pub leBytes-join : (m n a b : ℕ) → a < 256 ^ m → leBytes (m + n) (a + 256 ^ m * b) ≡ leBytes m a ++ leBytes n b
 unfolding leBytes
@@ -199,12 +193,6 @@ le-halves m at list h =
     let h′ : at + m ≤ length list = omega arith in
     ap le (part-add m m at list) ∙ le-append (part at m list) (part (at + m) m list)
     ∙ ap (λ (k : ℕ). le (part at m list) + 256 ^ k * le (part (at + m) m list)) (length-part m at list h′)
-
-pub be-halves : (m at : ℕ) (list : List ℕ) → at + m + m ≤ length list
-    → be (part at (m + m) list) ≡ be (part (at + m) m list) + 256 ^ m * be (part at m list)
-be-halves m at list h =
-    ap be (part-add m m at list) ∙ be-append (part at m list) (part (at + m) m list)
-    ∙ ap (λ (k : ℕ). be (part (at + m) m list) + 256 ^ k * be (part at m list)) (length-part m (at + m) list h)
 
 pub leBytes-halves : (number : ℕ) → leBytes 8 number ≡ leBytes 4 (number % 4294967296) ++ leBytes 4 (number / 4294967296)
 leBytes-halves number =

@@ -35,34 +35,32 @@ pub fn rows(b: &mut Bench) {
         "extent_write_data_ref_hash",
         "",
         || extent_write::data_ref_hash(black_box(5), 257, 0),
-        &mut |_, _| lent::extent_write_data_ref_hash(black_box(5), 257, 0),
+        |_, _| lent::extent_write_data_ref_hash(black_box(5), 257, 0),
     );
     b.row(
         "extent_write_data_extent_body",
         "",
         || door::data_extent_body(black_box(7), 5, 257, 0),
-        &mut |out, len| {
-            lent::extent_write_data_extent_body(black_box(7), 5, 257, 0, out, len).into()
-        },
+        |out, len| lent::extent_write_data_extent_body(black_box(7), 5, 257, 0, out, len).into(),
     );
     b.row(
         "backref_keyed_data_ref_body",
         "",
         || backref::keyed_data_ref_body(black_box(5), 257, 0, 3),
-        &mut |out, len| lent::backref_keyed_data_ref_body(black_box(5), 257, 0, 3, out, len).into(),
+        |out, len| lent::backref_keyed_data_ref_body(black_box(5), 257, 0, 3, out, len).into(),
     );
     let item = backref::keyed_data_ref_body(5, 257, 0, 3);
     b.row(
         "backref_drop_keyed_data_ref",
         "",
         || backref::drop_keyed_data_ref(&item, 5, 257, 0),
-        &mut |out, len| lent::backref_drop_keyed_data_ref(&item, 5, 257, 0, out, len).into(),
+        |out, len| lent::backref_drop_keyed_data_ref(&item, 5, 257, 0, out, len).into(),
     );
     b.row(
         "transaction_keyed_data_ref_names",
         "",
         || door::keyed_data_ref_names(black_box(&item), 5, 257, 0),
-        &mut |_, names| {
+        |_, names| {
             lent::transaction_keyed_data_ref_names(black_box(&item), 5, 257, 0, names).into()
         },
     );
@@ -77,30 +75,38 @@ fn made(b: &mut Bench) {
     let block =
         || TreeBlockAllocation { bytenr: black_box(4096), level: 1, generation: 7, owner: 5 };
     let (mut kind, mut offset) = (0, 0);
-    b.row("extent_write_tree_block_key", "", || block().key(), &mut |_, objectid| {
-        lent::extent_write_tree_block_key(black_box(4096), 1, objectid, &mut kind, &mut offset)
-            .into()
-    });
-    b.row("extent_write_tree_block_body", "", || block().body(), &mut |out, len| {
-        lent::extent_write_tree_block_body(black_box(7), 5, out, len).into()
-    });
+    b.row(
+        "extent_write_tree_block_key",
+        "",
+        || block().key(),
+        |_, objectid| {
+            lent::extent_write_tree_block_key(black_box(4096), 1, objectid, &mut kind, &mut offset)
+                .into()
+        },
+    );
+    b.row(
+        "extent_write_tree_block_body",
+        "",
+        || block().body(),
+        |out, len| lent::extent_write_tree_block_body(black_box(7), 5, out, len).into(),
+    );
     b.row(
         "transaction_shared_add_item",
         "",
         || door::shared_add_item(4096, black_box(184), 8192, 2),
-        &mut |out, len| lent::transaction_shared_add_item(black_box(184), 2, out, len).into(),
+        |out, len| lent::transaction_shared_add_item(black_box(184), 2, out, len).into(),
     );
     b.row(
         "transaction_shared_add_inline_size",
         "",
         || door::shared_add_inline_size(black_box(184)),
-        &mut |_, size| lent::transaction_shared_add_inline_size(black_box(184), size).into(),
+        |_, size| lent::transaction_shared_add_inline_size(black_box(184), size).into(),
     );
     b.row(
         "transaction_max_inline_extent_item",
         "",
         || door::max_inline_extent_item(black_box(16_384)),
-        &mut |_, limit| lent::transaction_max_inline_extent_item(black_box(16_384), limit).into(),
+        |_, limit| lent::transaction_max_inline_extent_item(black_box(16_384), limit).into(),
     );
 }
 
@@ -113,69 +119,80 @@ fn with_references(b: &mut Bench, count: u64) {
     let inode = u64::from_le_bytes(last.payload[8..16].try_into().expect("8 bytes"));
     let mut positions = vec![0; 8192];
 
-    b.row("backref_flags", size, || backref::flags(black_box(&data)), &mut |_, value| {
-        lent::backref_flags(black_box(&data), value).into()
-    });
-    b.row("backref_inline_refs", size, || backref::inline_refs(168, &data), &mut |_, count| {
-        lent::backref_inline_refs(168, &data, &mut positions, count).into()
-    });
-    b.row("backref_raise_total", size, || backref::raise_total(168, &data, 3), &mut |out, len| {
-        lent::backref_raise_total(168, &data, 3, out, len).into()
-    });
+    b.row(
+        "backref_flags",
+        size,
+        || backref::flags(black_box(&data)),
+        |_, value| lent::backref_flags(black_box(&data), value).into(),
+    );
+    b.row(
+        "backref_inline_refs",
+        size,
+        || backref::inline_refs(168, &data),
+        |_, count| lent::backref_inline_refs(168, &data, &mut positions, count).into(),
+    );
+    b.row(
+        "backref_raise_total",
+        size,
+        || backref::raise_total(168, &data, 3),
+        |out, len| lent::backref_raise_total(168, &data, 3, out, len).into(),
+    );
     let high = backref::raise_total(168, &data, 3).expect("a total");
-    b.row("backref_lower_total", size, || backref::lower_total(168, &high), &mut |out, len| {
-        lent::backref_lower_total(168, &high, out, len).into()
-    });
+    b.row(
+        "backref_lower_total",
+        size,
+        || backref::lower_total(168, &high),
+        |out, len| lent::backref_lower_total(168, &high, out, len).into(),
+    );
     b.row(
         "backref_reduce_total",
         size,
         || backref::reduce_total(168, &high, 2),
-        &mut |out, len| lent::backref_reduce_total(168, &high, 2, out, len).into(),
+        |out, len| lent::backref_reduce_total(168, &high, 2, out, len).into(),
     );
-    b.row("backref_with_flags", size, || backref::with_flags(&data, 256), &mut |out, len| {
-        lent::backref_with_flags(&data, 256, out, len).into()
-    });
+    b.row(
+        "backref_with_flags",
+        size,
+        || backref::with_flags(&data, 256),
+        |out, len| lent::backref_with_flags(&data, 256, out, len).into(),
+    );
     b.row(
         "backref_holds_inline_data_ref",
         size,
         || backref::holds_inline_data_ref(168, &data, 5, inode, 0),
-        &mut |_, holds| lent::backref_holds_inline_data_ref(168, &data, 5, inode, 0, holds).into(),
+        |_, holds| lent::backref_holds_inline_data_ref(168, &data, 5, inode, 0, holds).into(),
     );
     b.row(
         "backref_add_inline_data_ref",
         size,
         || backref::add_inline_data_ref(168, &data, 5, inode, 0),
-        &mut |out, len| lent::backref_add_inline_data_ref(168, &data, 5, inode, 0, out, len).into(),
+        |out, len| lent::backref_add_inline_data_ref(168, &data, 5, inode, 0, out, len).into(),
     );
     let keyed = Keyed::Data { tree: 5, objectid: inode, offset: 0 };
     b.row(
         "backref_add_inline_keyed_data",
         size,
         || backref::add_inline_keyed(168, &data, keyed, 3),
-        &mut |out, len| {
-            lent::backref_add_inline_keyed_data(168, &data, 5, inode, 0, 3, out, len).into()
-        },
+        |out, len| lent::backref_add_inline_keyed_data(168, &data, 5, inode, 0, 3, out, len).into(),
     );
     let two = backref::raise_total(168, &data, 1).expect("a total");
     b.row(
         "backref_drop_inline_data_ref",
         size,
         || backref::drop_inline_data_ref(168, &two, 5, inode, 0),
-        &mut |out, len| lent::backref_drop_inline_data_ref(168, &two, 5, inode, 0, out, len).into(),
+        |out, len| lent::backref_drop_inline_data_ref(168, &two, 5, inode, 0, out, len).into(),
     );
     b.row(
         "backref_add_inline_shared",
         size,
         || backref::add_inline_shared(168, &shared, 184, 4096, 1),
-        &mut |out, len| {
-            lent::backref_add_inline_shared(168, &shared, 184, 4096, 1, out, len).into()
-        },
+        |out, len| lent::backref_add_inline_shared(168, &shared, 184, 4096, 1, out, len).into(),
     );
     b.row(
         "backref_take_inline_shared",
         size,
         || backref::take_inline_shared(168, &shared, 184, 4096),
-        &mut |out, len| {
+        |out, len| {
             lent::backref_take_inline_shared(168, &shared, 184, 4096, out, len, &mut 0).into()
         },
     );
@@ -183,26 +200,26 @@ fn with_references(b: &mut Bench, count: u64) {
         "backref_add_inline_tree_ref",
         size,
         || backref::add_inline_tree_ref(169, &block, 3),
-        &mut |out, len| lent::backref_add_inline_tree_ref(169, &block, 3, out, len).into(),
+        |out, len| lent::backref_add_inline_tree_ref(169, &block, 3, out, len).into(),
     );
     b.row(
         "backref_add_inline_keyed_block",
         size,
         || backref::add_inline_keyed(169, &block, Keyed::Block { tree: 3 }, 1),
-        &mut |out, len| lent::backref_add_inline_keyed_block(169, &block, 3, 1, out, len).into(),
+        |out, len| lent::backref_add_inline_keyed_block(169, &block, 3, 1, out, len).into(),
     );
     let two = backref::raise_total(169, &block, 1).expect("a total");
     b.row(
         "backref_drop_inline_tree_ref",
         size,
         || backref::drop_inline_tree_ref(169, &two, 5),
-        &mut |out, len| lent::backref_drop_inline_tree_ref(169, &two, 5, out, len).into(),
+        |out, len| lent::backref_drop_inline_tree_ref(169, &two, 5, out, len).into(),
     );
     let offsets = vec![0; 1];
     b.row(
         "transaction_held_only_by",
         size,
         || door::held_only_by(&data, 5, 257, &offsets),
-        &mut |_, holds| lent::transaction_held_only_by(&data, 5, 257, &offsets, holds).into(),
+        |_, holds| lent::transaction_held_only_by(&data, 5, 257, &offsets, holds).into(),
     );
 }

@@ -59,7 +59,7 @@ fn with_items(b: &mut Bench, count: u64) {
             "leaf_edit_insert",
             size,
             || leaf_edit::insert(node, &items, item.clone()),
-            &mut |out, len| {
+            |out, len| {
                 lent::leaf_edit_insert(node, &sheet, new.objectid, 168, 4096, &data, out, len)
                     .into()
             },
@@ -69,53 +69,67 @@ fn with_items(b: &mut Bench, count: u64) {
         "leaf_edit_insert_unbounded",
         size,
         || leaf_edit::insert_unbounded(&items, item.clone()),
-        &mut |out, len| {
+        |out, len| {
             lent::leaf_edit_insert_unbounded(&sheet, new.objectid, 168, 4096, &data, out, len)
                 .into()
         },
     );
     let key = items[0].key;
-    b.row("leaf_edit_delete", size, || leaf_edit::delete(&items, &key), &mut |out, len| {
-        lent::leaf_edit_delete(&sheet, key.objectid, key.key_type, key.offset, out, len).into()
-    });
-    b.row("leaf_edit_fit", size, || leaf_edit::fit(node, &items), &mut |_, fits| {
-        lent::leaf_edit_fit(node, &sheet, fits).into()
-    });
-    b.row("leaf_edit_fits", size, || leaf_edit::fits(node, &items, &item), &mut |_, fits| {
-        lent::leaf_edit_fits(node, &sheet, &data, fits).into()
-    });
+    b.row(
+        "leaf_edit_delete",
+        size,
+        || leaf_edit::delete(&items, &key),
+        |out, len| {
+            lent::leaf_edit_delete(&sheet, key.objectid, key.key_type, key.offset, out, len).into()
+        },
+    );
+    b.row(
+        "leaf_edit_fit",
+        size,
+        || leaf_edit::fit(node, &items),
+        |_, fits| lent::leaf_edit_fit(node, &sheet, fits).into(),
+    );
+    b.row(
+        "leaf_edit_fits",
+        size,
+        || leaf_edit::fits(node, &items, &item),
+        |_, fits| lent::leaf_edit_fits(node, &sheet, &data, fits).into(),
+    );
     // The original has its items in memory: an item by its number is a place in them.
     let mut start = 0;
     b.row(
         "leaf_edit_item",
         size,
         || items.get(black_box(count as usize - 1)).map(|i| i.data.len()),
-        &mut |_, len| lent::leaf_edit_item(&sheet, count - 1, &mut start, len).into(),
+        |_, len| lent::leaf_edit_item(&sheet, count - 1, &mut start, len).into(),
     );
-    b.row("leaf_edit_split", size, || leaf_edit::split(&items), &mut |_, count| {
-        lent::leaf_edit_split(&sheet, &mut cuts, count).into()
-    });
+    b.row(
+        "leaf_edit_split",
+        size,
+        || leaf_edit::split(&items),
+        |_, count| lent::leaf_edit_split(&sheet, &mut cuts, count).into(),
+    );
     // The original tries every cut by measuring both halves: the square of the items.
     if count <= 2_000 {
         b.row(
             "leaf_edit_split_to_fit",
             size,
             || leaf_edit::split_to_fit(4096, &items),
-            &mut |_, count| lent::leaf_edit_split_to_fit(4096, &sheet, &mut cuts, count).into(),
+            |_, count| lent::leaf_edit_split_to_fit(4096, &sheet, &mut cuts, count).into(),
         );
     }
     b.row(
         "transaction_record_of",
         size,
         || door::record_of(&items, last).map(|i| i.data.len()),
-        &mut |_, number| lent::transaction_record_of(&sheet, last, number).into(),
+        |_, number| lent::transaction_record_of(&sheet, last, number).into(),
     );
     let block = Keyed::Block { tree: 7 };
     b.row(
         "transaction_apply_keyed_add_block",
         size,
         || door::apply_keyed_add(16_384, items.clone(), last, block, 1, false),
-        &mut |out, len| {
+        |out, len| {
             lent::transaction_apply_keyed_add_block(16_384, &sheet, last, 7, 1, false, out, len)
                 .into()
         },
@@ -125,7 +139,7 @@ fn with_items(b: &mut Bench, count: u64) {
         "transaction_apply_keyed_add_data",
         size,
         || door::apply_keyed_add(16_384, items.clone(), middle, name, 1, false),
-        &mut |out, len| {
+        |out, len| {
             lent::transaction_apply_keyed_add_data(
                 16_384, &sheet, middle, 6, 257, 0, 1, false, out, len,
             )
@@ -136,7 +150,7 @@ fn with_items(b: &mut Bench, count: u64) {
         "transaction_apply_shared_add",
         size,
         || door::apply_shared_add(16_384, items.clone(), middle, 184, 8192, 2, false),
-        &mut |out, len| {
+        |out, len| {
             lent::transaction_apply_shared_add(
                 16_384, &sheet, middle, 184, 8192, 2, false, out, len,
             )
@@ -150,7 +164,7 @@ fn with_items(b: &mut Bench, count: u64) {
         "ledger_post",
         &format!("{size}, give data"),
         || door::apply_keyed_add(16_384, items.clone(), middle, name, 1, false),
-        &mut |out, len| lent::ledger_post(16_384, &sheet, 2, middle, 6, 257, 0, 1, out, len).into(),
+        |out, len| lent::ledger_post(16_384, &sheet, 2, middle, 6, 257, 0, 1, out, len).into(),
     );
 }
 
@@ -165,7 +179,7 @@ fn drops(b: &mut Bench, size: &str, items: &[OwnedItem], middle: u64, last: u64)
         "transaction_apply_shared_drop",
         size,
         || door::apply_shared_drop(items.clone(), middle, 184, 8192, 2, false),
-        &mut |out, len| {
+        |out, len| {
             lent::transaction_apply_shared_drop(&sheet, middle, 184, 8192, 2, false, out, len)
                 .into()
         },
@@ -174,8 +188,6 @@ fn drops(b: &mut Bench, size: &str, items: &[OwnedItem], middle: u64, last: u64)
         "transaction_drop_kept_tree_ref",
         size,
         || door::drop_kept_tree_ref(items.clone(), last, 7, 0, false),
-        &mut |out, len| {
-            lent::transaction_drop_kept_tree_ref(&sheet, last, 0, 7, false, out, len).into()
-        },
+        |out, len| lent::transaction_drop_kept_tree_ref(&sheet, last, 0, 7, false, out, len).into(),
     );
 }

@@ -24,9 +24,6 @@ pub const PASSES: usize = 6;
 const BATCHES: usize = 12;
 const BATCH_NANOSECONDS: u64 = 1_000_000;
 
-/// One call of the archive, given an output and a number.
-pub type Lent<'a> = &'a mut dyn FnMut(&mut [u8], &mut u64) -> u64;
-
 /// What is asked for: times of the calls whose name holds a word, or so many runs of one side of one
 /// row, for a profiler.
 pub enum Asked {
@@ -52,16 +49,18 @@ impl Bench {
         Bench { asked, rows: Vec::new(), out: vec![0; 262_144] }
     }
 
-    /// `archive` is not run where the archive has no such call.
+    /// `archive` is given an output and a number; it is not run where the archive has no such call.
     pub fn row<T>(
         &mut self,
         call: &str,
         size: &str,
         mut original: impl FnMut() -> T,
-        archive: Lent,
+        mut archive: impl FnMut(&mut [u8], &mut u64) -> u64,
     ) {
         let mut len = 0;
-        let out = &mut self.out[..];
+        // Hidden from the compiler once, and not in each round: a slice that goes through memory as two words and comes back as
+        // one costs five nanoseconds.
+        let out = black_box(&mut self.out[..]);
         let there = !extent_refs::MISSING.contains(&call);
         let mut first = || {
             black_box(original());
@@ -88,7 +87,7 @@ impl Bench {
             assert_eq!(code, 0, "{call}, {size}: only accepted calls are measured");
         }
         let mut second = || {
-            black_box(archive(black_box(&mut *out), &mut len));
+            black_box(archive(&mut *out, &mut len));
         };
         let rounds = (calibrated(&mut first), if there { calibrated(&mut second) } else { 0 });
         let mut best = (f64::MAX, f64::MAX);
@@ -127,7 +126,11 @@ impl Bench {
     }
 
     /// A call of the archive alone, in nanoseconds, or nothing where it is not asked for.
-    pub fn alone(&mut self, call: &str, archive: Lent) -> Option<f64> {
+    pub fn alone(
+        &mut self,
+        call: &str,
+        mut archive: impl FnMut(&mut [u8], &mut u64) -> u64,
+    ) -> Option<f64> {
         let asked = match &self.asked {
             Asked::Times(word) => word.as_ref().is_none_or(|word| call.contains(word.as_str())),
             Asked::Runs { .. } => false,
@@ -136,9 +139,9 @@ impl Bench {
             return None;
         }
         let mut len = 0;
-        let out = &mut self.out[..];
+        let out = black_box(&mut self.out[..]);
         let mut call = || {
-            black_box(archive(black_box(&mut *out), &mut len));
+            black_box(archive(&mut *out, &mut len));
         };
         let rounds = calibrated(&mut call);
         Some((0..PASSES * BATCHES).map(|_| batch(&mut call, rounds)).fold(f64::MAX, f64::min))

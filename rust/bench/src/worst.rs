@@ -87,7 +87,7 @@ pub fn table(bench: &mut Bench) {
     let mut usual = None;
     for (name, items) in lists {
         let sheet = sheet(&items);
-        let Some(ns) = bench.alone("ledger_post", &mut |out, len| {
+        let Some(ns) = bench.alone("ledger_post", |out, len| {
             let code = lent::ledger_post(16_384, &sheet, 5, 4096, 1, 1, 1, 0, out, len);
             assert_eq!(code, 5, "{name}: balanced, and the name is not there");
             code.into()
