@@ -89,14 +89,15 @@ fn sizes_fit(bounded: bool, nodesize: u32, size: usize) -> bool
 }
 
 // The list with one more item; where it is `bounded`, only if it still fits a leaf. One function for both calls: what is called
-// from one place is joined to its caller.
+// from one place is joined to its caller. The output stands first, so that it comes in registers: it is needed last, but a call
+// that hands it on through memory waits for it.
 fn put_new(
+    out: &mut [u8],
     sheet: &[u8],
     key: Key,
     body: &[u8],
     bounded: bool,
     nodesize: u32,
-    out: &mut [u8],
 ) -> Edited
     ensures { λ r. ⌜ Answered (heldSheet (length (now (out .entry))) (cond bounded (insert nodesize (now (sheet .entry)) (record { key = key; bytes = now (body .entry) })) (insertUnbounded (now (sheet .entry)) (record { key = key; bytes = now (body .entry) })))) r (now (out .entry)) (now (out .exit)) ⌝ }
 {
@@ -119,12 +120,12 @@ fn put_new(
 pub fn insert_unbounded(sheet: &[u8], key: Key, body: &[u8], out: &mut [u8]) -> Edited
     ensures { λ r. ⌜ Answered (heldSheet (length (now (out .entry))) (insertUnbounded (now (sheet .entry)) (record { key = key; bytes = now (body .entry) }))) r (now (out .entry)) (now (out .exit)) ⌝ }
 {
-    put_new(sheet, key, body, false, 0, out)
+    put_new(out, sheet, key, body, false, 0)
 }
 
 // The list with one more item, if it still fits a leaf.
 pub fn insert(nodesize: u32, sheet: &[u8], key: Key, body: &[u8], out: &mut [u8]) -> Edited
     ensures { λ r. ⌜ Answered (heldSheet (length (now (out .entry))) (insert nodesize (now (sheet .entry)) (record { key = key; bytes = now (body .entry) }))) r (now (out .entry)) (now (out .exit)) ⌝ }
 {
-    put_new(sheet, key, body, true, nodesize, out)
+    put_new(out, sheet, key, body, true, nodesize)
 }

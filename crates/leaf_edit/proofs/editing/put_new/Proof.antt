@@ -33,7 +33,7 @@ unfolding dataFits
 free c =
     let a = c .before .before .before .before .before .before .before .before .args in
     let e = ap (λ (f : Bool). slotOf (a .key) f (readSheet (now (a .sheet)))) (c .before .before .before .before .sizes-fit .ensures) in
-    slot-free _ (asked c) (areBytes-in (now (c .before .before .before .before .before .before .before .before .args .sheet)) (λ i. c .before .before .before .before .before .before .before .shared-slice-known .given i .fits)) _ _ _
+    slot-free _ (asked c) (areBytes-in (now (c .before .before .before .before .before .before .before .before .args .sheet)) (λ i. c .before .before .before .before .before .before .shared-slice-known .given i .fits)) _ _ _
     (sym e ∙ sym (c .before .before .before .slot-for .ensures) ∙ c .before .slot2 .given .1)
 
 short : (c : tie.After-known-told2) → length (now (c .before .before .before .before .before .before .before .before .args .body)) ≤ 65535
