@@ -58,8 +58,8 @@ impl Bench {
         mut archive: impl FnMut(&mut [u8], &mut u64) -> u64,
     ) {
         let mut len = 0;
-        // Hidden from the compiler once, and not in each round: a slice that goes through memory as two words and comes back as
-        // one costs five nanoseconds.
+        // Hidden from the compiler once and not in each round: a slice that goes through memory as two
+        // words and comes back as one costs about five nanoseconds.
         let out = black_box(&mut self.out[..]);
         let there = !extent_refs::MISSING.contains(&call);
         let mut first = || {
