@@ -1,5 +1,5 @@
 // Copies lent bytes of any length. Short runs go as two blocks that may overlap, long ones block by block with a last block that
-// ends where they end: no byte goes alone, and what is written twice is the same both times.
+// ends where they end: there is no loop over single bytes, and what is written twice is the same both times.
 use super::get;
 use super::put;
 ghost use mathlib.Core.Path.{_≡_};
