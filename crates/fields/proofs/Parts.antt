@@ -161,12 +161,12 @@ copied-next at i n src old one two h room e₁ e₂ =
     copied-pair at 0 i n src old one two (omega arith) (omega arith) e₁
     (e₂ ∙ ap (λ (k : ℕ). written (at + i) (part k n src) one) (sym (zero-add i)))
 
--- the last part may start within what is copied already: the bytes written twice are the same both times
-pub copied-last : (at i a n : ℕ) (src old one two : List ℕ) → a ≤ i → i ≤ length src → a + n ≡ length src → at + length src ≤ length old
+-- a part may start within what is copied already: the bytes written twice are the same both times
+pub copied-over : (at i a n : ℕ) (src old one two : List ℕ) → a ≤ i → i ≤ a + n → a + n ≤ length src → at + length src ≤ length old
     → one ≡ written at (part 0 i src) old
     → two ≡ written (at + a) (part a n src) one
-    → two ≡ written at src old
-copied-last at i a n src old one two low high e room e₁ e₂ =
+    → two ≡ written at (part 0 (a + n) src) old
+copied-over at i a n src old one two low high h room e₁ e₂ =
     let base : List ℕ = written at (part 0 a src) old in
     let ha : length (part 0 a src) ≡ a = length-part a 0 src (omega arith) in
     let hn : length (part a n src) ≡ n = length-part n a src (omega arith) in
@@ -176,9 +176,17 @@ copied-last at i a n src old one two low high e room e₁ e₂ =
     let first : one ≡ written (at + a) (part a (i - a) src) base =
     e₁ ∙ ap (λ (k : ℕ). written at (part 0 k src) old) split
     ∙ sym (copied-next at a (i - a) src old base (written (at + a) (part a (i - a) src) base) (omega arith) room refl refl) in
-    copied-next at a n src old base two (omega arith) room refl
+    copied-next at a n src old base two h room refl
     (e₂ ∙ ap (written (at + a) (part a n src)) first
     ∙ written-over (at + a) (part a (i - a) src) (part a n src) base (omega arith) (omega arith))
+
+-- the last part
+pub copied-last : (at i a n : ℕ) (src old one two : List ℕ) → a ≤ i → i ≤ length src → a + n ≡ length src → at + length src ≤ length old
+    → one ≡ written at (part 0 i src) old
+    → two ≡ written (at + a) (part a n src) one
+    → two ≡ written at src old
+copied-last at i a n src old one two low high e room e₁ e₂ =
+    copied-over at i a n src old one two low (omega arith) (omega arith) room e₁ e₂
     ∙ ap (λ (l : List ℕ). written at l old) (part-all (a + n) src (sym e))
 
 -- the two blocks of a list that is at most twice as long as one of them

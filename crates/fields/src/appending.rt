@@ -82,10 +82,10 @@ fn append_few(src: &[u8], dst: &mut [u8], at: usize)
     }
 }
 
-// The first blocks of a long run, up to 320 bytes before its end. A write to a line that is not in the nearest cache waits for it,
+// The first blocks of a run, up to 320 bytes before its end. A write to a line that is not in the nearest cache waits for it,
 // so a byte 256 further on is read first; the bytes read add nothing to the result, but a compiler would drop the reads if nothing
 // used them. Returns how many bytes were copied.
-fn append_far(src: &[u8], dst: &mut [u8], at: usize) -> usize
+fn append_ahead(src: &[u8], dst: &mut [u8], at: usize) -> usize
     requires { ⌜ (length (now src) ≤ 262144) × (at + length (now src) ≤ length (now dst)) ⌝ }
     ensures { λ r. ⌜ (r ≤ length (now (src .entry))) × (now (dst .exit) ≡ written at (part 0 r (now (src .entry))) (now (dst .entry))) ⌝ }
 {
@@ -97,6 +97,31 @@ fn append_far(src: &[u8], dst: &mut [u8], at: usize) -> usize
         i += 64;
     }
     i + (ahead / 1048576) as usize
+}
+
+// The first two blocks of a run, so that those after them begin at a multiple of 16 in the output. Returns how many bytes were
+// copied.
+fn append_first(src: &[u8], dst: &mut [u8], at: usize) -> usize
+    requires { ⌜ (128 ≤ length (now src)) × (at + length (now src) ≤ length (now dst)) ⌝ }
+    ensures { λ r. ⌜ (r ≤ length (now (src .entry))) × (now (dst .exit) ≡ written at (part 0 r (now (src .entry))) (now (dst .entry))) ⌝ }
+{
+    let second = 64 - at % 16;
+    copy_64(src, 0, dst, at);
+    copy_64(src, second, dst, at + second);
+    second + 64
+}
+
+// The first blocks of a long run. The memory of an output mostly begins at a multiple of 16; blocks that do so too never lie over
+// two lines of the cache, for which a write waits where neither is near. Returns how many bytes were copied.
+fn append_far(src: &[u8], dst: &mut [u8], at: usize) -> usize
+    requires { ⌜ (length (now src) ≤ 262144) × (at + length (now src) ≤ length (now dst)) ⌝ }
+    ensures { λ r. ⌜ (r ≤ length (now (src .entry))) × (now (dst .exit) ≡ written at (part 0 r (now (src .entry))) (now (dst .entry))) ⌝ }
+{
+    if src.len() <= 16384 {
+        return append_ahead(src, dst, at);
+    }
+    let first = append_first(src, dst, at);
+    first + append_ahead(&src[first..src.len()], dst, at + first)
 }
 
 // More than 64 bytes.
