@@ -111,8 +111,9 @@ fn append_first(src: &[u8], dst: &mut [u8], at: usize) -> usize
     second + 64
 }
 
-// The first blocks of a long run. The memory of an output mostly begins at a multiple of 16; blocks that do so too never lie over
-// two lines of the cache, for which a write waits where neither is near. Returns how many bytes were copied.
+// The first blocks of a long run. A move of 16 bytes that begins at a multiple of 16 never lies over two lines of the cache, and the
+// memory of an output mostly begins at such a multiple. This matters for lines that are not near; a run of up to 16 KiB fits the
+// nearest cache with its source. Returns how many bytes were copied.
 fn append_far(src: &[u8], dst: &mut [u8], at: usize) -> usize
     requires { ⌜ (length (now src) ≤ 262144) × (at + length (now src) ≤ length (now dst)) ⌝ }
     ensures { λ r. ⌜ (r ≤ length (now (src .entry))) × (now (dst .exit) ≡ written at (part 0 r (now (src .entry))) (now (dst .entry))) ⌝ }

@@ -37,7 +37,7 @@ pub fn sheet(items: &[OwnedItem]) -> Vec<u8> {
 }
 
 pub fn rows(b: &mut Bench) {
-    for count in [2, 50, 200, 2_000] {
+    for count in [2, 8, 50, 200, 2_000] {
         with_items(b, count);
     }
 }
