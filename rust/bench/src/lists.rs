@@ -37,9 +37,24 @@ pub fn sheet(items: &[OwnedItem]) -> Vec<u8> {
 }
 
 pub fn rows(b: &mut Bench) {
+    only_item(b);
     for count in [2, 8, 50, 200, 2_000] {
         with_items(b, count);
     }
+}
+
+/// Where there is nothing left to copy the original allocates nothing, while the archive still reads the list.
+fn only_item(b: &mut Bench) {
+    let items = list(1);
+    let (sheet, key) = (sheet(&items), items[0].key);
+    b.row(
+        "leaf_edit_delete",
+        "1 item",
+        || leaf_edit::delete(&items, &key),
+        |out, len| {
+            lent::leaf_edit_delete(&sheet, key.objectid, key.key_type, key.offset, out, len).into()
+        },
+    );
 }
 
 fn with_items(b: &mut Bench, count: u64) {
