@@ -57,7 +57,7 @@ fn only_item(b: &mut Bench) {
     );
 }
 
-fn with_items(b: &mut Bench, count: u64) {
+pub fn with_items(b: &mut Bench, count: u64) {
     let size = &format!("{count} items")[..];
     let items = list(count);
     let sheet = sheet(&items);

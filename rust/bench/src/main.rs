@@ -13,6 +13,8 @@
 #[cfg(original_here)]
 mod bodies;
 #[cfg(original_here)]
+mod growth;
+#[cfg(original_here)]
 mod lists;
 mod measure;
 #[cfg(original_here)]
@@ -56,8 +58,10 @@ fn main() {
     }
     if passes > 1 {
         bench.print();
-        bench.print_growth();
     }
     #[cfg(original_here)]
-    worst::table(&mut bench);
+    {
+        growth::table(&mut bench);
+        worst::table(&mut bench);
+    }
 }

@@ -22,25 +22,45 @@ fn now() -> u64 {
 
 pub const PASSES: usize = 6;
 const BATCHES: usize = 12;
+const TURN_BATCHES: usize = 3;
 const BATCH_NANOSECONDS: u64 = 1_000_000;
 
-/// What is asked for: times of the calls whose name holds a word, or so many runs of one side of one
-/// row, for a profiler.
+/// What is asked for: times of the calls whose name holds a word; one call alone, in few batches; or so
+/// many runs of one side of one row, for a profiler.
 pub enum Asked {
     Times(Option<String>),
+    Turn(String),
     Runs { side: String, call: String, size: String, rounds: usize },
 }
 
-struct Row {
-    call: String,
-    size: String,
-    original: f64,
-    archive: Option<f64>,
+impl Asked {
+    fn times_of(&self, call: &str) -> bool {
+        match self {
+            Asked::Times(word) => word.as_ref().is_none_or(|word| call.contains(word.as_str())),
+            Asked::Turn(only) => call == only,
+            Asked::Runs { .. } => false,
+        }
+    }
+
+    fn batches(&self) -> usize {
+        if matches!(self, Asked::Turn(_)) {
+            TURN_BATCHES
+        } else {
+            BATCHES
+        }
+    }
+}
+
+pub struct Row {
+    pub call: String,
+    pub size: String,
+    pub original: f64,
+    pub archive: Option<f64>,
 }
 
 pub struct Bench {
     asked: Asked,
-    rows: Vec<Row>,
+    pub rows: Vec<Row>,
     out: Vec<u8>,
 }
 
@@ -65,22 +85,21 @@ impl Bench {
         let mut first = || {
             black_box(original());
         };
-        match &self.asked {
-            Asked::Times(Some(word)) if !call.contains(word.as_str()) => return,
-            Asked::Times(_) => {}
-            Asked::Runs { side, call: only, size: of, rounds } => {
-                if call == only && size == of {
-                    if side == "original" {
-                        batch(&mut first, *rounds);
-                    } else {
-                        let mut second = || {
-                            black_box(archive(out, &mut len));
-                        };
-                        batch(&mut second, *rounds);
-                    }
+        if let Asked::Runs { side, call: only, size: of, rounds } = &self.asked {
+            if call == only && size == of {
+                if side == "original" {
+                    batch(&mut first, *rounds);
+                } else {
+                    let mut second = || {
+                        black_box(archive(out, &mut len));
+                    };
+                    batch(&mut second, *rounds);
                 }
-                return;
             }
+            return;
+        }
+        if !self.asked.times_of(call) {
+            return;
         }
         if there && !call.ends_with("hash") {
             let code = archive(out, &mut len);
@@ -91,7 +110,7 @@ impl Bench {
         };
         let rounds = (calibrated(&mut first), if there { calibrated(&mut second) } else { 0 });
         let mut best = (f64::MAX, f64::MAX);
-        for _ in 0..BATCHES {
+        for _ in 0..self.asked.batches() {
             best.0 = best.0.min(batch(&mut first, rounds.0));
             if there {
                 best.1 = best.1.min(batch(&mut second, rounds.1));
@@ -102,13 +121,14 @@ impl Bench {
 
     /// Something beside the calls, to hold them against.
     pub fn beside(&mut self, name: &str, size: &str, mut call: impl FnMut(&mut [u8])) {
-        if !matches!(self.asked, Asked::Times(None)) {
+        if !self.asked.times_of(name) {
             return;
         }
+        let batches = self.asked.batches();
         let out = &mut self.out[..];
         let mut call = || call(black_box(&mut *out));
         let rounds = calibrated(&mut call);
-        let best = (0..BATCHES).map(|_| batch(&mut call, rounds)).fold(f64::MAX, f64::min);
+        let best = (0..batches).map(|_| batch(&mut call, rounds)).fold(f64::MAX, f64::min);
         self.keep(name, size, best, None);
     }
 
@@ -131,11 +151,7 @@ impl Bench {
         call: &str,
         mut archive: impl FnMut(&mut [u8], &mut u64) -> u64,
     ) -> Option<f64> {
-        let asked = match &self.asked {
-            Asked::Times(word) => word.as_ref().is_none_or(|word| call.contains(word.as_str())),
-            Asked::Runs { .. } => false,
-        };
-        if !asked || extent_refs::MISSING.contains(&call) {
+        if !self.asked.times_of(call) || extent_refs::MISSING.contains(&call) {
             return None;
         }
         let mut len = 0;
@@ -159,20 +175,13 @@ impl Bench {
         }
     }
 
-    /// How much longer ten times the items take.
-    pub fn print_growth(&self) {
-        let of = |call: &str, size: &str| {
-            self.rows.iter().find(|row| row.call == call && row.size.starts_with(size))
-        };
-        println!("\n| call | 2,000 items / 200 items, original | archive |\n|---|---|---|");
-        for more in self.rows.iter().filter(|row| row.size.starts_with("2000 items")) {
-            let Some(less) = of(&more.call, "200 items") else { continue };
-            let grown = match more.archive.zip(less.archive) {
-                Some((long, short)) => format!("{:.1}", long / short),
-                None => "".into(),
-            };
-            println!("| `{}` | {:.1} | {grown} |", more.call, more.original / less.original);
-        }
+    /// One call alone: its row now, apart from the table.
+    pub fn turn(&mut self, call: &str, rows: impl FnOnce(&mut Bench)) -> Option<Row> {
+        let asked = std::mem::replace(&mut self.asked, Asked::Turn(call.into()));
+        let kept = std::mem::take(&mut self.rows);
+        rows(self);
+        self.asked = asked;
+        std::mem::replace(&mut self.rows, kept).pop()
     }
 }
 
