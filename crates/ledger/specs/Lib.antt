@@ -1,4 +1,2 @@
-pub mod Known
-pub mod Asked
-pub mod Adding
+pub mod Posting
 pub mod Calls

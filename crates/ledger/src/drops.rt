@@ -1,9 +1,9 @@
 // A reference dropped from the record of an extent, or from its own item.
-use crate::Stand;
 use format::BlockRef;
 use format::DataRef;
 use format::Edited;
 use format::SharedRef;
+use ledger_adds::Stand;
 ghost use mathlib.Core.Bool.{false};
 ghost use lib.ListN.{length};
 ghost use Rattle.format.specs.Questions.{Answered};
@@ -11,7 +11,7 @@ ghost use Rattle.format.specs.Items.{heldSheet};
 ghost use Rattle.format.specs.Apply.{onRecord, dropTreeRef};
 ghost use Rattle.format.specs.Ledger.{dropDataRef, dropSharedRef};
 ghost use Rattle.item_list.specs.Steps.{itemsOf};
-ghost use Rattle.ledger.specs.Known.{BalancedList, RecordAt};
+ghost use Rattle.ledger_adds.specs.Known.{BalancedList, RecordAt};
 
 pub fn drop_block(sheet: &[u8], stand: Stand, extent: u64, name: BlockRef, out: &mut [u8]) -> Edited
     requires { ⌜ BalancedList (now sheet) (stand .items) ⌝ }

@@ -1,12 +1,11 @@
 // One change posted: questions 1 to 5 first, then the change's own.
-use crate::Stand;
-use crate::adds;
 use crate::drops;
 use format::Change;
 use format::Edited;
 use format::SharedRef;
 use inline_refs::Wanted;
 use item_list::Listing;
+use ledger_adds::Stand;
 ghost use mathlib.Core.Path.{_≡_};
 ghost use mathlib.Core.Bool.{_&&_};
 ghost use lib.Dec.{T};
@@ -17,8 +16,8 @@ ghost use Rattle.format.specs.Items.{nodesizeFits, heldSheet};
 ghost use Rattle.format.specs.Names.{balanced};
 ghost use Rattle.format.specs.Ledger.{nameOf, kindFits, changed, posted};
 ghost use Rattle.item_list.specs.Steps.{Listed, itemsOf};
-ghost use Rattle.ledger.specs.Known.{BalancedList, RecordAt, beforeFive};
-ghost use Rattle.ledger.specs.Adding.{SharedWanted};
+ghost use Rattle.ledger_adds.specs.Known.{BalancedList, RecordAt};
+ghost use Rattle.ledger.specs.Posting.{beforeFive, SharedWanted};
 
 fn kind_fits(change: Change) -> bool
     ensures { λ r. ⌜ r ≡ kindFits change ⌝ }
@@ -91,7 +90,7 @@ fn change_at(sheet: &[u8], stand: Stand, nodesize: u32, change: Change, out: &mu
 {
     match change {
         Change::AddBlock { extent, name } => {
-            return adds::add(sheet, stand, nodesize, extent, Wanted::Block(name), 1, out);
+            return ledger_adds::add(sheet, stand, nodesize, extent, Wanted::Block(name), 1, out);
         }
         Change::AddData {
             extent,
@@ -99,7 +98,7 @@ fn change_at(sheet: &[u8], stand: Stand, nodesize: u32, change: Change, out: &mu
             amount,
         } => {
             let wanted = Wanted::Data(name);
-            return adds::add(sheet, stand, nodesize, extent, wanted, amount, out);
+            return ledger_adds::add(sheet, stand, nodesize, extent, wanted, amount, out);
         }
         Change::AddShared {
             extent,
@@ -107,7 +106,7 @@ fn change_at(sheet: &[u8], stand: Stand, nodesize: u32, change: Change, out: &mu
             amount,
         } => {
             let wanted = shared_wanted(name);
-            return adds::add(sheet, stand, nodesize, extent, wanted, amount, out);
+            return ledger_adds::add(sheet, stand, nodesize, extent, wanted, amount, out);
         }
         Change::DropBlock { extent, name } => {
             return drops::drop_block(sheet, stand, extent, name, out);

@@ -1,5 +1,5 @@
 use mathlib.Core.Path.{sym, _∙_}
-use Rattle.ledger.specs.Known.{beforeFive}
+use Rattle.ledger.specs.Posting.{beforeFive}
 use borrow.Author.Needs.{needs}
 use Rattle.ledger.proofs.posting.before_five.Statement.{statement}
 use Rattle.ledger.proofs.posting.before_five.Tie as tie

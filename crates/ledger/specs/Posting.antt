@@ -1,0 +1,18 @@
+-- What the steps of a posting say: questions 3 and 4, and the name that a shared reference wants. Assumes nothing.
+use mathlib.Core.Path.{_≡_}
+use mathlib.Core.Bool.{Bool, cond}
+use Prim.Native.Nat.{ℕ}
+use Rattle.format.specs.declared.SharedRef.{SharedRef}
+use Rattle.format.specs.declared.Change.the-variants.{AddShared}
+use Rattle.inline_refs.specs.declared.wanted.Wanted.{Wanted}
+use Rattle.inline_refs.specs.Scans.{kindOf}
+use Rattle.ledger_adds.specs.Adding.{addChange}
+
+-- questions 3 and 4: the number of the first "no", or 0
+unfoldable pub beforeFive : Bool → Bool → ℕ
+beforeFive three four = cond three (cond four 0 4) 3
+
+-- the name that a shared reference wants
+pub record SharedWanted (name : SharedRef) (w : Wanted) : Type 0 where
+  pub change : (extent amount : ℕ) → AddShared extent name amount ≡ addChange extent w amount
+  pub kind : kindOf w ≡ name .kind

@@ -1,0 +1,5 @@
+pub mod Own
+pub mod OwnItems
+pub mod Alsos
+pub mod Standings
+pub mod Adding
