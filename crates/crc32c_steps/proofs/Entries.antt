@@ -4,7 +4,7 @@ use mathlib.Core.List.{List}
 use Prim.Native.Nat.{ℕ, zero, suc, _+_, _<_}
 use native.Mathlib.Nat.{add-zero, zero-add, add-suc, suc-add, le-of-suc-le-suc, not-suc-le-zero}
 use lib.ListN.{getD}
-use Rattle.crc32c_tables.specs.Steps.{step, steps, entries, tableOf}
+use Rattle.crc32c_steps.specs.Steps.{step, steps, entries, tableOf}
 
 module _ (f : ℕ → ℕ) where
   from : (k i n : ℕ) → n < k → getD (entries f k i) n 0 ≡ f (i + n)
