@@ -1,10 +1,4 @@
-pub mod Admits
-pub mod Weighs
-pub mod Steps
-pub mod Spanning
-pub mod Halves
 pub mod Forms
 pub mod Marks
-pub mod Rows
 pub mod Refers
 pub mod Turns

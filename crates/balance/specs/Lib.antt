@@ -1,3 +1,1 @@
-pub mod Spans
-pub mod Places
 pub mod Groups

@@ -2,11 +2,7 @@
 mod group;
 mod marking;
 mod naming;
-mod record;
 mod reference;
-mod search;
-mod span;
-mod together;
 mod turning;
 mod walk;
 

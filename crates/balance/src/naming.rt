@@ -3,8 +3,6 @@ use crate::group::Group;
 use crate::group::Turn;
 use crate::reference;
 use crate::reference::Named;
-use crate::search;
-use crate::span;
 use format::Key;
 use inline_refs::Wanted;
 ghost use mathlib.Core.Path.{_≡_};
@@ -39,9 +37,9 @@ fn take_name(
     let from = g.from;
     let to = g.to;
     let body = &s[from..to];
-    let span = span::span_for(rows, body, g.start, g.span, key.kind);
-    let size = span::stride(rows, key.kind);
-    if search::stands(body, size, span, wanted, key.offset) {
+    let span = balance_search::span_for(rows, body, g.start, g.span, key.kind);
+    let size = balance_search::stride(rows, key.kind);
+    if balance_search::stands(body, size, span, wanted, key.offset) {
         return Turn::Bad;
     }
     Turn::Next(Group {

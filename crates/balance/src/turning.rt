@@ -3,7 +3,7 @@ use crate::group::Group;
 use crate::group::Turn;
 use crate::marking;
 use crate::naming;
-use crate::span::Span;
+use balance_search::Span;
 use format::Key;
 ghost use mathlib.Core.Path.{_≡_};
 ghost use Prim.Native.Nat.{_+_, _≤_};

@@ -1,3 +1,4 @@
+pub mod SideBySide
 pub mod Sorted
 pub mod Parts
 pub mod Says

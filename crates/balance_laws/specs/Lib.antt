@@ -1,2 +1,3 @@
+pub mod SideBySide
 pub mod Runs
 pub mod Tally

@@ -1,1 +1,2 @@
-// The definition of a balanced sheet as one pass over its items, for the crate `balance`. There is no code here.
+// The definition of a balanced sheet as one pass over its items, for the crates that have the code of that pass. There is no
+// code here.

@@ -1,0 +1,4 @@
+pub mod Steps
+pub mod Spanning
+pub mod Halves
+pub mod Rows
