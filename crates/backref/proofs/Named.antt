@@ -12,13 +12,13 @@ use Rattle.format.specs.Questions.{Answer, ask, TakenOut, Answered, AnsweredTak
 use Rattle.format.specs.Bodies.{heldBody, one, sharedKind, addInlineShared, heldTaken, takeInlineShared}
 use Rattle.inline_refs.specs.Scans.{kindOf, fieldsOf}
 use Rattle.inline_refs.specs.declared.wanted.Wanted.{Wanted}
-use Rattle.backref_plan.specs.declared.plan.Plan.{Plan}
-use Rattle.backref_plan.specs.declared.plan.Outcome.the-variants.{Refused}
-use Rattle.backref_plan.specs.Plans.{planAnswer, planTaken, Planned, PlannedTaken}
+use Rattle.plan_write.specs.declared.plan.Plan.{Plan}
+use Rattle.plan_write.specs.declared.plan.Outcome.the-variants.{Refused}
+use Rattle.plan_write.specs.Plans.{planAnswer, planTaken, Planned, PlannedTaken}
 use Rattle.backref_plan.specs.Adds.{ownPlace, spotOf, addInline}
 use Rattle.backref_plan.specs.Takes.{takeInline}
-use Rattle.backref_plan.proofs.Outcomes.{plan-refused, plan-same}
-use Rattle.backref_plan.proofs.Taken.{taken-refused, taken-same}
+use Rattle.plan_write.proofs.Outcomes.{plan-refused, plan-same}
+use Rattle.plan_write.proofs.Taken.{taken-refused, taken-same}
 
 pub answered : {p : Plan} {body : List ℕ} {a : Answer (List ℕ)} (room : ℕ) {r : Edited} {old new : List ℕ} → Planned p body a
     → Answered (heldBody room (planAnswer p body)) r old new → Answered (heldBody room a) r old new

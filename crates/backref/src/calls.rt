@@ -13,57 +13,57 @@ ghost use Rattle.format.specs.Bodies.{heldBody, raiseTotal, lowerTotal, reduceT
 pub fn raise_total(body: &[u8], amount: u64, out: &mut [u8]) -> Edited
     ensures { λ r. ⌜ Answered (heldBody (length (now (out .entry))) (raiseTotal (now (body .entry)) amount)) r (now (out .entry)) (now (out .exit)) ⌝ }
 {
-    let plan = backref_plan::plan_raise_total(body, amount);
-    backref_plan::write_same(body, plan, out)
+    let plan = plan_totals::plan_raise_total(body, amount);
+    plan_write::write_same(body, plan, out)
 }
 
 pub fn lower_total(body: &[u8], out: &mut [u8]) -> Edited
     ensures { λ r. ⌜ Answered (heldBody (length (now (out .entry))) (lowerTotal (now (body .entry)))) r (now (out .entry)) (now (out .exit)) ⌝ }
 {
-    let plan = backref_plan::plan_lower_total(body);
-    backref_plan::write_same(body, plan, out)
+    let plan = plan_totals::plan_lower_total(body);
+    plan_write::write_same(body, plan, out)
 }
 
 pub fn reduce_total(body: &[u8], amount: u64, out: &mut [u8]) -> Edited
     ensures { λ r. ⌜ Answered (heldBody (length (now (out .entry))) (reduceTotal (now (body .entry)) amount)) r (now (out .entry)) (now (out .exit)) ⌝ }
 {
-    let plan = backref_plan::plan_reduce_total(body, amount);
-    backref_plan::write_same(body, plan, out)
+    let plan = plan_totals::plan_reduce_total(body, amount);
+    plan_write::write_same(body, plan, out)
 }
 
 pub fn with_flags(body: &[u8], set: u64, out: &mut [u8]) -> Edited
     ensures { λ r. ⌜ Answered (heldBody (length (now (out .entry))) (withFlags (now (body .entry)) set)) r (now (out .entry)) (now (out .exit)) ⌝ }
 {
-    let plan = backref_plan::plan_with_flags(body, set);
-    backref_plan::write_same(body, plan, out)
+    let plan = plan_totals::plan_with_flags(body, set);
+    plan_write::write_same(body, plan, out)
 }
 
 pub fn drop_inline_tree_ref(item_type: u8, body: &[u8], tree: u64, out: &mut [u8]) -> Edited
     ensures { λ r. ⌜ Answered (heldBody (length (now (out .entry))) (dropInlineTreeRef «item_type» (now (body .entry)) (record { tree = tree }))) r (now (out .entry)) (now (out .exit)) ⌝ }
 {
     let plan = crate::plans::plan_drop_tree(item_type, body, BlockRef { tree });
-    backref_plan::write_plan(body, plan, out)
+    plan_write::write_plan(body, plan, out)
 }
 
 pub fn drop_inline_data_ref(item_type: u8, body: &[u8], name: DataRef, out: &mut [u8]) -> Edited
     ensures { λ r. ⌜ Answered (heldBody (length (now (out .entry))) (dropInlineDataRef «item_type» (now (body .entry)) name)) r (now (out .entry)) (now (out .exit)) ⌝ }
 {
     let plan = crate::plans::plan_drop_data(item_type, body, name);
-    backref_plan::write_plan(body, plan, out)
+    plan_write::write_plan(body, plan, out)
 }
 
 pub fn add_inline_tree_ref(item_type: u8, body: &[u8], tree: u64, out: &mut [u8]) -> Edited
     ensures { λ r. ⌜ Answered (heldBody (length (now (out .entry))) (addInlineTreeRef «item_type» (now (body .entry)) (record { tree = tree }))) r (now (out .entry)) (now (out .exit)) ⌝ }
 {
     let plan = crate::plans::plan_add_tree(item_type, body, BlockRef { tree });
-    backref_plan::write_plan(body, plan, out)
+    plan_write::write_plan(body, plan, out)
 }
 
 pub fn add_inline_data_ref(item_type: u8, body: &[u8], name: DataRef, out: &mut [u8]) -> Edited
     ensures { λ r. ⌜ Answered (heldBody (length (now (out .entry))) (addInlineDataRef «item_type» (now (body .entry)) name)) r (now (out .entry)) (now (out .exit)) ⌝ }
 {
     let plan = crate::plans::plan_add_data(item_type, body, name, 1);
-    backref_plan::write_plan(body, plan, out)
+    plan_write::write_plan(body, plan, out)
 }
 
 pub fn add_inline_shared(
@@ -76,14 +76,14 @@ pub fn add_inline_shared(
     ensures { λ r. ⌜ Answered (heldBody (length (now (out .entry))) (addInlineShared «item_type» (now (body .entry)) name count)) r (now (out .entry)) (now (out .exit)) ⌝ }
 {
     let plan = crate::plans::plan_add_shared(item_type, body, name, count);
-    backref_plan::write_plan(body, plan, out)
+    plan_write::write_plan(body, plan, out)
 }
 
 pub fn add_keyed_block(item_type: u8, body: &[u8], name: BlockRef, out: &mut [u8]) -> Edited
     ensures { λ r. ⌜ Answered (heldBody (length (now (out .entry))) (addInlineKeyed «item_type» (now (body .entry)) (Keyed.Block name) 1)) r (now (out .entry)) (now (out .exit)) ⌝ }
 {
     let plan = backref_plan::plan_add_keyed(item_type, body, Wanted::Block(name), name.tree, 1);
-    backref_plan::write_plan(body, plan, out)
+    plan_write::write_plan(body, plan, out)
 }
 
 // A data reference that is the only one goes before the first higher type: place 0.
@@ -97,12 +97,12 @@ pub fn add_keyed_data(
     ensures { λ r. ⌜ Answered (heldBody (length (now (out .entry))) (addInlineKeyed «item_type» (now (body .entry)) (Keyed.Data name) count)) r (now (out .entry)) (now (out .exit)) ⌝ }
 {
     let plan = backref_plan::plan_add_keyed(item_type, body, Wanted::Data(name), 0, count);
-    backref_plan::write_plan(body, plan, out)
+    plan_write::write_plan(body, plan, out)
 }
 
 pub fn take_inline_shared(item_type: u8, body: &[u8], name: SharedRef, out: &mut [u8]) -> Taken
     ensures { λ r. ⌜ AnsweredTaken (heldTaken (length (now (out .entry))) (takeInlineShared «item_type» (now (body .entry)) name)) r (now (out .entry)) (now (out .exit)) ⌝ }
 {
     let plan = crate::plans::plan_take_shared(item_type, body, name);
-    backref_plan::write_taken(body, plan, out)
+    plan_write::write_taken(body, plan, out)
 }

@@ -21,5 +21,5 @@ pub fn drop_keyed_data_ref(item: &[u8], name: DataRef, out: &mut [u8]) -> Edited
     ensures { λ r. ⌜ Answered (heldBody (length (now (out .entry))) (dropKeyedDataRef (now (item .entry)) name)) r (now (out .entry)) (now (out .exit)) ⌝ }
 {
     let plan = backref_plan::plan_drop_keyed(item, name);
-    backref_plan::write_same(item, plan, out)
+    plan_write::write_same(item, plan, out)
 }

@@ -1,15 +1,15 @@
 // The plans by the names that the calls take.
-use backref_plan::Plan;
 use format::BlockRef;
 use format::DataRef;
 use format::SharedRef;
 use inline_refs::Wanted;
+use plan_write::Plan;
 ghost use mathlib.Core.Path.{_≡_};
 ghost use mathlib.Core.Bool.{true};
 ghost use Rattle.format.specs.Bodies.{dropInlineTreeRef, dropInlineDataRef, addInlineTreeRef, addInlineData, addInlineShared, takeInlineShared, sharedKind, one};
 ghost use Rattle.inline_refs.specs.Scans.{kindOf, fieldsOf};
 ghost use Rattle.backref_plan.specs.Adds.{ownPlace};
-ghost use Rattle.backref_plan.specs.Plans.{Planned, PlannedTaken};
+ghost use Rattle.plan_write.specs.Plans.{Planned, PlannedTaken};
 
 pub fn plan_drop_tree(item_type: u8, body: &[u8], name: BlockRef) -> Plan
     ensures { λ r. ⌜ Planned r (now (body .entry)) (dropInlineTreeRef «item_type» (now (body .entry)) name) ⌝ }
@@ -59,7 +59,7 @@ pub fn plan_add_shared(item_type: u8, body: &[u8], name: SharedRef, amount: u32)
     if shared_kind(name.kind) {
         return backref_plan::plan_add_inline(item_type, body, wanted_of(name), amount, false);
     }
-    backref_plan::refuse(3)
+    plan_write::refuse(3)
 }
 
 pub fn plan_take_shared(item_type: u8, body: &[u8], name: SharedRef) -> Plan
@@ -68,5 +68,5 @@ pub fn plan_take_shared(item_type: u8, body: &[u8], name: SharedRef) -> Plan
     if shared_kind(name.kind) {
         return backref_plan::plan_take_inline(item_type, body, wanted_of(name));
     }
-    backref_plan::refuse(3)
+    plan_write::refuse(3)
 }

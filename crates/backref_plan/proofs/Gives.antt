@@ -27,13 +27,13 @@ use Rattle.inline_refs.specs.Scans.{kindOf, fieldsOf, scanOf, refsIn}
 use Rattle.inline_refs.specs.Sites.{siteAnywhere, kinIn}
 use Rattle.inline_refs.proofs.Views.{View, anyKin}
 use Rattle.inline_refs.proofs.Spots.{SpotView, spot-anywhere, spot-by-scan}
-use Rattle.backref_plan.specs.declared.plan.Outcome.the-variants.{Refused}
-use Rattle.backref_plan.specs.declared.plan.Plan.{Plan}
-use Rattle.backref_plan.specs.Plans.{Planned}
+use Rattle.plan_write.specs.declared.plan.Outcome.the-variants.{Refused}
+use Rattle.plan_write.specs.declared.plan.Plan.{Plan}
+use Rattle.plan_write.specs.Plans.{Planned}
 use Rattle.backref_plan.specs.Adds.{newRef, ownPlace, spotOf, siteOf, Raised, addInline, addKeyed}
-use Rattle.backref_plan.proofs.Writes.{Holds, wanted-small}
-use Rattle.backref_plan.proofs.Outcomes.{plan-refused}
-use Rattle.backref_plan.proofs.Heads.{raised-yes, raised-no}
+use Rattle.backref_plan.proofs.NewBytes.{Holds, wanted-small}
+use Rattle.plan_write.proofs.Outcomes.{plan-refused}
+use Rattle.plan_write.proofs.Totals.{raised-yes, raised-no}
 use Rattle.backref_plan.proofs.Sites.{ReadIn, scan-faults, on-body, ends, placed, planOf, site-plan, wanted-is}
 
 or-true : (b : Bool) → b || true ≡ true

@@ -14,11 +14,11 @@ use Rattle.fields.proofs.Numbers.{length-leBytes}
 use Rattle.format.specs.declared.DataRef.{DataRef}
 use Rattle.format.specs.Questions.{ask}
 use Rattle.format.specs.Bodies.{bodyFits, triple, keyedCount, dropKeyedDataRef}
-use Rattle.backref_plan.specs.declared.plan.Outcome.the-variants.{Edit, Remove, Refused}
-use Rattle.backref_plan.specs.declared.plan.Plan.{Plan}
-use Rattle.backref_plan.specs.Plans.{edited, Planned}
-use Rattle.backref_plan.proofs.Outcomes.{plan-edit, plan-refused, plan-remove}
-use Rattle.backref_plan.proofs.Heads.{rewritten, word-front}
+use Rattle.plan_write.specs.declared.plan.Outcome.the-variants.{Edit, Remove, Refused}
+use Rattle.plan_write.specs.declared.plan.Plan.{Plan}
+use Rattle.plan_write.specs.Plans.{edited, Planned}
+use Rattle.plan_write.proofs.Outcomes.{plan-edit, plan-refused, plan-remove}
+use Rattle.plan_write.proofs.Totals.{rewritten, word-front}
 
 module _ (item : List ℕ) (d : DataRef) (p : Plan) where
   pub keyed-long : 65535 < length item → p .outcome ≡ Refused 3 → Planned p item (dropKeyedDataRef item d)

@@ -1,9 +1,6 @@
-pub mod Writes
-pub mod Outcomes
-pub mod Heads
+pub mod NewBytes
 pub mod Sites
 pub mod Takes
 pub mod Gives
 pub mod KeyedDrops
 pub mod Taken
-pub mod Reductions

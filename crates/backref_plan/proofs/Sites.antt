@@ -26,10 +26,10 @@ use Rattle.inline_refs.specs.Scans.{kindOf, fieldsOf, isWanted, sizeOf, scanOf,
 use borrow.Author.Tests.{le-leb, leb-true}
 use Rattle.inline_refs.proofs.Steps.{by-test}
 use Rattle.inline_refs.proofs.Views.{Between, View, viewed}
-use Rattle.backref_plan.specs.declared.plan.Outcome.the-variants.{Edit}
-use Rattle.backref_plan.specs.declared.plan.Plan.{Plan}
-use Rattle.backref_plan.specs.Plans.{edited, Planned}
-use Rattle.backref_plan.proofs.Outcomes.{plan-edit}
+use Rattle.plan_write.specs.declared.plan.Outcome.the-variants.{Edit}
+use Rattle.plan_write.specs.declared.plan.Plan.{Plan}
+use Rattle.plan_write.specs.Plans.{edited, Planned}
+use Rattle.plan_write.proofs.Outcomes.{plan-edit}
 
 -- ---- a body is read, or a question is answered "no"
 

@@ -24,12 +24,12 @@ use Rattle.inline_refs.specs.Scans.{kindOf, fieldsOf, isWanted, scanOf, refsIn}
 use Rattle.inline_refs.specs.Sites.{hitOf}
 use Rattle.inline_refs.proofs.Views.{CutAt}
 use Rattle.inline_refs.proofs.Spots.{cut-between, cut-passed, found-view}
-use Rattle.backref_plan.specs.declared.plan.Outcome.the-variants.{Absent, Refused}
-use Rattle.backref_plan.specs.declared.plan.Plan.{Plan}
-use Rattle.backref_plan.specs.Plans.{Planned}
-use Rattle.backref_plan.proofs.Writes.{Holds}
-use Rattle.backref_plan.proofs.Outcomes.{plan-absent, plan-refused}
-use Rattle.backref_plan.proofs.Heads.{lowered-yes, lowered-no}
+use Rattle.plan_write.specs.declared.plan.Outcome.the-variants.{Absent, Refused}
+use Rattle.plan_write.specs.declared.plan.Plan.{Plan}
+use Rattle.plan_write.specs.Plans.{Planned}
+use Rattle.backref_plan.proofs.NewBytes.{Holds}
+use Rattle.plan_write.proofs.Outcomes.{plan-absent, plan-refused}
+use Rattle.plan_write.proofs.Totals.{lowered-yes, lowered-no}
 use Rattle.backref_plan.proofs.Sites.{ReadIn, scan-faults, on-body, placed, planOf, site-plan, wanted-is}
 
 module _ (type : ℕ) (d : List ℕ) (w : Wanted) (plan : Plan) where

@@ -12,8 +12,8 @@ use Rattle.inline_refs.specs.declared.scan.Seen.{Seen}
 use Rattle.inline_refs.specs.declared.site.Site.{Site}
 use Rattle.inline_refs.specs.Scans.{kindOf, fieldsOf}
 use Rattle.inline_refs.specs.Sites.{siteAnywhere, siteByScan}
-use Rattle.backref_plan.specs.declared.plan.Outcome.the-variants.{Edit, Refused}
-use Rattle.backref_plan.specs.declared.plan.Plan.{Plan}
+use Rattle.plan_write.specs.declared.plan.Outcome.the-variants.{Edit, Refused}
+use Rattle.plan_write.specs.declared.plan.Plan.{Plan}
 
 -- the reference that is added
 abbrev pub newRef : Wanted → ℕ → Ref

@@ -1,17 +1,15 @@
 // Plans that add references. The total and the count are compared before they are summed, so that no sum wraps.
-use crate::plan::Plan;
-use crate::plan::edit;
-use crate::plan::refuse;
 use inline_refs::Scan;
 use inline_refs::Seen;
 use inline_refs::Site;
 use inline_refs::Wanted;
+use plan_write::Plan;
 ghost use mathlib.Core.Path.{_≡_};
 ghost use mathlib.Core.Bool.{_||_, not};
 ghost use lib.Dec.{eqb};
 ghost use Rattle.format.specs.References.{counted};
 ghost use Rattle.inline_refs.specs.Scans.{kindOf};
-ghost use Rattle.backref_plan.specs.Plans.{Planned};
+ghost use Rattle.plan_write.specs.Plans.{Planned};
 ghost use Rattle.backref_plan.specs.Adds.{siteOf, Raised, addInline, addKeyed};
 
 // Whether references of the wanted kind have a count.
@@ -51,11 +49,11 @@ fn edit_raised(from: usize, to: usize, wanted: Wanted, count: u32, total: u64, a
 {
     let more = amount as u64;
     if 18446744073709551615 - more < total {
-        return refuse(12);
+        return plan_write::refuse(12);
     }
     let new = crate::bytes::bytes_of(wanted, count);
     let size = crate::bytes::size_of(wanted);
-    edit(from, to, new, size, total + more, 0)
+    plan_write::edit(from, to, new, size, total + more, 0)
 }
 
 // The amount is added at one name, and to the total.
@@ -69,22 +67,22 @@ pub fn plan_add_inline(
     ensures { λ r. ⌜ Planned r (now (body .entry)) (addInline «item_type» (now (body .entry)) wanted amount «by_scan») ⌝ }
 {
     match inline_refs::scan_to_add(item_type, body, wanted) {
-        Scan::Fault(number) => refuse(number),
+        Scan::Fault(number) => plan_write::refuse(number),
         Scan::Read(seen) => {
             let total = fields::get_u64_le(body, 0);
             match site_of(seen, body.len(), by_scan) {
                 Site::Gap(at) => {
                     if !may_add(wanted, amount) {
-                        return refuse(10);
+                        return plan_write::refuse(10);
                     }
                     edit_raised(at, at, wanted, amount, total, amount)
                 }
                 Site::Standing { at, next, weight } => {
                     if !counts(wanted) {
-                        return refuse(9);
+                        return plan_write::refuse(9);
                     }
                     if 4294967295 - amount < weight {
-                        return refuse(11);
+                        return plan_write::refuse(11);
                     }
                     edit_raised(at, next, wanted, weight + amount, total, amount)
                 }
@@ -108,26 +106,26 @@ pub fn plan_add_keyed(item_type: u8, body: &[u8], wanted: Wanted, place: u64, am
     ensures { λ r. ⌜ Planned r (now (body .entry)) (addKeyed «item_type» (now (body .entry)) wanted place amount) ⌝ }
 {
     match inline_refs::scan_body(item_type, body, wanted, place) {
-        Scan::Fault(number) => refuse(number),
+        Scan::Fault(number) => plan_write::refuse(number),
         Scan::Read(seen) => {
             let total = fields::get_u64_le(body, 0);
             match inline_refs::site_anywhere(seen, body.len()) {
                 Site::Gap(at) => {
                     if !may_key(wanted, inline_refs::any_kin(seen)) {
-                        return refuse(10);
+                        return plan_write::refuse(10);
                     }
                     let new = crate::bytes::bytes_of(wanted, amount);
-                    edit(at, at, new, crate::bytes::size_of(wanted), total, 0)
+                    plan_write::edit(at, at, new, crate::bytes::size_of(wanted), total, 0)
                 }
                 Site::Standing { at, next, weight } => {
                     if !counts(wanted) {
-                        return refuse(9);
+                        return plan_write::refuse(9);
                     }
                     if 4294967295 - amount < weight {
-                        return refuse(11);
+                        return plan_write::refuse(11);
                     }
                     let new = crate::bytes::bytes_of(wanted, weight + amount);
-                    edit(at, next, new, crate::bytes::size_of(wanted), total, 0)
+                    plan_write::edit(at, next, new, crate::bytes::size_of(wanted), total, 0)
                 }
             }
         }

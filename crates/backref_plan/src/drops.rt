@@ -1,15 +1,12 @@
 // Plans that take references away.
-use crate::plan::Outcome;
-use crate::plan::Plan;
-use crate::plan::edit;
-use crate::plan::refuse;
-use crate::plan::without;
 use inline_refs::Found;
 use inline_refs::Scan;
 use inline_refs::Wanted;
+use plan_write::Outcome;
+use plan_write::Plan;
 ghost use Rattle.format.specs.Bodies.{dropInline};
 ghost use Rattle.inline_refs.specs.Scans.{kindOf, fieldsOf};
-ghost use Rattle.backref_plan.specs.Plans.{Planned, PlannedTaken};
+ghost use Rattle.plan_write.specs.Plans.{Planned, PlannedTaken};
 ghost use Rattle.backref_plan.specs.Takes.{takeInline};
 
 // One count off the wanted reference, and off the total. Place 0: no gap is looked for, so no hash is computed.
@@ -17,20 +14,20 @@ pub fn plan_drop_inline(item_type: u8, body: &[u8], wanted: Wanted) -> Plan
     ensures { λ r. ⌜ Planned r (now (body .entry)) (dropInline «item_type» (now (body .entry)) (kindOf wanted) (fieldsOf wanted)) ⌝ }
 {
     match inline_refs::scan_body(item_type, body, wanted, 0) {
-        Scan::Fault(number) => refuse(number),
+        Scan::Fault(number) => plan_write::refuse(number),
         Scan::Read(seen) => {
             let Found::At { at, next, weight } = inline_refs::hit_of(seen) else {
-                return without(Outcome::Absent);
+                return plan_write::without(Outcome::Absent);
             };
             let total = fields::get_u64_le(body, 0);
             if total < 2 {
-                return refuse(13);
+                return plan_write::refuse(13);
             }
             if weight < 2 {
-                return edit(at, next, [0; 32], 0, total - 1, 0);
+                return plan_write::edit(at, next, [0; 32], 0, total - 1, 0);
             }
             let new = crate::bytes::bytes_of(wanted, weight - 1);
-            edit(at, next, new, crate::bytes::size_of(wanted), total - 1, 0)
+            plan_write::edit(at, next, new, crate::bytes::size_of(wanted), total - 1, 0)
         }
     }
 }
@@ -40,13 +37,13 @@ pub fn plan_take_inline(item_type: u8, body: &[u8], wanted: Wanted) -> Plan
     ensures { λ r. ⌜ PlannedTaken r (now (body .entry)) (takeInline «item_type» (now (body .entry)) wanted) ⌝ }
 {
     match inline_refs::scan_body(item_type, body, wanted, 0) {
-        Scan::Fault(number) => refuse(number),
+        Scan::Fault(number) => plan_write::refuse(number),
         Scan::Read(seen) => {
             let Found::At { at, next, weight } = inline_refs::hit_of(seen) else {
-                return without(Outcome::Absent);
+                return plan_write::without(Outcome::Absent);
             };
             let total = fields::get_u64_le(body, 0);
-            edit(at, next, [0; 32], 0, total, weight)
+            plan_write::edit(at, next, [0; 32], 0, total, weight)
         }
     }
 }

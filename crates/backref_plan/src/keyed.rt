@@ -1,17 +1,14 @@
 // The plan on a data reference's item: a triple, and a count at 24.
-use crate::plan::Outcome;
-use crate::plan::Plan;
-use crate::plan::edit;
-use crate::plan::refuse;
-use crate::plan::without;
 use format::DataRef;
+use plan_write::Outcome;
+use plan_write::Plan;
 ghost use mathlib.Core.Path.{_≡_};
 ghost use Prim.Native.Nat.{_+_};
 ghost use lib.ListN.{replicate};
 ghost use Rattle.fields.specs.Numbers.{leBytes};
 ghost use Rattle.fields.specs.Parts.{written};
 ghost use Rattle.format.specs.Bodies.{dropKeyedDataRef};
-ghost use Rattle.backref_plan.specs.Plans.{Planned};
+ghost use Rattle.plan_write.specs.Plans.{Planned};
 
 // A number of four bytes in front of zeros.
 fn count_bytes(count: u32) -> [u8; 32]
@@ -28,21 +25,21 @@ pub fn plan_drop_keyed(item: &[u8], name: DataRef) -> Plan
     ensures { λ r. ⌜ r .from + r .size ≡ r .to ⌝ }
 {
     if 65535 < item.len() {
-        return refuse(3);
+        return plan_write::refuse(3);
     }
     if item.len() != 28 {
-        return refuse(15);
+        return plan_write::refuse(15);
     }
     if !inline_refs::names_triple(name, item, 0) {
-        return refuse(15);
+        return plan_write::refuse(15);
     }
     let count = fields::get_u32_le(item, 24);
     if count == 0 {
-        return refuse(16);
+        return plan_write::refuse(16);
     }
     if count == 1 {
-        return without(Outcome::Remove);
+        return plan_write::without(Outcome::Remove);
     }
     let tree = fields::get_u64_le(item, 0);
-    edit(24, 28, count_bytes(count - 1), 4, tree, 0)
+    plan_write::edit(24, 28, count_bytes(count - 1), 4, tree, 0)
 }

@@ -24,10 +24,10 @@ use Rattle.inline_refs.specs.declared.wanted.Wanted.{Wanted}
 use Rattle.inline_refs.specs.declared.wanted.Wanted.the-variants.{Block, Data, SharedBlock, SharedData}
 use Rattle.inline_refs.specs.Scans.{kindOf, fieldsOf}
 use Rattle.item_list.specs.Steps.{itemAt, itemsOf}
-use Rattle.backref_plan.specs.declared.plan.Plan.{Plan}
-use Rattle.backref_plan.specs.declared.plan.Outcome.the-variants.{Refused}
-use Rattle.backref_plan.specs.Plans.{planAnswer, Planned}
-use Rattle.backref_plan.proofs.Outcomes.{plan-refused}
+use Rattle.plan_write.specs.declared.plan.Plan.{Plan}
+use Rattle.plan_write.specs.declared.plan.Outcome.the-variants.{Refused}
+use Rattle.plan_write.specs.Plans.{planAnswer, Planned}
+use Rattle.plan_write.proofs.Outcomes.{plan-refused}
 use Rattle.record_edit.specs.Records.{dataOf, heldEdit}
 use Rattle.transaction.specs.Spots.{withBody}
 use Rattle.transaction.specs.Keyed.{limitFor}

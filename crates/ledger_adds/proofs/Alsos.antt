@@ -6,10 +6,10 @@ use Prim.Native.Nat.{ℕ, _≤_, _<_}
 use lib.Dec.{leb}
 use borrow.Author.Tests.{le-leb, lt-leb}
 use Rattle.format.specs.Questions.{Answer, refused, absent, remove, accepted, bind, also}
-use Rattle.backref_plan.specs.declared.plan.Outcome.{Outcome}
-use Rattle.backref_plan.specs.declared.plan.Outcome.the-variants.{Edit, Absent, Remove, Refused}
-use Rattle.backref_plan.specs.declared.plan.Plan.{Plan}
-use Rattle.backref_plan.specs.Plans.{planned, planAnswer, PlanIn}
+use Rattle.plan_write.specs.declared.plan.Outcome.{Outcome}
+use Rattle.plan_write.specs.declared.plan.Outcome.the-variants.{Edit, Absent, Remove, Refused}
+use Rattle.plan_write.specs.declared.plan.Plan.{Plan}
+use Rattle.plan_write.specs.Plans.{planned, planAnswer, PlanIn}
 use Rattle.ledger_adds.specs.Asked.{firstNo, Asked, AskedAdd}
 
 -- ---- of a plan

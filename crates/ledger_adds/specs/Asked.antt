@@ -5,10 +5,10 @@ use mathlib.Core.List.{List}
 use Prim.Native.Nat.{ℕ}
 use lib.Dec.{leb}
 use Rattle.format.specs.Questions.{also}
-use Rattle.backref_plan.specs.declared.plan.Outcome.{Outcome}
-use Rattle.backref_plan.specs.declared.plan.Outcome.the-variants.{Edit, Absent, Remove, Refused}
-use Rattle.backref_plan.specs.declared.plan.Plan.{Plan}
-use Rattle.backref_plan.specs.Plans.{planAnswer, PlanIn}
+use Rattle.plan_write.specs.declared.plan.Outcome.{Outcome}
+use Rattle.plan_write.specs.declared.plan.Outcome.the-variants.{Edit, Absent, Remove, Refused}
+use Rattle.plan_write.specs.declared.plan.Plan.{Plan}
+use Rattle.plan_write.specs.Plans.{planAnswer, PlanIn}
 
 -- the refusal where the further question is answered with no
 unfoldable pub firstNo : Outcome → ℕ → ℕ

@@ -2,11 +2,11 @@
 use crate::Stand;
 use crate::also;
 use crate::owned;
-use backref_plan::Plan;
 use format::Edited;
 use format::Key;
 use format::SharedRef;
 use inline_refs::Wanted;
+use plan_write::Plan;
 ghost use mathlib.Core.Path.{_≡_};
 ghost use lib.ListN.{length};
 ghost use Rattle.fields.specs.Lists.{all};
@@ -15,7 +15,7 @@ ghost use Rattle.format.specs.Items.{heldSheet};
 ghost use Rattle.format.specs.Ledger.{notItsOwn, changed};
 ghost use Rattle.inline_refs.specs.Scans.{kindOf};
 ghost use Rattle.item_list.specs.Steps.{itemsOf};
-ghost use Rattle.backref_plan.specs.Plans.{Planned};
+ghost use Rattle.plan_write.specs.Plans.{Planned};
 ghost use Rattle.ledger_adds.specs.Known.{BalancedList, RecordAt, nameIn};
 ghost use Rattle.ledger_adds.specs.Asked.{AskedAdd};
 ghost use Rattle.ledger_adds.specs.Adding.{addChange, addedBody, grownOnly};
@@ -28,7 +28,7 @@ fn plan_add(key: Key, body: &[u8], wanted: Wanted, amount: u32) -> Plan
         Wanted::Block(name) => backref::plan_add_tree(key.kind, body, name),
         Wanted::Data(name) => {
             if amount == 0 {
-                return backref_plan::refuse(10);
+                return plan_write::refuse(10);
             }
             backref::plan_add_data(key.kind, body, name, amount)
         }

@@ -1,6 +1,6 @@
 // A further question put to a planned edit, in its place by number.
-use backref_plan::Outcome;
-use backref_plan::Plan;
+use plan_write::Outcome;
+use plan_write::Plan;
 ghost use mathlib.Core.Path.{_≡_};
 ghost use Rattle.ledger_adds.specs.Asked.{firstNo, Asked};
 
@@ -28,5 +28,5 @@ pub fn plan_also(plan: Plan, yes: bool, number: u32) -> Plan
         return plan;
     }
     let outcome = plan.outcome;
-    backref_plan::refuse(first_no(outcome, number))
+    plan_write::refuse(first_no(outcome, number))
 }

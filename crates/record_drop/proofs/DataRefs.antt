@@ -31,12 +31,12 @@ use Rattle.item_list.specs.declared.Sought.the-variants.{Present, Absent as Mis
 use Rattle.item_list.specs.Steps.{itemsOf, itemAt}
 use Rattle.item_list.specs.Seeks.{seekIn}
 use Rattle.item_write.proofs.Writes.{answered-no}
-use Rattle.backref_plan.specs.declared.plan.Outcome.{Outcome}
-use Rattle.backref_plan.specs.declared.plan.Outcome.the-variants.{Edit, Absent, Remove, Refused}
-use Rattle.backref_plan.specs.declared.plan.Plan.{Plan}
-use Rattle.backref_plan.specs.Plans.{edited, planned, planAnswer, Planned}
-use Rattle.backref_plan.proofs.plan.Outcome.{the-type}
-use Rattle.backref_plan.proofs.Outcomes.{plan-is}
+use Rattle.plan_write.specs.declared.plan.Outcome.{Outcome}
+use Rattle.plan_write.specs.declared.plan.Outcome.the-variants.{Edit, Absent, Remove, Refused}
+use Rattle.plan_write.specs.declared.plan.Plan.{Plan}
+use Rattle.plan_write.specs.Plans.{edited, planned, planAnswer, Planned}
+use Rattle.plan_write.proofs.plan.Outcome.{the-type}
+use Rattle.plan_write.proofs.Outcomes.{plan-is}
 use Rattle.record_edit.specs.Records.{dataOf, editedSheet, heldRecord}
 use Rattle.record_edit.proofs.Held.{held-bind}
 use Rattle.record_drop.specs.Stands.{Stands}

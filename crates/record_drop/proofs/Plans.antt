@@ -9,11 +9,11 @@ use Rattle.format.specs.declared.Key.{Key}
 use Rattle.format.specs.declared.Edited.{Edited}
 use Rattle.format.specs.Questions.{Answer, ask, bind, Answered}
 use Rattle.item_list.specs.Steps.{itemAt}
-use Rattle.backref_plan.specs.declared.plan.Outcome.{Outcome}
-use Rattle.backref_plan.specs.declared.plan.Outcome.the-variants.{Edit, Absent, Remove, Refused}
-use Rattle.backref_plan.specs.declared.plan.Plan.{Plan}
-use Rattle.backref_plan.specs.Plans.{edited, planned, planAnswer, EditIn, PlanIn}
-use Rattle.backref_plan.proofs.Outcomes.{plan-is, inside-edit, length-edited}
+use Rattle.plan_write.specs.declared.plan.Outcome.{Outcome}
+use Rattle.plan_write.specs.declared.plan.Outcome.the-variants.{Edit, Absent, Remove, Refused}
+use Rattle.plan_write.specs.declared.plan.Plan.{Plan}
+use Rattle.plan_write.specs.Plans.{edited, planned, planAnswer, EditIn, PlanIn}
+use Rattle.plan_write.proofs.Outcomes.{plan-is, inside-edit, length-edited}
 use Rattle.record_edit.specs.declared.Behind.{Behind}
 use Rattle.record_edit.specs.Records.{dataOf, editedSheet, heldRecord, heldEdit}
 use Rattle.record_drop.specs.Edits.{heldPlan}

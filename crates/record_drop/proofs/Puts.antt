@@ -21,9 +21,9 @@ use Rattle.format.specs.Apply.{replaced}
 use Rattle.format.proofs.Keys.{rising-drop, rising-swap, cut-at-key}
 use Rattle.format.proofs.Splices.{sheet-replace, sheet-remove, sheet-data}
 use Rattle.item_list.specs.Steps.{itemsOf}
-use Rattle.backref_plan.specs.declared.plan.Outcome.the-variants.{Absent}
-use Rattle.backref_plan.specs.declared.plan.Plan.{Plan}
-use Rattle.backref_plan.specs.Plans.{planAnswer}
+use Rattle.plan_write.specs.declared.plan.Outcome.the-variants.{Absent}
+use Rattle.plan_write.specs.declared.plan.Plan.{Plan}
+use Rattle.plan_write.specs.Plans.{planAnswer}
 use Rattle.record_edit.specs.declared.Behind.{Behind}
 use Rattle.record_edit.specs.Records.{dataOf, editedSheet, heldRecord}
 use Rattle.record_edit.proofs.Held.{held-items, held-bind, all-but}

@@ -32,10 +32,10 @@ use Rattle.item_list.specs.declared.Sought.the-variants.{Present, Absent as Mis
 use Rattle.item_list.specs.Steps.{itemsOf, itemAt}
 use Rattle.item_list.specs.Seeks.{seekIn}
 use Rattle.item_write.proofs.Writes.{answered-no}
-use Rattle.backref_plan.specs.declared.plan.Outcome.the-variants.{Absent}
-use Rattle.backref_plan.specs.declared.plan.Plan.{Plan}
-use Rattle.backref_plan.specs.Plans.{planAnswer, planTaken, Planned, PlannedTaken}
-use Rattle.backref_plan.specs.Steps.{Reduces}
+use Rattle.plan_write.specs.declared.plan.Outcome.the-variants.{Absent}
+use Rattle.plan_write.specs.declared.plan.Plan.{Plan}
+use Rattle.plan_write.specs.Plans.{planAnswer, planTaken, Planned, PlannedTaken}
+use Rattle.plan_write.specs.Steps.{Reduces}
 use Rattle.backref.proofs.Takings.{taken-whole}
 use Rattle.record_edit.specs.Records.{dataOf}
 use Rattle.record_drop.specs.Stands.{Stands}

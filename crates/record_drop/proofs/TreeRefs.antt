@@ -20,9 +20,9 @@ use Rattle.item_list.specs.declared.Sought.the-variants.{Present, Absent as Mis
 use Rattle.item_list.specs.Steps.{itemsOf, itemAt}
 use Rattle.item_list.specs.Seeks.{seekIn}
 use Rattle.item_write.proofs.Writes.{answered-no}
-use Rattle.backref_plan.specs.declared.plan.Outcome.the-variants.{Absent}
-use Rattle.backref_plan.specs.declared.plan.Plan.{Plan}
-use Rattle.backref_plan.specs.Plans.{planAnswer, Planned}
+use Rattle.plan_write.specs.declared.plan.Outcome.the-variants.{Absent}
+use Rattle.plan_write.specs.declared.plan.Plan.{Plan}
+use Rattle.plan_write.specs.Plans.{planAnswer, Planned}
 use Rattle.record_edit.specs.Records.{dataOf}
 use Rattle.record_drop.specs.Stands.{Stands}
 use Rattle.record_drop.specs.Edits.{nothing, gone, heldPlan, behindOf}

@@ -8,12 +8,12 @@ use native.Mathlib.Omega.{arith}
 use lib.Dec.{T}
 use denote.Enum.Declared.{tagOf}
 use Rattle.format.specs.Questions.{Answer, refused, absent, remove, accepted, ask, bind, ifAbsent}
-use Rattle.backref_plan.specs.declared.plan.Outcome.{Outcome}
-use Rattle.backref_plan.specs.declared.plan.Outcome.the-variants.{Edit, Absent, Remove, Refused}
-use Rattle.backref_plan.specs.declared.plan.Plan.{Plan}
-use Rattle.backref_plan.specs.Plans.{planned, planAnswer}
-use Rattle.backref_plan.proofs.plan.Outcome.{the-type}
-use Rattle.backref_plan.proofs.Outcomes.{plan-is}
+use Rattle.plan_write.specs.declared.plan.Outcome.{Outcome}
+use Rattle.plan_write.specs.declared.plan.Outcome.the-variants.{Edit, Absent, Remove, Refused}
+use Rattle.plan_write.specs.declared.plan.Plan.{Plan}
+use Rattle.plan_write.specs.Plans.{planned, planAnswer}
+use Rattle.plan_write.proofs.plan.Outcome.{the-type}
+use Rattle.plan_write.proofs.Outcomes.{plan-is}
 
 -- ---- where absent comes from
 

@@ -11,8 +11,8 @@ use Rattle.format.specs.Questions.{Answer, refused, absent, remove, accepted, b
 use Rattle.item_list.specs.declared.Sought.{Sought}
 use Rattle.item_list.specs.declared.Sought.the-variants.{Present, Absent}
 use Rattle.item_list.specs.Steps.{itemAt}
-use Rattle.backref_plan.specs.declared.plan.Plan.{Plan}
-use Rattle.backref_plan.specs.Plans.{planAnswer}
+use Rattle.plan_write.specs.declared.plan.Plan.{Plan}
+use Rattle.plan_write.specs.Plans.{planAnswer}
 use Rattle.record_edit.specs.declared.Behind.{Behind}
 use Rattle.record_edit.specs.declared.Record.{Record}
 use Rattle.record_edit.specs.Records.{dataOf, editedSheet, heldRecord}

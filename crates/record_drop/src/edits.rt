@@ -1,8 +1,8 @@
 // What a drop writes: the record with a planned body, and behind it all as it was, an item gone or an item that counts less.
-use backref_plan::Plan;
 use format::Edited;
 use format::Key;
 use item_list::Sought;
+use plan_write::Plan;
 use record_edit::Behind;
 use record_edit::Record;
 ghost use mathlib.Core.Path.{_≡_};
@@ -12,7 +12,7 @@ ghost use Rattle.fields.specs.Numbers.{leBytes};
 ghost use Rattle.format.specs.Questions.{Answered};
 ghost use Rattle.item_list.specs.Steps.{Listed, itemsOf};
 ghost use Rattle.item_list.specs.Seeks.{seekIn};
-ghost use Rattle.backref_plan.specs.Plans.{PlanIn};
+ghost use Rattle.plan_write.specs.Plans.{PlanIn};
 ghost use Rattle.record_edit.specs.Records.{dataOf, BehindIn};
 ghost use Rattle.record_drop.specs.Edits.{nothing, gone, counts, heldPlan, behindOf};
 

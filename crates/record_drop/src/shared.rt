@@ -1,11 +1,11 @@
 // A shared reference goes whole: inline, or else with its own item.
 use super::edits;
-use backref_plan::Outcome;
-use backref_plan::Plan;
 use format::Edited;
 use format::Key;
 use format::SharedRef;
 use item_list::Sought;
+use plan_write::Outcome;
+use plan_write::Plan;
 ghost use mathlib.Core.Path.{_≡_};
 ghost use mathlib.Core.Bool.{cond};
 ghost use Prim.Native.Nat.{_+_, _-_, _≤_};
@@ -16,7 +16,7 @@ ghost use Rattle.fields.specs.Parts.{part};
 ghost use Rattle.format.specs.Bodies.{reduceTotal, takeInlineShared};
 ghost use Rattle.format.specs.Questions.{bind};
 ghost use Rattle.item_list.specs.Steps.{Listed};
-ghost use Rattle.backref_plan.specs.Plans.{Planned};
+ghost use Rattle.plan_write.specs.Plans.{Planned};
 ghost use Rattle.record_drop.specs.Stands.{DroppedShared};
 
 // The reference out of the body, and its own count off the total.
@@ -25,7 +25,7 @@ fn plan_shared(item_type: u8, body: &[u8], name: SharedRef) -> Plan
 {
     let taken = backref::plan_take_shared(item_type, body, name);
     let count = taken.count as u64;
-    backref_plan::plan_reduced(taken, count)
+    plan_write::plan_reduced(taken, count)
 }
 
 // What the item that ends at `to` counts: the last four bytes of a 184 item, and 1 for a 182 item.
@@ -72,6 +72,6 @@ pub fn drop_shared_ref(
         return Edited::Refused(5);
     };
     let count = item_count(sheet, to, name.kind);
-    let rest = backref_plan::plan_reduce_total(&sheet[start + 21..end], count as u64);
+    let rest = plan_totals::plan_reduce_total(&sheet[start + 21..end], count as u64);
     edits::put_without(sheet, start, end, rest, from, to, items, out)
 }

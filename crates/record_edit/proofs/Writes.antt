@@ -19,11 +19,11 @@ use Rattle.format.proofs.Outputs.{answered-refused, answered-written}
 use Rattle.item_write.specs.Writes.{headBytes, roomFor}
 use Rattle.item_write.proofs.Writes.{length-head, item-head}
 use Rattle.item_list.proofs.Steps.{and-false}
-use Rattle.backref_plan.specs.declared.plan.Outcome.the-variants.{Edit, Absent, Remove, Refused}
-use Rattle.backref_plan.specs.declared.plan.Plan.{Plan}
-use Rattle.backref_plan.specs.Plans.{edited, planned, planAnswer, EditIn}
-use Rattle.backref_plan.proofs.Writes.{front-of, written-then}
-use Rattle.backref_plan.proofs.Outcomes.{plan-is, length-edited}
+use Rattle.plan_write.specs.declared.plan.Outcome.the-variants.{Edit, Absent, Remove, Refused}
+use Rattle.plan_write.specs.declared.plan.Plan.{Plan}
+use Rattle.plan_write.specs.Plans.{edited, planned, planAnswer, EditIn}
+use Rattle.plan_write.proofs.Writes.{front-of, written-then}
+use Rattle.plan_write.proofs.Outcomes.{plan-is, length-edited}
 use Rattle.record_edit.specs.declared.Behind.{Behind}
 use Rattle.record_edit.specs.declared.Record.{Record}
 use Rattle.record_edit.specs.Records.{dataOf, editLength, BehindIn, restOf, restLength, sheetLength, editedSheet, heldRecord, heldEdit}

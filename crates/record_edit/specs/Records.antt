@@ -9,7 +9,7 @@ use Rattle.fields.specs.Parts.{part, spliced}
 use Rattle.format.specs.Questions.{Answer, accepted, ask}
 use Rattle.format.specs.Items.{itemBytes}
 use Rattle.item_write.specs.Writes.{roomFor}
-use Rattle.backref_plan.specs.declared.plan.Plan.{Plan}
+use Rattle.plan_write.specs.declared.plan.Plan.{Plan}
 use Rattle.record_edit.specs.declared.Behind.{Behind}
 use Rattle.record_edit.specs.declared.Record.{Record}
 

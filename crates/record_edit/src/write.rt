@@ -1,10 +1,10 @@
 // Question 17 where it is asked, question 21, and then the bytes from left to right, once.
 use super::Behind;
 use super::Record;
-use backref_plan::Outcome;
-use backref_plan::Plan;
 use format::Edited;
 use format::Key;
+use plan_write::Outcome;
+use plan_write::Plan;
 ghost use mathlib.Core.Path.{_≡_};
 ghost use mathlib.Core.List.{_++_};
 ghost use Prim.Native.Nat.{_+_, _-_, _≤_};
@@ -12,7 +12,7 @@ ghost use lib.ListN.{length, take};
 ghost use Rattle.fields.specs.Parts.{written};
 ghost use Rattle.format.specs.Questions.{Answered, bind};
 ghost use Rattle.format.specs.Items.{itemBytes};
-ghost use Rattle.backref_plan.specs.Plans.{edited, planAnswer, EditIn, PlanIn};
+ghost use Rattle.plan_write.specs.Plans.{edited, planAnswer, EditIn, PlanIn};
 ghost use Rattle.record_edit.specs.Records.{dataOf, editLength, BehindIn, restOf, restLength, sheetLength, editedSheet, heldEdit};
 
 // The planned body goes to `out` at `at`. Returns the position past it.
@@ -23,7 +23,7 @@ fn append_edit(body: &[u8], plan: Plan, out: &mut [u8], at: usize) -> usize
 {
     let new = plan.new;
     let size = plan.size;
-    backref_plan::put_edit(body, plan.from, plan.to, &new[0..size], plan.total, out, at)
+    plan_write::put_edit(body, plan.from, plan.to, &new[0..size], plan.total, out, at)
 }
 
 // All up to the end of the record, with its planned body.
@@ -39,7 +39,7 @@ fn append_record(
     requires { ⌜ (start ≤ length (now sheet)) × (editLength plan (length (now body)) ≤ 65535) × (start + 21 + editLength plan (length (now body)) ≤ length (now out)) × (length (now sheet) ≤ 262144) ⌝ }
     ensures { λ r. ⌜ (r ≡ start + 21 + editLength plan (length (now (body .entry)))) × (now (out .exit) ≡ written 0 (take start (now (sheet .entry)) ++ itemBytes (record { key = key; bytes = edited plan (now (body .entry)) })) (now (out .entry))) ⌝ }
 {
-    let size = backref_plan::plan_length(plan, body.len());
+    let size = plan_write::plan_length(plan, body.len());
     let head = item_write::append(sheet, 0, start, out, 0);
     let inside = item_write::append_head(key, size, out, head);
     append_edit(body, plan, out, inside)
@@ -85,7 +85,7 @@ fn write_held(
     requires { ⌜ (stand .start + 21 ≤ stand .end) × (length (now sheet) ≤ 262144) ⌝ }
     ensures { λ r. ⌜ Answered (heldEdit (length (now (out .entry))) count limit (editedSheet (now (sheet .entry)) stand behind) (edited plan (dataOf (now (sheet .entry)) (stand .start) (stand .end)))) r (now (out .entry)) (now (out .exit)) ⌝ }
 {
-    let size = backref_plan::plan_length(plan, stand.end - (stand.start + 21));
+    let size = plan_write::plan_length(plan, stand.end - (stand.start + 21));
     if limit < size {
         return Edited::Refused(17);
     }

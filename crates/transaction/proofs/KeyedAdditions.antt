@@ -23,8 +23,8 @@ use Rattle.format.specs.Apply.{inlineLimit, keyedBody, applyKeyedAdd, applyKeye
 use Rattle.item_list.specs.Steps.{itemAt, itemsOf}
 use Rattle.item_write.specs.Writes.{heldBytes}
 use Rattle.item_write.proofs.Writes.{answered-no, answered-by}
-use Rattle.backref_plan.specs.declared.plan.Plan.{Plan}
-use Rattle.backref_plan.specs.Plans.{planAnswer, Planned}
+use Rattle.plan_write.specs.declared.plan.Plan.{Plan}
+use Rattle.plan_write.specs.Plans.{planAnswer, Planned}
 use Rattle.record_edit.specs.Records.{dataOf, heldEdit}
 use Rattle.transaction.specs.declared.Spot.the-variants.{Refused}
 use Rattle.transaction.specs.Spots.{spotOf, withBody}

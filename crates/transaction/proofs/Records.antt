@@ -13,8 +13,8 @@ use Rattle.format.specs.Questions.{Answer, refused, absent, remove, accepted, a
 use Rattle.format.specs.Items.{Item, readSheet, itemBytes, heldSheet, putBack}
 use Rattle.format.specs.Apply.{recordNumber}
 use Rattle.item_list.specs.Steps.{itemAt}
-use Rattle.backref_plan.specs.declared.plan.Plan.{Plan}
-use Rattle.backref_plan.specs.Plans.{planAnswer}
+use Rattle.plan_write.specs.declared.plan.Plan.{Plan}
+use Rattle.plan_write.specs.Plans.{planAnswer}
 use Rattle.record_edit.specs.declared.Behind.{Behind}
 use Rattle.record_edit.specs.declared.Record.{Record}
 use Rattle.record_edit.specs.Records.{dataOf, editedSheet, heldRecord, heldEdit}

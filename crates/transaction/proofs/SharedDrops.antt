@@ -23,10 +23,10 @@ use Rattle.format.specs.Apply.{sharedRest, applySharedDrop, applySharedDropTo}
 use Rattle.format.proofs.Answers.{ask-ok, bind-ok, bind-next, accepted-inj}
 use Rattle.item_list.specs.Steps.{itemAt}
 use Rattle.item_write.proofs.Writes.{answered-no}
-use Rattle.backref_plan.specs.declared.plan.Plan.{Plan}
-use Rattle.backref_plan.specs.Plans.{planAnswer, Planned, PlannedTaken}
-use Rattle.backref_plan.specs.Steps.{Reduces, Needs}
-use Rattle.backref_plan.proofs.Reductions.{needs-whole}
+use Rattle.plan_write.specs.declared.plan.Plan.{Plan}
+use Rattle.plan_write.specs.Plans.{planAnswer, Planned, PlannedTaken}
+use Rattle.plan_write.specs.Steps.{Reduces, Needs}
+use Rattle.plan_write.proofs.Reductions.{needs-whole}
 use Rattle.backref.proofs.Takings.{taken-says, taken-whole}
 use Rattle.record_edit.specs.Records.{dataOf, heldEdit}
 use Rattle.transaction.specs.declared.Spot.the-variants.{Refused}

@@ -1,6 +1,6 @@
 use mathlib.Core.Path.{sym, ap, subst, _∙_}
 use Rattle.inline_refs.specs.declared.wanted.Wanted.{Wanted}
-use Rattle.backref_plan.proofs.Writes.{Holds, made, holds}
+use Rattle.backref_plan.proofs.NewBytes.{Holds, made, holds}
 use borrow.Author.Needs.{needs}
 use Rattle.backref_plan.proofs.bytes.bytes_of.Statement.{statement}
 use Rattle.backref_plan.proofs.bytes.bytes_of.Tie as tie

@@ -3,7 +3,7 @@ use native.Mathlib.Omega.{arith}
 use denote.Ref.{now}
 use Rattle.fields.proofs.Numbers.{areBytes-in}
 use Rattle.format.proofs.Bodies.{read-long}
-use Rattle.backref_plan.proofs.Writes.{wanted-small}
+use Rattle.backref_plan.proofs.NewBytes.{wanted-small}
 use Rattle.backref_plan.proofs.Sites.{scan-reads}
 use Rattle.backref_plan.proofs.Takes.{drop-fault, drop-absent, drop-low, drop-gone, drop-kept}
 use borrow.Author.Needs.{needs}

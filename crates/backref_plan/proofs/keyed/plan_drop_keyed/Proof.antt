@@ -3,7 +3,7 @@ use denote.Ref.{now}
 use borrow.Author.Tests.{not-true, not-false}
 use Rattle.fields.proofs.Numbers.{areBytes-in}
 use Rattle.backref_plan.proofs.KeyedDrops.{keyed-long, keyed-size, keyed-other, keyed-none, keyed-last, keyed-less}
-use Rattle.backref_plan.proofs.Outcomes.{keeps-length}
+use Rattle.plan_write.proofs.Outcomes.{keeps-length}
 use borrow.Author.Needs.{needs}
 use Rattle.backref_plan.proofs.keyed.plan_drop_keyed.Statement.{statement}
 use Rattle.backref_plan.proofs.keyed.plan_drop_keyed.Tie as tie

@@ -1,0 +1,5 @@
+pub mod Writes
+pub mod Outcomes
+pub mod Totals
+pub mod Taken
+pub mod Reductions

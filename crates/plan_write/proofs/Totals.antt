@@ -1,0 +1,84 @@
+-- Laws of a total that is moved, and of one that stays. Assumes nothing.
+use mathlib.Core.Path.{_≡_, sym, ap, _∙_}
+use mathlib.Core.List.{List, _++_}
+use Prim.Native.Nat.{ℕ, _+_, _-_, _^_, _≤_, _<_}
+use native.Mathlib.Omega.{arith}
+use lib.Dec.{T}
+use lib.ListN.{length, take, drop, replicate, take-append-drop, length-append}
+use lib.Seq.{length-take-le, take-at, take-take, take-append-le}
+use borrow.Author.Tests.{le-leb, lt-leb, lt-ltb, le-ltb}
+use Rattle.fields.specs.Numbers.{le, leBytes, areBytes}
+use Rattle.fields.specs.Parts.{part, written, spliced}
+use Rattle.fields.proofs.Numbers.{areBytes-take, leBytes-le-at, length-leBytes}
+use Rattle.fields.proofs.Parts.{length-written, written-front, spliced-written}
+use Rattle.format.specs.Questions.{refused, accepted, ask}
+use Rattle.format.specs.References.{totalOf}
+use Rattle.format.specs.Bodies.{raisedBy, loweredByOne, reducedBy}
+
+-- ---- a total that is moved
+
+module _ (body : List ℕ) (t : ℕ) (e : t ≡ le (part 0 8 body)) (amount : ℕ) where
+  pub raised-yes : t ≤ 18446744073709551615 - amount → amount < 18446744073709551616 → raisedBy amount (totalOf body) ≡ accepted (t + amount)
+  unfolding raisedBy totalOf ask
+  raised-yes h k =
+      let z : t + amount < 2 ^ 64 = omega arith in
+      rw (← e) (simp (lt-ltb _ _ z))
+
+  pub raised-no : 18446744073709551615 - amount < t → raisedBy amount (totalOf body) ≡ refused 12
+  unfolding raisedBy totalOf ask
+  raised-no h =
+      let z : 2 ^ 64 ≤ t + amount = omega arith in
+      rw (← e) (simp (le-ltb _ _ z))
+
+  pub reduced-yes : amount ≤ t → reducedBy amount (totalOf body) ≡ accepted (t - amount)
+  unfolding reducedBy totalOf ask
+  reduced-yes h = rw (← e) (simp (le-leb _ _ h))
+
+  pub reduced-no : t < amount → reducedBy amount (totalOf body) ≡ refused 14
+  unfolding reducedBy totalOf ask
+  reduced-no h = rw (← e) (simp (lt-leb _ _ h))
+
+module _ (body : List ℕ) (t : ℕ) (e : t ≡ le (part 0 8 body)) where
+  pub lowered-yes : 2 ≤ t → loweredByOne (totalOf body) ≡ accepted (t - 1)
+  unfolding loweredByOne totalOf ask
+  lowered-yes h = rw (← e) (simp (le-leb _ _ h))
+
+  pub lowered-no : t < 2 → loweredByOne (totalOf body) ≡ refused 13
+  unfolding loweredByOne totalOf ask
+  lowered-no h = rw (← e) (simp (lt-leb _ _ h))
+
+-- ---- a body whose first eight bytes stay
+
+-- the total as it was, before a splice further on
+pub total-kept : (t from to : ℕ) (new body : List ℕ) → T (areBytes body) → 8 ≤ from → from ≤ length body → t ≡ le (part 0 8 body)
+    → written 0 (leBytes 8 t) (spliced from to new body) ≡ spliced from to new body
+total-kept t from to new body b low high e =
+    let s : List ℕ = spliced from to new body in
+    let n₁ : length (take from body) ≡ from = length-take-le from body high in
+    let n₂ : 8 ≤ length (take from body) = omega arith in
+    let n₃ : 8 ≤ length (take from body ++ new) = omega (arith, length-append (take from body) new) in
+    let n₄ : 8 ≤ length body = omega arith in
+    let front : leBytes 8 t ≡ take 8 s =
+    ap (leBytes 8) e ∙ leBytes-le-at 8 (take 8 body) (length-take-le 8 body n₄) (areBytes-take 8 body b)
+    ∙ sym (take-append-le 8 (take from body ++ new) (drop to body) n₃ ∙ take-append-le 8 (take from body) new n₂ ∙ take-take 8 from body low) in
+    written-front (leBytes 8 t) s ∙ ap (λ (k : ℕ). leBytes 8 t ++ drop k s) (length-leBytes 8 t)
+    ∙ ap (λ (l : List ℕ). l ++ drop 8 s) front ∙ take-append-drop 8 s
+
+-- so many bytes rewritten in place
+module _ (body word new : List ℕ) (t at size : ℕ) (b : T (areBytes body)) (e : t ≡ le (part 0 8 body)) (low : 8 ≤ at)
+    (high : at + size ≤ length body) (long : length word ≡ size) (front : take size new ≡ word) where
+  pub rewritten : written at word body ≡ written 0 (leBytes 8 t) (spliced at (at + size) (take size new) body)
+  rewritten =
+      let z : at + length word ≡ at + size = omega arith in
+      let h : at ≤ length body = omega arith in
+      sym (spliced-written at (at + size) word body z) ∙ ap (λ (l : List ℕ). spliced at (at + size) l body) (sym front)
+      ∙ sym (total-kept t at (at + size) (take size new) body b low h e)
+
+-- a word in front of zeros
+pub word-front : (word new : List ℕ) (size : ℕ) → length word ≡ size → size ≤ 29 → new ≡ written 0 word (replicate 32 0)
+    → (take size new ≡ word) × (length new ≡ 32)
+word-front word new size n h e =
+    let z : 0 + length word ≤ length (replicate {A = ℕ} 32 0) = omega arith in (
+      ap (take size) (e ∙ written-front word (replicate 32 0)) ∙ take-at word (drop (length word) (replicate 32 0)) size n,
+      ap length e ∙ length-written 0 word (replicate 32 0) z,
+    )

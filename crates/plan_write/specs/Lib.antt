@@ -1,0 +1,3 @@
+pub mod Plans
+pub mod Taken
+pub mod Steps
