@@ -1,32 +1,22 @@
--- The plans by wanted name, as the definitions have them; and a planned call's answer. Assumes nothing.
+-- The plans by wanted name, as the definitions have them. Assumes nothing.
 use mathlib.Core.Path.{_≡_, refl, sym, subst}
 use mathlib.Core.Bool.{true, false}
 use mathlib.Core.List.{List}
 use Prim.Native.Nat.{ℕ}
 use lib.Dec.{T, eqb→eq}
 use borrow.Author.Tests.{ne-eqb}
-use Rattle.format.specs.declared.Edited.{Edited}
-use Rattle.format.specs.declared.Taken.{Taken}
 use Rattle.format.specs.declared.SharedRef.{SharedRef}
-use Rattle.format.specs.Questions.{Answer, ask, TakenOut, Answered, AnsweredTaken}
-use Rattle.format.specs.Bodies.{heldBody, one, sharedKind, addInlineShared, heldTaken, takeInlineShared}
+use Rattle.format.specs.Questions.{ask}
+use Rattle.format.specs.Bodies.{one, sharedKind, addInlineShared, takeInlineShared}
 use Rattle.inline_refs.specs.Scans.{kindOf, fieldsOf}
 use Rattle.inline_refs.specs.declared.wanted.Wanted.{Wanted}
 use Rattle.plan_write.specs.declared.plan.Plan.{Plan}
 use Rattle.plan_write.specs.declared.plan.Outcome.the-variants.{Refused}
-use Rattle.plan_write.specs.Plans.{planAnswer, planTaken, Planned, PlannedTaken}
+use Rattle.plan_write.specs.Plans.{Planned, PlannedTaken}
 use Rattle.backref_plan.specs.Adds.{ownPlace, spotOf, addInline}
 use Rattle.backref_plan.specs.Takes.{takeInline}
 use Rattle.plan_write.proofs.Outcomes.{plan-refused, plan-same}
 use Rattle.plan_write.proofs.Taken.{taken-refused, taken-same}
-
-pub answered : {p : Plan} {body : List ℕ} {a : Answer (List ℕ)} (room : ℕ) {r : Edited} {old new : List ℕ} → Planned p body a
-    → Answered (heldBody room (planAnswer p body)) r old new → Answered (heldBody room a) r old new
-answered room {r} {old} {new} h w = subst (λ (x : Answer (List ℕ)). Answered (heldBody room x) r old new) (h .says) w
-
-pub answered-taken : {p : Plan} {body : List ℕ} {a : Answer TakenOut} (room : ℕ) {r : Taken} {old new : List ℕ} → PlannedTaken p body a
-    → AnsweredTaken (heldTaken room (planTaken p body)) r old new → AnsweredTaken (heldTaken room a) r old new
-answered-taken room {r} {old} {new} h w = subst (λ (x : Answer TakenOut). AnsweredTaken (heldTaken room x) r old new) (h .says) w
 
 pub other-kind : (kind : ℕ) → sharedKind kind ≡ true → (kind ≡ 182 → ⊥) → kind ≡ 184
 unfolding sharedKind

@@ -1,19 +1,15 @@
--- Laws of the calls that only ask, one for each way out. Assumes nothing.
+-- Laws of the call that only asks, one for each way out. Assumes nothing.
 use mathlib.Core.Path.{_≡_, sym, ap, _∙_}
 use mathlib.Core.Bool.{true, false}
 use mathlib.Core.Option.{Option}
 use mathlib.Core.List.{List}
-use Prim.Native.Nat.{ℕ, _≤_, _<_}
-use borrow.Author.Tests.{le-leb, lt-leb}
+use Prim.Native.Nat.{ℕ}
 use Rattle.fields.specs.Lists.{Cut}
-use Rattle.fields.specs.Numbers.{le}
-use Rattle.fields.specs.Parts.{part}
 use Rattle.format.specs.declared.DataRef.{DataRef}
-use Rattle.format.specs.declared.Told.the-variants.{Value, Refused as Untold}
 use Rattle.format.specs.declared.Judged.the-variants.{Says, Refused as Unjudged}
-use Rattle.format.specs.Questions.{accepted, ask, toldOf, judgedOf}
-use Rattle.format.specs.References.{Ref, flagsOf, startOf}
-use Rattle.format.specs.Bodies.{bodyFits, onHead, flags, isFound, holdsInlineDataRef}
+use Rattle.format.specs.Questions.{accepted, judgedOf}
+use Rattle.format.specs.References.{Ref, startOf}
+use Rattle.format.specs.Bodies.{isFound, holdsInlineDataRef}
 use Rattle.inline_refs.specs.declared.wanted.Wanted.the-variants.{Data}
 use Rattle.inline_refs.specs.declared.scan.Seen.{Seen}
 use Rattle.inline_refs.specs.declared.scan.Seen.the-variants.{Open}
@@ -23,21 +19,6 @@ use Rattle.inline_refs.specs.Scans.{kindOf, fieldsOf, scanOf, refsIn}
 use Rattle.inline_refs.specs.Sites.{hitOf}
 use Rattle.inline_refs.proofs.Spots.{found-view}
 use Rattle.backref_plan.proofs.Sites.{ReadIn, scan-faults, on-body}
-use lib.ListN.{length}
-
-module _ (d : List ℕ) where
-  pub flags-long : 65535 < length d → Untold 3 ≡ toldOf (flags d)
-  unfolding toldOf flags onHead ask bodyFits
-  flags-long h = simp (lt-leb _ _ h)
-
-  module _ (fits : length d ≤ 65535) where
-    pub flags-short : length d < 24 → Untold 6 ≡ toldOf (flags d)
-    unfolding toldOf flags onHead ask bodyFits
-    flags-short h = simp (le-leb _ _ fits, lt-leb _ _ h)
-
-    pub flags-are : (n : ℕ) → 24 ≤ length d → n ≡ le (part 16 8 d) → Value n ≡ toldOf (flags d)
-    unfolding toldOf flags onHead ask bodyFits flagsOf
-    flags-are n h e = simp (le-leb _ _ fits, le-leb _ _ h, e)
 
 module _ (type : ℕ) (d : List ℕ) (name : DataRef) where
   pub holds-fault : (n : ℕ) → Fault n ≡ scanOf (Data name) 0 (startOf type d) (Open false) (refsIn type d)

@@ -8,35 +8,7 @@ use format::Taken;
 use inline_refs::Wanted;
 ghost use lib.ListN.{length};
 ghost use Rattle.format.specs.Questions.{Answered, AnsweredTaken};
-ghost use Rattle.format.specs.Bodies.{heldBody, raiseTotal, lowerTotal, reduceTotal, withFlags, dropInlineTreeRef, dropInlineDataRef, addInlineTreeRef, addInlineDataRef, addInlineShared, addInlineKeyed, heldTaken, takeInlineShared};
-
-pub fn raise_total(body: &[u8], amount: u64, out: &mut [u8]) -> Edited
-    ensures { λ r. ⌜ Answered (heldBody (length (now (out .entry))) (raiseTotal (now (body .entry)) amount)) r (now (out .entry)) (now (out .exit)) ⌝ }
-{
-    let plan = plan_totals::plan_raise_total(body, amount);
-    plan_write::write_same(body, plan, out)
-}
-
-pub fn lower_total(body: &[u8], out: &mut [u8]) -> Edited
-    ensures { λ r. ⌜ Answered (heldBody (length (now (out .entry))) (lowerTotal (now (body .entry)))) r (now (out .entry)) (now (out .exit)) ⌝ }
-{
-    let plan = plan_totals::plan_lower_total(body);
-    plan_write::write_same(body, plan, out)
-}
-
-pub fn reduce_total(body: &[u8], amount: u64, out: &mut [u8]) -> Edited
-    ensures { λ r. ⌜ Answered (heldBody (length (now (out .entry))) (reduceTotal (now (body .entry)) amount)) r (now (out .entry)) (now (out .exit)) ⌝ }
-{
-    let plan = plan_totals::plan_reduce_total(body, amount);
-    plan_write::write_same(body, plan, out)
-}
-
-pub fn with_flags(body: &[u8], set: u64, out: &mut [u8]) -> Edited
-    ensures { λ r. ⌜ Answered (heldBody (length (now (out .entry))) (withFlags (now (body .entry)) set)) r (now (out .entry)) (now (out .exit)) ⌝ }
-{
-    let plan = plan_totals::plan_with_flags(body, set);
-    plan_write::write_same(body, plan, out)
-}
+ghost use Rattle.format.specs.Bodies.{heldBody, dropInlineTreeRef, dropInlineDataRef, addInlineTreeRef, addInlineDataRef, addInlineShared, addInlineKeyed, heldTaken, takeInlineShared};
 
 pub fn drop_inline_tree_ref(item_type: u8, body: &[u8], tree: u64, out: &mut [u8]) -> Edited
     ensures { λ r. ⌜ Answered (heldBody (length (now (out .entry))) (dropInlineTreeRef «item_type» (now (body .entry)) (record { tree = tree }))) r (now (out .entry)) (now (out .exit)) ⌝ }

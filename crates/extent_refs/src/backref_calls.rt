@@ -14,7 +14,7 @@ use format::SharedRef;
 pub extern "C" fn backref_flags(body: &[u8], value: &mut u64) -> u32
     ensures { λ r. ⌜ CodedNumber (flags (now (body .entry))) r (now (value .exit)) ⌝ }
 {
-    let answer = backref::flags(body);
+    let answer = backref_totals::flags(body);
     codes::put_told(answer, value)
 }
 
@@ -146,7 +146,7 @@ pub extern "C" fn backref_lower_total(
 ) -> u32
     ensures { λ r. ⌜ Coded (heldBody (length (now (out .entry))) (lowerTotal (now (body .entry)))) r (now (len .exit)) (now (out .entry)) (now (out .exit)) ⌝ }
 {
-    let answer = backref::lower_total(body, out);
+    let answer = backref_totals::lower_total(body, out);
     codes::put_edited(answer, len)
 }
 
@@ -160,7 +160,7 @@ pub extern "C" fn backref_reduce_total(
 ) -> u32
     ensures { λ r. ⌜ Coded (heldBody (length (now (out .entry))) (reduceTotal (now (body .entry)) «total_count»)) r (now (len .exit)) (now (out .entry)) (now (out .exit)) ⌝ }
 {
-    let answer = backref::reduce_total(body, total_count, out);
+    let answer = backref_totals::reduce_total(body, total_count, out);
     codes::put_edited(answer, len)
 }
 
@@ -174,7 +174,7 @@ pub extern "C" fn backref_raise_total(
 ) -> u32
     ensures { λ r. ⌜ Coded (heldBody (length (now (out .entry))) (raiseTotal (now (body .entry)) «total_count»)) r (now (len .exit)) (now (out .entry)) (now (out .exit)) ⌝ }
 {
-    let answer = backref::raise_total(body, total_count, out);
+    let answer = backref_totals::raise_total(body, total_count, out);
     codes::put_edited(answer, len)
 }
 
@@ -303,6 +303,6 @@ pub extern "C" fn backref_drop_inline_tree_ref(
 pub extern "C" fn backref_with_flags(body: &[u8], set: u64, out: &mut [u8], len: &mut u64) -> u32
     ensures { λ r. ⌜ Coded (heldBody (length (now (out .entry))) (withFlags (now (body .entry)) set)) r (now (len .exit)) (now (out .entry)) (now (out .exit)) ⌝ }
 {
-    let answer = backref::with_flags(body, set, out);
+    let answer = backref_totals::with_flags(body, set, out);
     codes::put_edited(answer, len)
 }

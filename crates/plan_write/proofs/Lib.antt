@@ -3,3 +3,4 @@ pub mod Outcomes
 pub mod Totals
 pub mod Taken
 pub mod Reductions
+pub mod Answers

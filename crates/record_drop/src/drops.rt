@@ -50,7 +50,7 @@ pub fn drop_tree_ref(
     else {
         return Edited::Refused(5);
     };
-    let rest = plan_totals::plan_lower_total(&sheet[start + 21..end]);
+    let rest = backref_totals::plan_lower_total(&sheet[start + 21..end]);
     edits::put_without(sheet, start, end, rest, from, to, items, out)
 }
 
@@ -68,7 +68,7 @@ fn drop_at_item(
     requires { ⌜ (start + 21 ≤ end) × (end ≤ from) × (from + 21 ≤ to) × (to ≤ length (now sheet)) × (length (now sheet) ≤ 262144) ⌝ }
     ensures { λ r. ⌜ Answered (bind (lowerTotal (dataOf (now (sheet .entry)) start end)) (heldAt (length (now (out .entry))) items (now (sheet .entry)) start end from to (dropKeyedDataRef (dataOf (now (sheet .entry)) from to) name))) r (now (out .entry)) (now (out .exit)) ⌝ }
 {
-    let rest = plan_totals::plan_lower_total(&sheet[start + 21..end]);
+    let rest = backref_totals::plan_lower_total(&sheet[start + 21..end]);
     let total = rest.outcome;
     let Outcome::Edit = total else {
         return edits::put_record(sheet, start, end, rest, items, out);

@@ -72,6 +72,6 @@ pub fn drop_shared_ref(
         return Edited::Refused(5);
     };
     let count = item_count(sheet, to, name.kind);
-    let rest = plan_totals::plan_reduce_total(&sheet[start + 21..end], count as u64);
+    let rest = backref_totals::plan_reduce_total(&sheet[start + 21..end], count as u64);
     edits::put_without(sheet, start, end, rest, from, to, items, out)
 }

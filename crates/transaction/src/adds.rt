@@ -60,7 +60,7 @@ pub fn plan_shared(key: Key, body: &[u8], name: SharedRef, count: u32, as_item: 
     ensures { λ r. ⌜ Planned r (now (body .entry)) (sharedBody (record { key = key; bytes = now (body .entry) }) name count «as_item») ⌝ }
 {
     if as_item {
-        return plan_totals::plan_raise_total(body, count as u64);
+        return backref_totals::plan_raise_total(body, count as u64);
     }
     backref::plan_add_shared(key.kind, body, name, count)
 }
@@ -112,7 +112,7 @@ pub fn plan_keyed(key: Key, body: &[u8], keyed: Keyed, count: u32, as_item: bool
     ensures { λ r. ⌜ Planned r (now (body .entry)) (keyedPlan (record { key = key; bytes = now (body .entry) }) keyed count «as_item») ⌝ }
 {
     if as_item {
-        return plan_totals::plan_raise_total(body, count as u64);
+        return backref_totals::plan_raise_total(body, count as u64);
     }
     match keyed {
         Keyed::Block(name) => backref::plan_add_tree(key.kind, body, name),

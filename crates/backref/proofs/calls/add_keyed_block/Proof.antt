@@ -1,4 +1,4 @@
-use Rattle.backref.proofs.Named.{answered}
+use Rattle.plan_write.proofs.Answers.{answered}
 use Rattle.format.specs.Bodies.{addInlineKeyed}
 use Rattle.inline_refs.specs.Scans.{kindOf, fieldsOf}
 use Rattle.backref_plan.specs.Adds.{addKeyed}
