@@ -11,7 +11,7 @@ use mir.Facts.{and-yes}
 use Rattle.fields.specs.Lists.{sum, all, same, cut}
 use Rattle.fields.specs.Numbers.{leBytes, areBytes}
 use Rattle.fields.specs.Parts.{written, spliced}
-use Rattle.fields.proofs.Lists.{all-left, all-right, same-yes}
+use Rattle.fields.proofs.Lists.{by-test, all-left, all-right, same-yes}
 use Rattle.format.specs.Questions.{Answer, refused, accepted, ask, bind}
 use Rattle.format.specs.References.{Ref, ref, refBytes, refsBytes, startOf, Body, bodyWith, readBody, bodyBytes}
 use Rattle.format.specs.Bodies.{bodyFits, onBody, named}
@@ -24,7 +24,6 @@ use Rattle.inline_refs.specs.declared.scan.Seen.the-variants.{Open}
 use Rattle.inline_refs.specs.declared.scan.Scan.the-variants.{Fault, Read as Scanned}
 use Rattle.inline_refs.specs.Scans.{kindOf, fieldsOf, isWanted, sizeOf, scanOf, refsIn}
 use borrow.Author.Tests.{le-leb, leb-true}
-use Rattle.inline_refs.proofs.Steps.{by-test}
 use Rattle.inline_refs.proofs.Views.{Between, View, viewed}
 use Rattle.plan_write.specs.declared.plan.Outcome.the-variants.{Edit}
 use Rattle.plan_write.specs.declared.plan.Plan.{Plan}

@@ -11,9 +11,10 @@ use borrow.Author.Tests.{le-leb, lt-leb, leb-true}
 use Rattle.fields.specs.Numbers.{le, leBytes, areBytes}
 use Rattle.fields.specs.Parts.{part, written, spliced}
 use Rattle.fields.proofs.Numbers.{length-leBytes}
-use Rattle.format.specs.Questions.{Answer, refused, accepted, ask, bind}
+use Rattle.format.specs.declared.Told.the-variants.{Value, Refused as Untold}
+use Rattle.format.specs.Questions.{Answer, refused, accepted, ask, bind, toldOf}
 use Rattle.format.specs.References.{totalOf, flagsOf}
-use Rattle.format.specs.Bodies.{bodyFits, onHead, onTotal, withFlags}
+use Rattle.format.specs.Bodies.{bodyFits, onHead, onTotal, flags, withFlags}
 use Rattle.plan_write.specs.declared.plan.Outcome.the-variants.{Edit, Refused}
 use Rattle.plan_write.specs.declared.plan.Plan.{Plan}
 use Rattle.plan_write.specs.Plans.{edited, Planned}
@@ -99,6 +100,15 @@ module _ (body : List ℕ) (n : ℕ) (q : n ≡ headOf body) (p : Plan) where
   head-refused next z e = plan-refused p body (onHead body next) n e (head body n q .refuses next z)
 
 -- ---- flags
+
+module _ (body : List ℕ) (n : ℕ) (q : n ≡ headOf body) where
+  pub flags-refused : (n ≡ 0 → ⊥) → Untold n ≡ toldOf (flags body)
+  unfolding toldOf flags
+  flags-refused h = sym (ap toldOf (head body n q .refuses (accepted (flagsOf body)) h))
+
+  pub flags-are : (f : ℕ) → n ≡ 0 → f ≡ le (part 16 8 body) → Value f ≡ toldOf (flags body)
+  unfolding toldOf flags flagsOf
+  flags-are f z e = ap Value e ∙ sym (ap toldOf (head body n q .passes (accepted (flagsOf body)) z))
 
 pub flags-plan : (body : List ℕ) (n t f set : ℕ) (p : Plan) (new : List ℕ) → n ≡ headOf body → n ≡ 0 → T (areBytes body) → t ≡ le (part 0 8 body)
     → f ≡ le (part 16 8 body) → new ≡ written 0 (leBytes 8 (bitOr f set)) (replicate 32 0)

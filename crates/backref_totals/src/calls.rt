@@ -11,11 +11,9 @@ ghost use Rattle.format.specs.Bodies as bodies;
 pub fn flags(body: &[u8]) -> Told
     ensures { λ r. ⌜ r ≡ toldOf (bodies.flags (now (body .entry))) ⌝ }
 {
-    if 65535 < body.len() {
-        return Told::Refused(3);
-    }
-    if body.len() < 24 {
-        return Told::Refused(6);
+    let fault = totals::head_fault(body);
+    if fault != 0 {
+        return Told::Refused(fault);
     }
     Told::Value(fields::get_u64_le(body, 16))
 }

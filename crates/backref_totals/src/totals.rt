@@ -11,7 +11,7 @@ ghost use Rattle.plan_write.specs.Plans.{Planned};
 ghost use Rattle.backref_totals.specs.Heads.{headOf};
 
 // Questions 3 and 6 of a call that reads no references: 0, or the one that is answered "no".
-fn head_fault(body: &[u8]) -> u32
+pub fn head_fault(body: &[u8]) -> u32
     ensures { λ r. ⌜ r ≡ headOf (now (body .entry)) ⌝ }
 {
     if 65535 < body.len() {

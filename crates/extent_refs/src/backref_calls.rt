@@ -3,8 +3,7 @@ ghost use lib.ListN.{length};
 ghost use Rattle.format.specs.Questions.{accepted};
 ghost use Rattle.format.specs.Bodies.{heldBody, heldTaken, flags, inlineRefs, takeInlineShared, addInlineKeyed, dropInlineDataRef, dropKeyedDataRef, lowerTotal, reduceTotal, raiseTotal, holdsInlineDataRef, addInlineDataRef, addInlineTreeRef, keyedDataRefBody, addInlineShared, dropInlineTreeRef, withFlags};
 ghost use Rattle.format.specs.Sheets.{heldCuts};
-ghost use Rattle.extent_refs.specs.Exports.{Coded, CodedBool, CodedNumber, CodedTaken};
-use super::codes;
+ghost use Rattle.export_codes.specs.Exports.{Coded, CodedBool, CodedNumber, CodedTaken};
 use format::BlockRef;
 use format::DataRef;
 use format::Keyed;
@@ -15,7 +14,7 @@ pub extern "C" fn backref_flags(body: &[u8], value: &mut u64) -> u32
     ensures { λ r. ⌜ CodedNumber (flags (now (body .entry))) r (now (value .exit)) ⌝ }
 {
     let answer = backref_totals::flags(body);
-    codes::put_told(answer, value)
+    export_codes::put_told(answer, value)
 }
 
 #[no_mangle]
@@ -28,7 +27,7 @@ pub extern "C" fn backref_inline_refs(
     ensures { λ r. ⌜ Coded (heldCuts (length (now (positions .entry))) (inlineRefs «item_type» (now (body .entry)))) r (now (count .exit)) (now (positions .entry)) (now (positions .exit)) ⌝ }
 {
     let answer = ref_positions::inline_refs(item_type, body, positions);
-    codes::put_edited(answer, count)
+    export_codes::put_edited(answer, count)
 }
 
 #[no_mangle]
@@ -44,7 +43,7 @@ pub extern "C" fn backref_take_inline_shared(
     ensures { λ r. ⌜ CodedTaken (heldTaken (length (now (out .entry))) (takeInlineShared «item_type» (now (body .entry)) (record { kind = kind; parent = parent }))) r (now (len .exit)) (now (count .exit)) (now (out .entry)) (now (out .exit)) ⌝ }
 {
     let answer = backref::take_inline_shared(item_type, body, SharedRef { kind, parent }, out);
-    codes::put_taken(answer, len, count)
+    export_codes::put_taken(answer, len, count)
 }
 
 #[no_mangle]
@@ -59,7 +58,7 @@ pub extern "C" fn backref_add_inline_keyed_block(
     ensures { λ r. ⌜ Coded (heldBody (length (now (out .entry))) (addInlineKeyed «item_type» (now (body .entry)) (Keyed.Block (record { tree = tree })) count)) r (now (len .exit)) (now (out .entry)) (now (out .exit)) ⌝ }
 {
     let answer = backref::add_keyed_block(item_type, body, BlockRef { tree }, out);
-    codes::put_edited(answer, len)
+    export_codes::put_edited(answer, len)
 }
 
 #[no_mangle]
@@ -86,7 +85,7 @@ pub extern "C" fn backref_add_inline_keyed_data(
         count,
         out,
     );
-    codes::put_edited(answer, len)
+    export_codes::put_edited(answer, len)
 }
 
 #[no_mangle]
@@ -111,7 +110,7 @@ pub extern "C" fn backref_drop_inline_data_ref(
         },
         out,
     );
-    codes::put_edited(answer, len)
+    export_codes::put_edited(answer, len)
 }
 
 #[no_mangle]
@@ -134,7 +133,7 @@ pub extern "C" fn backref_drop_keyed_data_ref(
         },
         out,
     );
-    codes::put_edited(answer, len)
+    export_codes::put_edited(answer, len)
 }
 
 #[no_mangle]
@@ -147,7 +146,7 @@ pub extern "C" fn backref_lower_total(
     ensures { λ r. ⌜ Coded (heldBody (length (now (out .entry))) (lowerTotal (now (body .entry)))) r (now (len .exit)) (now (out .entry)) (now (out .exit)) ⌝ }
 {
     let answer = backref_totals::lower_total(body, out);
-    codes::put_edited(answer, len)
+    export_codes::put_edited(answer, len)
 }
 
 #[no_mangle]
@@ -161,7 +160,7 @@ pub extern "C" fn backref_reduce_total(
     ensures { λ r. ⌜ Coded (heldBody (length (now (out .entry))) (reduceTotal (now (body .entry)) «total_count»)) r (now (len .exit)) (now (out .entry)) (now (out .exit)) ⌝ }
 {
     let answer = backref_totals::reduce_total(body, total_count, out);
-    codes::put_edited(answer, len)
+    export_codes::put_edited(answer, len)
 }
 
 #[no_mangle]
@@ -175,7 +174,7 @@ pub extern "C" fn backref_raise_total(
     ensures { λ r. ⌜ Coded (heldBody (length (now (out .entry))) (raiseTotal (now (body .entry)) «total_count»)) r (now (len .exit)) (now (out .entry)) (now (out .exit)) ⌝ }
 {
     let answer = backref_totals::raise_total(body, total_count, out);
-    codes::put_edited(answer, len)
+    export_codes::put_edited(answer, len)
 }
 
 #[no_mangle]
@@ -198,7 +197,7 @@ pub extern "C" fn backref_holds_inline_data_ref(
             offset,
         },
     );
-    codes::put_judged(answer, holds)
+    export_codes::put_judged(answer, holds)
 }
 
 #[no_mangle]
@@ -223,7 +222,7 @@ pub extern "C" fn backref_add_inline_data_ref(
         },
         out,
     );
-    codes::put_edited(answer, len)
+    export_codes::put_edited(answer, len)
 }
 
 #[no_mangle]
@@ -237,7 +236,7 @@ pub extern "C" fn backref_add_inline_tree_ref(
     ensures { λ r. ⌜ Coded (heldBody (length (now (out .entry))) (addInlineTreeRef «item_type» (now (body .entry)) (record { tree = tree }))) r (now (len .exit)) (now (out .entry)) (now (out .exit)) ⌝ }
 {
     let answer = backref::add_inline_tree_ref(item_type, body, tree, out);
-    codes::put_edited(answer, len)
+    export_codes::put_edited(answer, len)
 }
 
 #[no_mangle]
@@ -260,7 +259,7 @@ pub extern "C" fn backref_keyed_data_ref_body(
         count,
         out,
     );
-    codes::put_edited(answer, len)
+    export_codes::put_edited(answer, len)
 }
 
 #[no_mangle]
@@ -282,7 +281,7 @@ pub extern "C" fn backref_add_inline_shared(
         count,
         out,
     );
-    codes::put_edited(answer, len)
+    export_codes::put_edited(answer, len)
 }
 
 #[no_mangle]
@@ -296,7 +295,7 @@ pub extern "C" fn backref_drop_inline_tree_ref(
     ensures { λ r. ⌜ Coded (heldBody (length (now (out .entry))) (dropInlineTreeRef «item_type» (now (body .entry)) (record { tree = tree }))) r (now (len .exit)) (now (out .entry)) (now (out .exit)) ⌝ }
 {
     let answer = backref::drop_inline_tree_ref(item_type, body, tree, out);
-    codes::put_edited(answer, len)
+    export_codes::put_edited(answer, len)
 }
 
 #[no_mangle]
@@ -304,5 +303,5 @@ pub extern "C" fn backref_with_flags(body: &[u8], set: u64, out: &mut [u8], len:
     ensures { λ r. ⌜ Coded (heldBody (length (now (out .entry))) (withFlags (now (body .entry)) set)) r (now (len .exit)) (now (out .entry)) (now (out .exit)) ⌝ }
 {
     let answer = backref_totals::with_flags(body, set, out);
-    codes::put_edited(answer, len)
+    export_codes::put_edited(answer, len)
 }

@@ -1,9 +1,7 @@
 // Document 01's books: one change posted.
 ghost use lib.ListN.{length};
-ghost use Rattle.extent_refs.specs.Exports.{Coded};
-ghost use Rattle.extent_refs.specs.Postings.{changeOf, postedIf};
-use super::changes;
-use super::codes;
+ghost use Rattle.export_codes.specs.Exports.{Coded};
+ghost use Rattle.export_codes.specs.Postings.{changeOf, postedIf};
 
 #[no_mangle]
 pub extern "C" fn ledger_post(
@@ -20,7 +18,7 @@ pub extern "C" fn ledger_post(
 ) -> u32
     ensures { λ r. ⌜ Coded (postedIf nodesize (now (sheet .entry)) (changeOf change extent a b c amount) (length (now (out .entry)))) r (now (len .exit)) (now (out .entry)) (now (out .exit)) ⌝ }
 {
-    let posting = changes::change_of(change, extent, a, b, c, amount);
+    let posting = export_codes::change_of(change, extent, a, b, c, amount);
     let answer = ledger::post(sheet, nodesize, posting, out);
-    codes::put_edited(answer, len)
+    export_codes::put_edited(answer, len)
 }

@@ -3,8 +3,7 @@ ghost use lib.ListN.{length};
 ghost use Rattle.format.specs.Bodies.{heldBody, heldOnlyBy, keyedDataRefNames, sharedAddItem, sharedAddInlineSize};
 ghost use Rattle.format.specs.Items.{heldSheet};
 ghost use Rattle.format.specs.Apply.{maxInlineExtentItem, recordNumber, applyKeyedAddTo, applySharedAddTo, applySharedDropTo, dropKeptTreeRefFrom};
-ghost use Rattle.extent_refs.specs.Exports.{Coded, CodedBool, CodedNumber};
-use super::codes;
+ghost use Rattle.export_codes.specs.Exports.{Coded, CodedBool, CodedNumber};
 use format::BlockRef;
 use format::DataRef;
 use format::Keyed;
@@ -21,7 +20,7 @@ pub extern "C" fn transaction_held_only_by(
     ensures { λ r. ⌜ CodedBool (heldOnlyBy (now (body .entry)) root ino (now (offsets .entry))) r (now (holds .exit)) ⌝ }
 {
     let answer = transaction_bodies::held_only_by(body, root, ino, offsets);
-    codes::put_judged(answer, holds)
+    export_codes::put_judged(answer, holds)
 }
 
 #[no_mangle]
@@ -42,7 +41,7 @@ pub extern "C" fn transaction_keyed_data_ref_names(
             offset,
         },
     );
-    codes::put_judged(answer, names)
+    export_codes::put_judged(answer, names)
 }
 
 #[no_mangle]
@@ -55,7 +54,7 @@ pub extern "C" fn transaction_shared_add_item(
     ensures { λ r. ⌜ Coded (heldBody (length (now (out .entry))) (sharedAddItem kind count)) r (now (len .exit)) (now (out .entry)) (now (out .exit)) ⌝ }
 {
     let answer = transaction_bodies::shared_add_item(kind, count, out);
-    codes::put_edited(answer, len)
+    export_codes::put_edited(answer, len)
 }
 
 #[no_mangle]
@@ -63,7 +62,7 @@ pub extern "C" fn transaction_shared_add_inline_size(kind: u8, size: &mut u64) -
     ensures { λ r. ⌜ CodedNumber (sharedAddInlineSize kind) r (now (size .exit)) ⌝ }
 {
     let answer = transaction_bodies::shared_add_inline_size(kind);
-    codes::put_told(answer, size)
+    export_codes::put_told(answer, size)
 }
 
 #[no_mangle]
@@ -71,7 +70,7 @@ pub extern "C" fn transaction_max_inline_extent_item(nodesize: u32, limit: &mut 
     ensures { λ r. ⌜ CodedNumber (maxInlineExtentItem nodesize) r (now (limit .exit)) ⌝ }
 {
     let answer = transaction_bodies::max_inline_extent_item(nodesize);
-    codes::put_told(answer, limit)
+    export_codes::put_told(answer, limit)
 }
 
 #[no_mangle]
@@ -79,7 +78,7 @@ pub extern "C" fn transaction_record_of(sheet: &[u8], bytenr: u64, number: &mut 
     ensures { λ r. ⌜ CodedNumber (recordNumber (now (sheet .entry)) bytenr) r (now (number .exit)) ⌝ }
 {
     let answer = transaction::record_of(sheet, bytenr);
-    codes::put_told(answer, number)
+    export_codes::put_told(answer, number)
 }
 
 #[no_mangle]
@@ -104,7 +103,7 @@ pub extern "C" fn transaction_apply_keyed_add_block(
         as_item,
         out,
     );
-    codes::put_edited(answer, len)
+    export_codes::put_edited(answer, len)
 }
 
 #[no_mangle]
@@ -135,7 +134,7 @@ pub extern "C" fn transaction_apply_keyed_add_data(
         as_item,
         out,
     );
-    codes::put_edited(answer, len)
+    export_codes::put_edited(answer, len)
 }
 
 #[no_mangle]
@@ -161,7 +160,7 @@ pub extern "C" fn transaction_apply_shared_add(
         as_item,
         out,
     );
-    codes::put_edited(answer, len)
+    export_codes::put_edited(answer, len)
 }
 
 #[no_mangle]
@@ -179,7 +178,7 @@ pub extern "C" fn transaction_apply_shared_drop(
 {
     let name = SharedRef { kind, parent };
     let answer = transaction::apply_shared_drop(sheet, bytenr, name, count, as_item, out);
-    codes::put_edited(answer, len)
+    export_codes::put_edited(answer, len)
 }
 
 #[no_mangle]
@@ -196,5 +195,5 @@ pub extern "C" fn transaction_drop_kept_tree_ref(
 {
     let name = BlockRef { tree };
     let answer = record_drop::drop_kept_tree_ref(sheet, bytenr, level, name, own, out);
-    codes::put_edited(answer, len)
+    export_codes::put_edited(answer, len)
 }

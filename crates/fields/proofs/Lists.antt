@@ -14,6 +14,11 @@ use Rattle.fields.specs.Lists.{sum, all, same, Cut, later, cut}
 
 -- ---- tests
 
+-- by the value of a test, with its equation
+pub by-test {ℓ} : {P : Type ℓ} (b : Bool) → (b ≡ true → P) → (b ≡ false → P) → P
+by-test true f g = f refl
+by-test false f g = g refl
+
 pub T-eq : (b : Bool) → T b → b ≡ true
 T-eq true t = refl
 T-eq false t = absurd t

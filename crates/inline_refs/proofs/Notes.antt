@@ -9,6 +9,7 @@ use lib.Dec.{eqb, leb}
 use lib.ListN.{length, drop, length-drop}
 use native.Mathlib.Nat.{le-refl}
 use borrow.Author.Tests.{eq-eqb, ne-eqb, le-leb, lt-leb, leb-true}
+use Rattle.fields.proofs.Lists.{by-test}
 use Rattle.fields.specs.Numbers.{le}
 use Rattle.fields.specs.Parts.{part}
 use Rattle.format.specs.Questions.{Answer, refused, absent, remove, accepted, ask, bind}
@@ -26,7 +27,7 @@ use Rattle.inline_refs.specs.declared.start.Start.{Start}
 use Rattle.inline_refs.specs.declared.start.Start.the-variants.{From, Refused as Shut}
 use Rattle.inline_refs.specs.Steps.{readFrom, openOf}
 use Rattle.inline_refs.specs.Scans.{kindOf, isWanted, sizeOf, noted, walk, scanOf, restOf, refsIn}
-use Rattle.inline_refs.proofs.Steps.{by-test, At}
+use Rattle.inline_refs.proofs.Steps.{At}
 
 -- ---- what is noted
 

@@ -6,7 +6,7 @@ use mathlib.Core.List.{List, [], _∷_, append-nil}
 use Prim.Native.Nat.{ℕ, _+_}
 use native.Mathlib.Omega.{arith}
 use Rattle.fields.specs.Lists.{sum, Cut, later, cut}
-use Rattle.fields.proofs.Lists.{T-eq, no-some, cut-some}
+use Rattle.fields.proofs.Lists.{by-test, T-eq, no-some, cut-some}
 use Rattle.format.specs.References.{Ref, placeOf}
 use Rattle.format.specs.Bodies.{Spot, gap, standing, stops, gapAt, insertPosition, standingOr, spotAnywhere, scanned, spotByScan}
 use Rattle.inline_refs.specs.declared.wanted.Wanted.{Wanted}
@@ -18,7 +18,6 @@ use Rattle.inline_refs.specs.declared.site.Site.{Site}
 use Rattle.inline_refs.specs.declared.site.Site.the-variants.{Gap as NewAt, Standing}
 use Rattle.inline_refs.specs.Scans.{kindOf, fieldsOf, isWanted, sizeOf}
 use Rattle.inline_refs.specs.Sites.{hitOf, siteAnywhere, siteByScan}
-use Rattle.inline_refs.proofs.Steps.{by-test}
 use Rattle.inline_refs.proofs.Views.{Between, CutAt, either, View}
 
 -- ---- a cut with its positions, as three parts

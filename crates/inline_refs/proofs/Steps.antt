@@ -9,6 +9,7 @@ use lib.Dec.{T, leb, ltb}
 use lib.ListN.{length, drop, getD, length-drop, drop-of-length-le}
 use lib.Seq.{drop-cons, drop-drop}
 use borrow.Author.Tests.{eq-eqb, ne-eqb, le-leb, lt-leb, ltb-true, ltb-false}
+use Rattle.fields.proofs.Lists.{by-test}
 use Rattle.format.specs.Questions.{refused, accepted, ask, bind}
 use Rattle.format.specs.References.{kinds, rowIn, known, payloadLength, countPosition, refAt, readRefs}
 use Rattle.format.proofs.Refs.{readRefs-nil, readRefs-cons}
@@ -16,11 +17,6 @@ use Rattle.inline_refs.specs.declared.kinds.Row.the-variants.{Known}
 use Rattle.inline_refs.specs.declared.step.Step.{Step}
 use Rattle.inline_refs.specs.declared.step.Step.the-variants.{Ref as Whole, End, Refused}
 use Rattle.inline_refs.specs.Steps.{rowFrom, stepRow, stepAt, readFrom}
-
--- by the value of a test, with its equation
-pub by-test {ℓ} : {P : Type ℓ} (b : Bool) → (b ≡ true → P) → (b ≡ false → P) → P
-by-test true f g = f refl
-by-test false f g = g refl
 
 -- ---- a search of the table
 

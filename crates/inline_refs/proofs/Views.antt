@@ -7,6 +7,7 @@ use mathlib.Core.List.{List, [], _∷_, _++_}
 use Prim.Native.Nat.{ℕ, _+_}
 use native.Mathlib.Omega.{arith}
 use lib.Dec.{eqb}
+use Rattle.fields.proofs.Lists.{by-test}
 use Rattle.fields.specs.Lists.{sum, Cut, later, cut}
 use Rattle.format.specs.References.{Ref}
 use Rattle.format.specs.Bodies.{gap, stops}
@@ -14,7 +15,6 @@ use Rattle.inline_refs.specs.declared.wanted.Wanted.{Wanted}
 use Rattle.inline_refs.specs.declared.scan.Seen.{Seen}
 use Rattle.inline_refs.specs.declared.scan.Seen.the-variants.{Open, Gap, Hit, Late}
 use Rattle.inline_refs.specs.Scans.{kindOf, isWanted, sizeOf, noted, walk}
-use Rattle.inline_refs.proofs.Steps.{by-test}
 use Rattle.inline_refs.proofs.Notes.{hit-stays, late-stays}
 
 -- ---- a part of the references that stands from one position up to another

@@ -17,7 +17,7 @@ pub fn append(src: &[u8], from: usize, to: usize, out: &mut [u8], at: usize) -> 
     requires { ⌜ (from ≤ to) × (to ≤ length (now src)) × (to - from ≤ 262144) × (at + (to - from) ≤ length (now out)) ⌝ }
     ensures { λ r. ⌜ (r ≡ at + (to - from)) × (now (out .exit) ≡ written at (part from (to - from) (now (src .entry))) (now (out .entry))) ⌝ }
 {
-    fields::append(&src[from..to], out, at)
+    byte_copy::append(&src[from..to], out, at)
 }
 
 fn put_kind(out: &mut [u8], at: usize, kind: u8)

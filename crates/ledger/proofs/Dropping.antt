@@ -13,7 +13,7 @@ use Rattle.format.specs.Items.{Item, heldSheet}
 use Rattle.format.specs.Apply.{isRecord, recordOf, onRecord}
 use Rattle.item_list.specs.Steps.{itemsOf}
 use Rattle.transaction.proofs.Spots.{Standing}
-use Rattle.record_drop.specs.Stands.{Stands}
+use Rattle.drop_write.specs.Stands.{Stands}
 use Rattle.ledger_adds.proofs.Standings.{on-record}
 
 module _ {s : List ℕ} {extent number start end n : ℕ} (st : Standing s extent true number start end n) where

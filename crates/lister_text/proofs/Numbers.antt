@@ -8,8 +8,8 @@ use lib.Dec.{ltb}
 use lib.ListN.{length, length-append}
 use native.Mathlib.Nat.{pow-succ'}
 use borrow.Author.Tests.{lt-ltb, le-ltb}
+use Rattle.fields.proofs.Lists.{by-test}
 use Rattle.format.specs.Lister.{digits, line}
-use Rattle.inline_refs.proofs.Steps.{by-test}
 use Rattle.lister_text.specs.Puts.{spaced}
 
 -- ---- digits

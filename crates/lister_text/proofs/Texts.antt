@@ -7,6 +7,7 @@ use native.Mathlib.Omega.{arith}
 use lib.Dec.{T}
 use lib.ListN.{length, drop, length-append}
 use borrow.Author.Tests.{le-leb, lt-leb}
+use Rattle.fields.proofs.Lists.{by-test}
 use Rattle.fields.specs.Numbers.{le, words}
 use Rattle.fields.specs.Parts.{part}
 use Rattle.fields.proofs.Numbers.{length-words}
@@ -16,7 +17,7 @@ use Rattle.format.specs.Lister.{digits, line, refLine, refLines, printed}
 use Rattle.format.proofs.Answers.{bind-ok}
 use Rattle.format.proofs.Rows.{payload-fields, some-field}
 use Rattle.inline_refs.specs.Steps.{readFrom}
-use Rattle.inline_refs.proofs.Steps.{by-test, At}
+use Rattle.inline_refs.proofs.Steps.{At}
 use Rattle.lister_text.specs.Puts.{Put, spaced, refsOf}
 use Rattle.lister_text.proofs.Numbers.{digits-short, spaced-append, spaced-short, line-is}
 use Rattle.lister_text.proofs.Writes.{put-is, put-then}

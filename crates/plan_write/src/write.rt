@@ -36,9 +36,9 @@ pub fn put_edit(
     ensures { λ r. ⌜ (r ≡ at + (from + length (now (new .entry)) + (length (now (body .entry)) - to))) × (now (out .exit) ≡ written at (written 0 (leBytes 8 total) (spliced from to (now (new .entry)) (now (body .entry)))) (now (out .entry))) ⌝ }
 {
     fields::put_u64_le(out, at, total);
-    let one = fields::append(&body[8..from], out, at + 8);
-    let two = fields::append(new, out, one);
-    fields::append(&body[to..body.len()], out, two)
+    let one = byte_copy::append(&body[8..from], out, at + 8);
+    let two = byte_copy::append(new, out, one);
+    byte_copy::append(&body[to..body.len()], out, two)
 }
 
 fn write_edit(body: &[u8], plan: Plan, out: &mut [u8]) -> Edited
@@ -92,7 +92,7 @@ fn put_same(body: &[u8], plan: Plan, out: &mut [u8])
     ensures { λ _. ⌜ now (out .exit) ≡ written 0 (edited plan (now (body .entry))) (now (out .entry)) ⌝ }
 {
     let new = plan.new;
-    fields::append(body, out, 0);
+    byte_copy::append(body, out, 0);
     fields::copy_at(&new, 0, plan.size, out, plan.from);
     fields::put_u64_le(out, 0, plan.total);
 }

@@ -39,12 +39,12 @@ use Rattle.plan_write.proofs.plan.Outcome.{the-type}
 use Rattle.plan_write.proofs.Outcomes.{plan-is}
 use Rattle.record_edit.specs.Records.{dataOf, editedSheet, heldRecord}
 use Rattle.record_edit.proofs.Held.{held-bind}
-use Rattle.record_drop.specs.Stands.{Stands}
-use Rattle.record_drop.specs.Edits.{recordAt, nothing, gone, counts, heldPlan, behindOf, heldAt}
-use Rattle.record_drop.proofs.Turns.{is-absent, turns}
-use Rattle.record_drop.proofs.Rewrites.{last-four}
-use Rattle.record_drop.proofs.Behind.{BehindAt, behind-at, behind-none}
-use Rattle.record_drop.proofs.Puts.{inline-answered, held-second, item-bytes, without-it, replaced-without, counted-it, replaced-counted}
+use Rattle.drop_write.specs.Stands.{Stands}
+use Rattle.drop_write.specs.Edits.{recordAt, nothing, gone, counts, heldPlan, behindOf, heldAt}
+use Rattle.drop_write.proofs.Turns.{is-absent, turns}
+use Rattle.drop_write.proofs.Rewrites.{last-four}
+use Rattle.drop_write.proofs.Behind.{BehindAt, behind-at, behind-none}
+use Rattle.drop_write.proofs.Puts.{inline-answered, held-second, item-bytes, without-it, replaced-without, counted-it, replaced-counted}
 
 -- ---- the item's own drop
 

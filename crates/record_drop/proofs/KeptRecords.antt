@@ -23,7 +23,7 @@ use Rattle.item_list.proofs.Reading.{Counted}
 use Rattle.item_list.proofs.Places.{Sits, sits, no-cut, Inside, inside}
 use Rattle.item_write.proofs.Writes.{sane-fit}
 use Rattle.record_edit.proofs.Places.{item-there}
-use Rattle.record_drop.specs.Stands.{Stands}
+use Rattle.drop_write.specs.Stands.{Stands}
 
 module _ (s : List ℕ) (bytenr level : ℕ) (name : BlockRef) (own : Bool) where
   pub kept-refused : (k : ℕ) → readSheet s ≡ refused k → dropKeptTreeRefFrom s bytenr level name own ≡ refused k

@@ -1,8 +1,3 @@
-pub mod Plans
-pub mod Turns
-pub mod Rewrites
-pub mod Behind
-pub mod Puts
 pub mod TreeRefs
 pub mod DataRefs
 pub mod SharedRefs

@@ -28,10 +28,10 @@ use Rattle.item_list.specs.declared.Sought.the-variants.{Present, Absent}
 use Rattle.item_list.specs.Steps.{itemsOf}
 use Rattle.item_list.specs.Seeks.{seekIn}
 use Rattle.item_list.proofs.Places.{no-cut}
-use Rattle.record_drop.specs.Stands.{Stands}
-use Rattle.record_drop.proofs.Turns.{accepted-absent, stays}
-use Rattle.record_drop.proofs.Behind.{BehindAt, rises, stands-at}
-use Rattle.record_drop.proofs.Puts.{replaced-without}
+use Rattle.drop_write.specs.Stands.{Stands}
+use Rattle.drop_write.proofs.Turns.{accepted-absent, stays}
+use Rattle.drop_write.proofs.Behind.{BehindAt, rises, stands-at}
+use Rattle.drop_write.proofs.Puts.{replaced-without}
 use Rattle.record_drop.proofs.Owned.{Owned, Headed, with-own, own-bind}
 
 -- ---- what is left of a body keeps its head and is no longer

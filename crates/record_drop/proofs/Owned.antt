@@ -22,9 +22,9 @@ use Rattle.format.specs.Items.{Item, itemBytes, itemsBytes, sheetBytes, dataFit
 use Rattle.format.proofs.Answers.{ask-yes, accepted-inj, refused-not, absent-not, remove-not}
 use Rattle.format.proofs.Items.{length-itemBytes}
 use Rattle.format.proofs.Splices.{sheet-join, sheet-data}
-use Rattle.record_drop.specs.Stands.{Stands}
-use Rattle.record_drop.specs.Edits.{ownAt}
-use Rattle.record_drop.proofs.Rewrites.{sheet-part, part-inside}
+use Rattle.drop_write.specs.Stands.{Stands}
+use Rattle.drop_write.specs.Edits.{ownAt}
+use Rattle.drop_write.proofs.Rewrites.{sheet-part, part-inside}
 
 -- ---- from the answer without the flag to that with it, in a lent output
 

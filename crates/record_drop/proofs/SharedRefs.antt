@@ -38,11 +38,11 @@ use Rattle.plan_write.specs.Plans.{planAnswer, planTaken, Planned, PlannedTaken
 use Rattle.plan_write.specs.Steps.{Reduces}
 use Rattle.backref.proofs.Takings.{taken-whole}
 use Rattle.record_edit.specs.Records.{dataOf}
-use Rattle.record_drop.specs.Stands.{Stands}
-use Rattle.record_drop.specs.Edits.{nothing, gone, heldPlan, behindOf}
-use Rattle.record_drop.proofs.Turns.{accepted-absent, ask-absent, bind-absent, is-absent, turns}
-use Rattle.record_drop.proofs.Behind.{BehindAt, behind-at, behind-none}
-use Rattle.record_drop.proofs.Puts.{put-answered, inline-answered, item-bytes, without-it, replaced-without}
+use Rattle.drop_write.specs.Stands.{Stands}
+use Rattle.drop_write.specs.Edits.{nothing, gone, heldPlan, behindOf}
+use Rattle.drop_write.proofs.Turns.{accepted-absent, ask-absent, bind-absent, is-absent, turns}
+use Rattle.drop_write.proofs.Behind.{BehindAt, behind-at, behind-none}
+use Rattle.drop_write.proofs.Puts.{put-answered, inline-answered, item-bytes, without-it, replaced-without}
 
 -- ---- the planned body
 

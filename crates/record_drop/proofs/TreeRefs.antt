@@ -24,11 +24,11 @@ use Rattle.plan_write.specs.declared.plan.Outcome.the-variants.{Absent}
 use Rattle.plan_write.specs.declared.plan.Plan.{Plan}
 use Rattle.plan_write.specs.Plans.{planAnswer, Planned}
 use Rattle.record_edit.specs.Records.{dataOf}
-use Rattle.record_drop.specs.Stands.{Stands}
-use Rattle.record_drop.specs.Edits.{nothing, gone, heldPlan, behindOf}
-use Rattle.record_drop.proofs.Behind.{BehindAt, behind-at, behind-none}
-use Rattle.record_drop.proofs.Puts.{put-answered, inline-answered, without-it, replaced-without}
-use Rattle.record_drop.proofs.Turns.{is-absent, turns}
+use Rattle.drop_write.specs.Stands.{Stands}
+use Rattle.drop_write.specs.Edits.{nothing, gone, heldPlan, behindOf}
+use Rattle.drop_write.proofs.Behind.{BehindAt, behind-at, behind-none}
+use Rattle.drop_write.proofs.Puts.{put-answered, inline-answered, without-it, replaced-without}
+use Rattle.drop_write.proofs.Turns.{is-absent, turns}
 
 module _ (s : List ℕ) (start end n : ℕ) (name : BlockRef) (key : Key) (key-is : key ≡ itemAt s start .key) (p : Plan)
     (planned : Planned p (dataOf s start end) (dropInlineTreeRef (key .kind) (dataOf s start end) name)) (room : ℕ) where

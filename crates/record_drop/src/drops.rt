@@ -1,5 +1,4 @@
 // References that name a tree: one count off inline, or else at the reference's own item.
-use super::edits;
 use format::BlockRef;
 use format::DataRef;
 use format::Edited;
@@ -15,8 +14,8 @@ ghost use Rattle.format.specs.Apply.{dropTreeRef};
 ghost use Rattle.format.specs.Ledger.{dropDataRef};
 ghost use Rattle.item_list.specs.Steps.{Listed};
 ghost use Rattle.record_edit.specs.Records.{dataOf};
-ghost use Rattle.record_drop.specs.Stands.{Dropped};
-ghost use Rattle.record_drop.specs.Edits.{heldAt};
+ghost use Rattle.drop_write.specs.Stands.{Dropped};
+ghost use Rattle.drop_write.specs.Edits.{heldAt};
 
 // A block reference, with one off the total.
 pub fn drop_tree_ref(
@@ -35,14 +34,14 @@ pub fn drop_tree_ref(
     let plan = backref::plan_drop_tree(key.kind, &sheet[start + 21..end], name);
     let outcome = plan.outcome;
     let Outcome::Absent = outcome else {
-        return edits::put_record(sheet, start, end, plan, items, out);
+        return drop_write::put_record(sheet, start, end, plan, items, out);
     };
     let item = Key {
         objectid: key.objectid,
         kind: 176,
         offset: name.tree,
     };
-    let place = edits::item_behind(sheet, end, item);
+    let place = drop_write::item_behind(sheet, end, item);
     let Sought::Present {
         start: from,
         end: to,
@@ -51,7 +50,7 @@ pub fn drop_tree_ref(
         return Edited::Refused(5);
     };
     let rest = backref_totals::plan_lower_total(&sheet[start + 21..end]);
-    edits::put_without(sheet, start, end, rest, from, to, items, out)
+    drop_write::put_without(sheet, start, end, rest, from, to, items, out)
 }
 
 // One off the record's total, then one count off the data reference's item: at count 1 the item goes.
@@ -71,17 +70,17 @@ fn drop_at_item(
     let rest = backref_totals::plan_lower_total(&sheet[start + 21..end]);
     let total = rest.outcome;
     let Outcome::Edit = total else {
-        return edits::put_record(sheet, start, end, rest, items, out);
+        return drop_write::put_record(sheet, start, end, rest, items, out);
     };
     let item = backref_plan::plan_drop_keyed(&sheet[from + 21..to], name);
     let outcome = item.outcome;
     match outcome {
         Outcome::Refused(number) => Edited::Refused(number),
         Outcome::Absent => Edited::Absent,
-        Outcome::Remove => edits::put_without(sheet, start, end, rest, from, to, items, out),
+        Outcome::Remove => drop_write::put_without(sheet, start, end, rest, from, to, items, out),
         Outcome::Edit => {
             let count = fields::get_u32_le(sheet, to - 4);
-            edits::put_count(sheet, start, end, rest, to, count - 1, items, out)
+            drop_write::put_count(sheet, start, end, rest, to, count - 1, items, out)
         }
     }
 }
@@ -103,14 +102,14 @@ pub fn drop_data_ref(
     let plan = backref::plan_drop_data(key.kind, &sheet[start + 21..end], name);
     let outcome = plan.outcome;
     let Outcome::Absent = outcome else {
-        return edits::put_record(sheet, start, end, plan, items, out);
+        return drop_write::put_record(sheet, start, end, plan, items, out);
     };
     let item = Key {
         objectid: key.objectid,
         kind: 178,
         offset: extent_write::data_ref_hash(name.tree, name.objectid, name.offset),
     };
-    let place = edits::item_behind(sheet, end, item);
+    let place = drop_write::item_behind(sheet, end, item);
     let Sought::Present {
         start: from,
         end: to,

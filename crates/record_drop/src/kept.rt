@@ -12,8 +12,8 @@ ghost use lib.ListN.{length};
 ghost use Rattle.format.specs.Questions.{Answered};
 ghost use Rattle.format.specs.Items.{heldSheet};
 ghost use Rattle.format.specs.Apply.{dropTreeRef, dropKeptTreeRefFrom};
-ghost use Rattle.record_drop.specs.Stands.{Stood, Dropped};
-ghost use Rattle.record_drop.specs.Edits.{ownAt};
+ghost use Rattle.drop_write.specs.Stands.{Stood, Dropped};
+ghost use Rattle.drop_write.specs.Edits.{ownAt};
 
 // The own-flag set in the flags that stand at `at`.
 fn set_own(out: &mut [u8], at: usize)

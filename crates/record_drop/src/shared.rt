@@ -1,5 +1,4 @@
 // A shared reference goes whole: inline, or else with its own item.
-use super::edits;
 use format::Edited;
 use format::Key;
 use format::SharedRef;
@@ -17,7 +16,7 @@ ghost use Rattle.format.specs.Bodies.{reduceTotal, takeInlineShared};
 ghost use Rattle.format.specs.Questions.{bind};
 ghost use Rattle.item_list.specs.Steps.{Listed};
 ghost use Rattle.plan_write.specs.Plans.{Planned};
-ghost use Rattle.record_drop.specs.Stands.{DroppedShared};
+ghost use Rattle.drop_write.specs.Stands.{DroppedShared};
 
 // The reference out of the body, and its own count off the total.
 fn plan_shared(item_type: u8, body: &[u8], name: SharedRef) -> Plan
@@ -56,14 +55,14 @@ pub fn drop_shared_ref(
     let plan = plan_shared(key.kind, &sheet[start + 21..end], name);
     let outcome = plan.outcome;
     let Outcome::Absent = outcome else {
-        return edits::put_record(sheet, start, end, plan, items, out);
+        return drop_write::put_record(sheet, start, end, plan, items, out);
     };
     let item = Key {
         objectid: key.objectid,
         kind: name.kind,
         offset: name.parent,
     };
-    let place = edits::item_behind(sheet, end, item);
+    let place = drop_write::item_behind(sheet, end, item);
     let Sought::Present {
         start: from,
         end: to,
@@ -73,5 +72,5 @@ pub fn drop_shared_ref(
     };
     let count = item_count(sheet, to, name.kind);
     let rest = backref_totals::plan_reduce_total(&sheet[start + 21..end], count as u64);
-    edits::put_without(sheet, start, end, rest, from, to, items, out)
+    drop_write::put_without(sheet, start, end, rest, from, to, items, out)
 }

@@ -2,8 +2,8 @@ use mathlib.Core.Path.{sym, _∙_}
 use denote.Ref.{now}
 use lib.ListN.{length}
 use Rattle.fields.proofs.Numbers.{areBytes-in}
-use Rattle.record_drop.proofs.Behind.{place-fits}
-use Rattle.record_drop.proofs.Turns.{other-outcome}
+use Rattle.drop_write.proofs.Behind.{place-fits}
+use Rattle.drop_write.proofs.Turns.{other-outcome}
 use Rattle.record_drop.proofs.DataRefs.{data-inline, data-none, data-item}
 use borrow.Author.Needs.{needs}
 use Rattle.record_drop.proofs.drops.drop_data_ref.Statement.{statement}

@@ -3,8 +3,8 @@ use native.Mathlib.Omega.{arith}
 use denote.Ref.{now}
 use lib.ListN.{length}
 use Rattle.fields.proofs.Numbers.{areBytes-in}
-use Rattle.record_drop.proofs.Behind.{place-fits}
-use Rattle.record_drop.proofs.Turns.{other-outcome}
+use Rattle.drop_write.proofs.Behind.{place-fits}
+use Rattle.drop_write.proofs.Turns.{other-outcome}
 use Rattle.record_drop.proofs.SharedRefs.{shared-inline, shared-none, shared-item}
 use borrow.Author.Needs.{needs}
 use Rattle.record_drop.proofs.shared.drop_shared_ref.Statement.{statement}

@@ -1,0 +1,4 @@
+// Copies of lent bytes of any length, in blocks.
+mod appending;
+
+pub use appending::append;

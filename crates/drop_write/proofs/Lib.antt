@@ -1,0 +1,5 @@
+pub mod Plans
+pub mod Turns
+pub mod Rewrites
+pub mod Behind
+pub mod Puts

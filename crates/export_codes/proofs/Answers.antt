@@ -1,0 +1,110 @@
+-- From a call's own contract, and its answer as numbers, to what C is handed. Assumes nothing.
+use mathlib.Core.Path.{_≡_, refl, ap, _∙_}
+use mathlib.Core.Bool.{Bool}
+use mathlib.Core.List.{List}
+use Prim.Native.Nat.{ℕ}
+use lib.ListN.{length}
+use Rattle.format.specs.declared.Edited.{Edited}
+use Rattle.format.specs.declared.Taken.{Taken}
+use Rattle.format.specs.declared.Told.{Told}
+use Rattle.format.specs.declared.Judged.{Judged}
+use Rattle.format.specs.Questions.{Answer, refused, absent, remove, accepted, bind, TakenOut, bytesOf, codeOf, lentNumber, lentPart, editedOf, takenOf, toldOf, judgedOf, Answered, AnsweredTaken}
+use Rattle.export_codes.specs.Exports.{Coded, CodedTaken, CodedNumber, CodedBool, countIn, asNumber, editedCode, editedSize, takenCode, takenSize, takenCount, toldCode, toldNumber, judgedCode, judgedNumber}
+
+edited-code : (a : Answer (List ℕ)) → editedCode (editedOf a) ≡ codeOf a
+unfolding editedOf codeOf
+edited-code (refused number) = refl
+edited-code absent = refl
+edited-code remove = refl
+edited-code (accepted result) = refl
+
+edited-size : (a : Answer (List ℕ)) → editedSize (editedOf a) ≡ length (lentPart a)
+unfolding editedOf lentPart
+edited-size (refused number) = refl
+edited-size absent = refl
+edited-size remove = refl
+edited-size (accepted result) = refl
+
+pub coded : {a : Answer (List ℕ)} {answer : Edited} {r len : ℕ} {old new : List ℕ} → Answered a answer old new
+    → (r ≡ editedCode answer) × (len ≡ editedSize answer)
+    → Coded a r len old new
+coded {a} h e = record {
+  code = e .0 ∙ ap editedCode (h .result) ∙ edited-code a;
+  size = e .1 ∙ ap editedSize (h .result) ∙ edited-size a;
+  output = h .output;
+}
+
+taken-code : (a : Answer TakenOut) → takenCode (takenOf a) ≡ codeOf a
+unfolding takenOf codeOf
+taken-code (refused number) = refl
+taken-code absent = refl
+taken-code remove = refl
+taken-code (accepted out) = refl
+
+taken-size : (a : Answer TakenOut) → takenSize (takenOf a) ≡ length (lentPart (bytesOf a))
+unfolding takenOf lentPart bind
+taken-size (refused number) = refl
+taken-size absent = refl
+taken-size remove = refl
+taken-size (accepted out) = refl
+
+taken-count : (a : Answer TakenOut) → takenCount (takenOf a) ≡ lentNumber (countIn a)
+unfolding takenOf lentNumber bind
+taken-count (refused number) = refl
+taken-count absent = refl
+taken-count remove = refl
+taken-count (accepted out) = refl
+
+pub coded-taken : {a : Answer TakenOut} {answer : Taken} {r len count : ℕ} {old new : List ℕ} → AnsweredTaken a answer old new
+    → (r ≡ takenCode answer) × (len ≡ takenSize answer) × (count ≡ takenCount answer)
+    → CodedTaken a r len count old new
+coded-taken {a} h e = record {
+  code = e .0 ∙ ap takenCode (h .result) ∙ taken-code a;
+  size = e .1 ∙ ap takenSize (h .result) ∙ taken-size a;
+  number = e .2 ∙ ap takenCount (h .result) ∙ taken-count a;
+  output = h .output;
+}
+
+told-code : (a : Answer ℕ) → toldCode (toldOf a) ≡ codeOf a
+unfolding toldOf codeOf
+told-code (refused number) = refl
+told-code absent = refl
+told-code remove = refl
+told-code (accepted number) = refl
+
+told-number : (a : Answer ℕ) → toldNumber (toldOf a) ≡ lentNumber a
+unfolding toldOf lentNumber
+told-number (refused number) = refl
+told-number absent = refl
+told-number remove = refl
+told-number (accepted number) = refl
+
+pub coded-number : {a : Answer ℕ} {answer : Told} {r value : ℕ} → answer ≡ toldOf a
+    → (r ≡ toldCode answer) × (value ≡ toldNumber answer)
+    → CodedNumber a r value
+coded-number {a} h e = record {
+  code = e .0 ∙ ap toldCode h ∙ told-code a;
+  number = e .1 ∙ ap toldNumber h ∙ told-number a;
+}
+
+judged-code : (a : Answer Bool) → judgedCode (judgedOf a) ≡ codeOf a
+unfolding judgedOf codeOf
+judged-code (refused number) = refl
+judged-code absent = refl
+judged-code remove = refl
+judged-code (accepted judgement) = refl
+
+judged-number : (a : Answer Bool) → judgedNumber (judgedOf a) ≡ lentNumber (asNumber a)
+unfolding judgedOf lentNumber bind
+judged-number (refused number) = refl
+judged-number absent = refl
+judged-number remove = refl
+judged-number (accepted judgement) = refl
+
+pub coded-bool : {a : Answer Bool} {answer : Judged} {r value : ℕ} → answer ≡ judgedOf a
+    → (r ≡ judgedCode answer) × (value ≡ judgedNumber answer)
+    → CodedBool a r value
+coded-bool {a} h e = record {
+  code = e .0 ∙ ap judgedCode h ∙ judged-code a;
+  number = e .1 ∙ ap judgedNumber h ∙ judged-number a;
+}

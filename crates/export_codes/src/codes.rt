@@ -1,0 +1,76 @@
+// Answers as numbers: the code is returned, the result's numbers are lent, and they are 0 without a result.
+ghost use mathlib.Core.Path.{_≡_};
+ghost use Rattle.export_codes.specs.Exports.{editedCode, editedSize, takenCode, takenSize, takenCount, toldCode, toldNumber, judgedCode, judgedNumber};
+use format::Edited;
+use format::Judged;
+use format::Taken;
+use format::Told;
+
+const ACCEPTED: u32 = 0;
+
+const ABSENT: u32 = 100;
+
+const REMOVE: u32 = 101;
+
+pub fn put_edited(answer: Edited, len: &mut u64) -> u32
+    ensures { λ r. ⌜ (r ≡ editedCode answer) × (now (len .exit) ≡ editedSize answer) ⌝ }
+{
+    *len = 0;
+    match answer {
+        Edited::Written(size) => {
+            *len = size as u64;
+            ACCEPTED
+        }
+        Edited::Absent => ABSENT,
+        Edited::Remove => REMOVE,
+        Edited::Refused(number) => number,
+    }
+}
+
+pub fn put_taken(answer: Taken, size: &mut u64, count: &mut u64) -> u32
+    ensures { λ r. ⌜ (r ≡ takenCode answer) × (now (size .exit) ≡ takenSize answer) × (now (count .exit) ≡ takenCount answer) ⌝ }
+{
+    *size = 0;
+    *count = 0;
+    match answer {
+        Taken::Written {
+            length,
+            count: counted,
+        } => {
+            *size = length as u64;
+            *count = counted as u64;
+            ACCEPTED
+        }
+        Taken::Absent => ABSENT,
+        Taken::Refused(number) => number,
+    }
+}
+
+pub fn put_told(answer: Told, value: &mut u64) -> u32
+    ensures { λ r. ⌜ (r ≡ toldCode answer) × (now (value .exit) ≡ toldNumber answer) ⌝ }
+{
+    *value = 0;
+    match answer {
+        Told::Value(number) => {
+            *value = number;
+            ACCEPTED
+        }
+        Told::Refused(number) => number,
+    }
+}
+
+pub fn put_judged(answer: Judged, value: &mut u64) -> u32
+    ensures { λ r. ⌜ (r ≡ judgedCode answer) × (now (value .exit) ≡ judgedNumber answer) ⌝ }
+{
+    *value = 0;
+    match answer {
+        Judged::Says(judgement) => {
+            if judgement {
+                *value = 1;
+                return ACCEPTED;
+            }
+            ACCEPTED
+        }
+        Judged::Refused(number) => number,
+    }
+}
