@@ -28,7 +28,7 @@ use Rattle.format.specs.Ledger.{nameOf, notItsOwn, kindFits, added, changed}
 use Rattle.format.proofs.Answers.{ask-ok, ask-yes, bind-ok, bind-yes, also-ok, also-yes, accepted-inj}
 use Rattle.format.proofs.Refs.{countBytes, length-countBytes, refsBytes-append}
 use Rattle.format.proofs.Rows.{payload-fields}
-use Rattle.format.proofs.Bodies.{length-bodyBytes, bodyBytes-read}
+use Rattle.format.proofs.Bodies.{on-body, length-bodyBytes, bodyBytes-read}
 use Rattle.history.proofs.Naming.{naming-known, shared-place}
 use Rattle.history.proofs.Order.{long, named-yes, SpotOk, at-gap, at-standing, spot-anywhere, spot-by-scan}
 use Rattle.history.proofs.Edit.{Balanced}
@@ -181,13 +181,6 @@ questions-in : (m : Name) (amount : ℕ) (items : List Item) (answer : Answer (L
 unfolding added
 questions-in m amount items answer t h =
     also-yes (all (notItsOwn m) items) 9 _ t ∙ also-yes (leb 1 amount) 10 _ (le→leb 1 amount h)
-
--- a body that reads
-pub body-in : {A : Type 0} (type : ℕ) (d : List ℕ) (b : Body) (next : Body → Answer A) → length d ≤ 65535
-    → readBody type d ≡ accepted b
-    → onBody type d next ≡ next b
-unfolding onBody bodyFits
-body-in type d b next h r = ask-yes (bodyFits d) 3 _ (le→leb (length d) 65535 h) ∙ bind-yes (readBody type d) next r
 
 -- question 17 where the body grew
 limit-out : (x y z : ℕ) → T (leb x y || leb x z) → y < x → x ≤ z
@@ -389,7 +382,7 @@ add-block nodesize sheet extent name room raw =
 
     calls : (i : Item) (b : Body) → 1 ≤ 1 → length (i .bytes) ≤ 65535 → readBody (i .key .kind) (i .bytes) ≡ accepted b
         → call i ≡ addAt b (ref 176 (one (name .tree)) 1) (spot b)
-    calls i b h l r = body-in (i .key .kind) (i .bytes) b _ l r
+    calls i b h l r = on-body (i .key .kind) (i .bytes) b _ l r
 
     spots : (nm : Formed m) (b : Body) → T (ordered (b .refs)) → T (all long (b .refs))
         → SpotOk 176 (one (name .tree)) 1 (nm .naming) (nm .size) (b .refs) (spot b)
@@ -464,7 +457,7 @@ add-data nodesize sheet extent name amount room raw =
     calls : (n : ℕ) (i : Item) (b : Body) → 1 ≤ n → length (i .bytes) ≤ 65535 → readBody (i .key .kind) (i .bytes) ≡ accepted b
         → keyedBody i (Data name) n false ≡ addAt b (ref 178 (triple name) n) (spot b)
     calls zero i b h l r = absurd (omega arith)
-    calls (suc n) i b h l r = body-in (i .key .kind) (i .bytes) b _ l r
+    calls (suc n) i b h l r = on-body (i .key .kind) (i .bytes) b _ l r
 
     spots : (nm : Formed m) (b : Body) → T (ordered (b .refs)) → T (all long (b .refs))
         → SpotOk 178 (triple name) amount (nm .naming) (nm .size) (b .refs) (spot b)
@@ -570,7 +563,7 @@ add-shared nodesize sheet extent name amount room raw =
     calls : T (sharedKind (name .kind)) → (i : Item) (b : Body) → 1 ≤ amount → length (i .bytes) ≤ 65535
         → readBody (i .key .kind) (i .bytes) ≡ accepted b
         → call i ≡ addAt b (ref (name .kind) (one (name .parent)) amount) (spot b)
-    calls k i b h l r = ask-yes (sharedKind (name .kind)) 3 _ k ∙ body-in (i .key .kind) (i .bytes) b _ l r
+    calls k i b h l r = ask-yes (sharedKind (name .kind)) 3 _ k ∙ on-body (i .key .kind) (i .bytes) b _ l r
 
     spots : T (sharedKind (name .kind)) → (nm : Formed m) (b : Body) → T (ordered (b .refs)) → T (all long (b .refs))
         → SpotOk (name .kind) (one (name .parent)) amount (nm .naming) (nm .size) (b .refs) (spot b)

@@ -31,7 +31,7 @@ use Rattle.format.specs.Names.{Name, count, good}
 use Rattle.format.specs.Ledger.{nameOf, kindFits, droppedAt, dropDataRef, sharedCount, dropSharedRef, changed}
 use Rattle.format.proofs.Answers.{ask-ok, ask-yes, bind-ok, bind-yes, accepted-inj, refused-not}
 use Rattle.format.proofs.Refs.{whole, whole-out}
-use Rattle.format.proofs.Bodies.{read-total, read-long, bodyBytes-read, length-bodyBytes, total-bodyBytes, fixed-long}
+use Rattle.format.proofs.Bodies.{on-body, read-total, read-long, bodyBytes-read, length-bodyBytes, total-bodyBytes, fixed-long}
 use Rattle.history.proofs.Naming.{Naming, is176, is178, naming-known, naming-no-record}
 use Rattle.history.proofs.Order.{named-yes}
 use Rattle.history.proofs.Edit.{only}
@@ -41,7 +41,7 @@ use Rattle.history.proofs.DropCalls.{key-found, keyed-entry, not-178}
 use Rattle.acceptance.specs.Acceptance.{Accepts, Exactly, Door, inline, apart, freed, sharedSize, sharedItem, DropsBlock, DropsData, DropsShared}
 use Rattle.acceptance.proofs.Posting.{Posts, posts-out, posts-in, itemSize, size-put, few-put, fit-put, Scene, scene, AtRecord, record-out, record-in}
 use Rattle.acceptance.proofs.Counts.{Formed, formed, count-split, inline-none, inline-one, Own, own-of, plain-own, data-own}
-use Rattle.acceptance.proofs.Adds.{length-ref, length-none, length-edit, body-in, length-at, shared-size}
+use Rattle.acceptance.proofs.Adds.{length-ref, length-none, length-edit, length-at, shared-size}
 use Rattle.acceptance.proofs.Drops.{bind-ask, inline-found, inline-missing, lower-in, reduce-in, length-total, within-total, Shorter, shorter-out, shorter-in, kept, key-at}
 
 -- ---- a drop as its questions, for whatever 13 asks of the total and whatever goes
@@ -668,7 +668,7 @@ module _ (sheet : List ℕ) (extent : ℕ) (name : SharedRef) (sk : T (sharedKin
   unfolding takeInlineShared
   taken o e =
       ask-yes (sharedKind (name .kind)) 3 _ sk
-      ∙ body-in (c .hit .key .kind) (c .hit .bytes) b _ (fits sheet items S shared-name shared-formed c b H) (H .reads)
+      ∙ on-body (c .hit .key .kind) (c .hit .bytes) b _ (fits sheet items S shared-name shared-formed c b H) (H .reads)
       ∙ ap out-of e
 
   shared-none : cut is-shared (b .refs) ≡ none → dropSharedRef name items c ≡ shared-by-key

@@ -9,6 +9,7 @@ use native.Mathlib.Omega.{arith}
 use lib.Dec.{T, leb, eqb, leb→le, le→leb}
 use lib.ListN.{length, length-append}
 use mir.Facts.{and-yes, yes-and, T-not, not-T, yes-eqb}
+use Rattle.format.proofs.Bodies.{on-body}
 use Rattle.fields.specs.Lists.{sum, all, same, Cut, cut}
 use Rattle.fields.specs.Numbers.{leBytes}
 use Rattle.fields.specs.Parts.{written}
@@ -31,7 +32,6 @@ use Rattle.history.proofs.Steps.{tidy, Here}
 use Rattle.history.proofs.Drops.{first, first-at, first-found, first-skip, key-record}
 use Rattle.history.proofs.Bounds.{total-is}
 use Rattle.acceptance.proofs.Posting.{itemSize, holds-out, holds-in, size-put, few-put, fit-put, Scene}
-use Rattle.acceptance.proofs.Adds.{body-in}
 
 -- ---- questions that are left
 
@@ -55,14 +55,14 @@ pub inline-found : (type : ℕ) (d : List ℕ) (b : Body) (kind : ℕ) (fields :
     ≡ ask (leb 2 (b .total)) 13 (accepted (bodyBytes (bodyWith b (b .total - 1) (x .front ++ (less (x .hit) 1 ++ x .back)))))
 unfolding dropInline loweredByOne found bind
 inline-found type d b kind fields x l r e =
-    body-in type d b _ l r ∙ bind-yes (found (cut (named kind fields) (b .refs))) _ (ap found e)
+    on-body type d b _ l r ∙ bind-yes (found (cut (named kind fields) (b .refs))) _ (ap found e)
     ∙ bind-ask (leb 2 (b .total)) 13 (accepted (b .total - 1)) _
 
 pub inline-missing : (type : ℕ) (d : List ℕ) (b : Body) (kind : ℕ) (fields : List ℕ) → length d ≤ 65535
     → readBody type d ≡ accepted b
     → cut (named kind fields) (b .refs) ≡ none → dropInline type d kind fields ≡ absent
 unfolding dropInline found bind
-inline-missing type d b kind fields l r e = body-in type d b _ l r ∙ ap (λ (o : Option (Cut Ref)). bind (found o) (λ c.
+inline-missing type d b kind fields l r e = on-body type d b _ l r ∙ ap (λ (o : Option (Cut Ref)). bind (found o) (λ c.
     bind (loweredByOne (b .total)) (λ total.
     accepted (bodyBytes (bodyWith b total (c .front ++ (less (c .hit) 1 ++ c .back))))))) e
 

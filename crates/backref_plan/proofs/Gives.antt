@@ -15,7 +15,7 @@ use Rattle.fields.proofs.Lists.{lt-or}
 use Rattle.format.specs.Questions.{Answer, refused, accepted, ask, bind}
 use Rattle.format.specs.References.{payloadLength, counted, Ref, refBytes, totalOf, startOf, Body, bodyWith, readBody, bodyBytes}
 use Rattle.format.specs.Bodies.{weighed, raisedBy, Spot, gap, standing, spotAnywhere, isGap, standingWeight, addedAt, addAt, keyedAt}
-use Rattle.format.proofs.Bodies.{read-total}
+use Rattle.format.proofs.Bodies.{on-body, read-total}
 use Rattle.format.proofs.Splices.{refsBytes-one}
 use Rattle.inline_refs.specs.declared.wanted.Wanted.{Wanted}
 use Rattle.inline_refs.specs.declared.scan.Seen.{Seen}
@@ -34,7 +34,7 @@ use Rattle.backref_plan.specs.Adds.{newRef, ownPlace, spotOf, siteOf, Ra
 use Rattle.backref_plan.proofs.NewBytes.{Holds, wanted-small}
 use Rattle.plan_write.proofs.Outcomes.{plan-refused}
 use Rattle.plan_write.proofs.Totals.{raised-yes, raised-no}
-use Rattle.backref_plan.proofs.Sites.{ReadIn, scan-faults, on-body, ends, placed, planOf, site-plan, wanted-is}
+use Rattle.backref_plan.proofs.Sites.{ReadIn, scan-faults, ends, placed, planOf, site-plan, wanted-is}
 
 or-true : (b : Bool) → b || true ≡ true
 or-true true = refl

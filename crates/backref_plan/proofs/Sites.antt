@@ -16,7 +16,7 @@ use Rattle.format.specs.Questions.{Answer, refused, accepted, ask, bind}
 use Rattle.format.specs.References.{Ref, ref, refBytes, refsBytes, startOf, Body, bodyWith, readBody, bodyBytes}
 use Rattle.format.specs.Bodies.{bodyFits, onBody, named}
 use Rattle.format.proofs.Refs.{whole, length-refBytes, refsBytes-append}
-use Rattle.format.proofs.Bodies.{read-start, read-sound, bodyBytes-read, length-bodyBytes, start-least, ReadsBody, body, short, strange, cutOff, readBody-decides}
+use Rattle.format.proofs.Bodies.{on-body, read-start, read-sound, bodyBytes-read, length-bodyBytes, start-least, ReadsBody, body, short, strange, cutOff, readBody-decides}
 use Rattle.format.proofs.Splices.{body-edit}
 use Rattle.inline_refs.specs.declared.wanted.Wanted.{Wanted}
 use Rattle.inline_refs.specs.declared.scan.Seen.{Seen}
@@ -35,11 +35,6 @@ use Rattle.plan_write.proofs.Outcomes.{plan-edit}
 pub data Decided (type : ℕ) (d : List ℕ) : Type 1 where
   readable : (b : Body) → length d ≤ 65535 → readBody type d ≡ accepted b → Decided type d
   faulty : (n : ℕ) → ((A : Type 0) (next : Body → Answer A) → onBody type d next ≡ refused n) → Decided type d
-
-pub on-body : {A : Type 0} (type : ℕ) (d : List ℕ) (b : Body) (next : Body → Answer A) → length d ≤ 65535 → readBody type d ≡ accepted b
-    → onBody type d next ≡ next b
-unfolding onBody ask bind bodyFits
-on-body type d b next h e = simp (le-leb _ _ h, e)
 
 decide : (type : ℕ) (d : List ℕ) → Decided type d
 unfolding onBody ask bind bodyFits

@@ -10,7 +10,7 @@ use Rattle.fields.specs.Numbers.{le, areBytes}
 use Rattle.fields.specs.Parts.{part}
 use Rattle.format.specs.Questions.{Answer, accepted, bind, found, TakenOut}
 use Rattle.format.specs.References.{refsBytes, totalOf, startOf, bodyWith, bodyBytes}
-use Rattle.format.proofs.Bodies.{read-total}
+use Rattle.format.proofs.Bodies.{on-body, read-total}
 use Rattle.inline_refs.specs.declared.wanted.Wanted.{Wanted}
 use Rattle.inline_refs.specs.declared.scan.Seen.{Seen}
 use Rattle.inline_refs.specs.declared.scan.Seen.the-variants.{Open}
@@ -25,7 +25,7 @@ use Rattle.plan_write.specs.declared.plan.Plan.{Plan}
 use Rattle.plan_write.specs.Plans.{PlannedTaken}
 use Rattle.plan_write.proofs.Taken.{with-count, taken-refused, taken-absent, taken-edit}
 use Rattle.backref_plan.specs.Takes.{takeInline}
-use Rattle.backref_plan.proofs.Sites.{ReadIn, scan-faults, on-body, placed, planOf, site-plan}
+use Rattle.backref_plan.proofs.Sites.{ReadIn, scan-faults, placed, planOf, site-plan}
 
 module _ (type : ℕ) (d : List ℕ) (w : Wanted) (plan : Plan) where
   abbrev taken : Answer TakenOut

@@ -13,7 +13,7 @@ use Rattle.fields.specs.Parts.{part}
 use Rattle.format.specs.Questions.{Answer, accepted, bind, found}
 use Rattle.format.specs.References.{payloadLength, Ref, ref, refBytes, refsBytes, startOf, Body, bodyWith, bodyBytes}
 use Rattle.format.specs.Bodies.{less, weighed, loweredByOne, dropInline}
-use Rattle.format.proofs.Bodies.{read-total}
+use Rattle.format.proofs.Bodies.{on-body, read-total}
 use Rattle.format.proofs.Splices.{refsBytes-one}
 use Rattle.inline_refs.specs.declared.wanted.Wanted.{Wanted}
 use Rattle.inline_refs.specs.declared.scan.Seen.{Seen}
@@ -30,7 +30,7 @@ use Rattle.plan_write.specs.Plans.{Planned}
 use Rattle.backref_plan.proofs.NewBytes.{Holds}
 use Rattle.plan_write.proofs.Outcomes.{plan-absent, plan-refused}
 use Rattle.plan_write.proofs.Totals.{lowered-yes, lowered-no}
-use Rattle.backref_plan.proofs.Sites.{ReadIn, scan-faults, on-body, placed, planOf, site-plan, wanted-is}
+use Rattle.backref_plan.proofs.Sites.{ReadIn, scan-faults, placed, planOf, site-plan, wanted-is}
 
 module _ (type : ℕ) (d : List ℕ) (w : Wanted) (plan : Plan) where
   abbrev dropped : Answer (List ℕ)

@@ -8,6 +8,7 @@ use lib.Dec.{T}
 use lib.ListN.{length, take, drop}
 use lib.Seq.{take-all}
 use borrow.Author.Tests.{eq-eqb, ne-eqb}
+use Rattle.fields.proofs.Lists.{and-false}
 use Rattle.fields.specs.Numbers.{le, words}
 use Rattle.fields.specs.Parts.{part}
 use Rattle.format.specs.declared.DataRef.{DataRef}
@@ -22,10 +23,6 @@ use Rattle.balance_laws.proofs.Says.{naming-of}
 use Rattle.history.proofs.Naming.{Naming as Kinds, is176, is178, is182, is184}
 use Rattle.balance.specs.declared.reference.Named.the-variants.{Of, Bad}
 use Rattle.balance.specs.Groups.{Naming}
-
-and-false : (b : Bool) → (b && false) ≡ false
-and-false true = refl
-and-false false = refl
 
 module _ (i : Item) where
   module _ (k : i .key .kind ≡ 178) where

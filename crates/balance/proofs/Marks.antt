@@ -12,7 +12,7 @@ use borrow.Author.Tests.{le-leb}
 use Rattle.fields.specs.Lists.{sum}
 use Rattle.fields.specs.Numbers.{le}
 use Rattle.fields.specs.Parts.{part}
-use Rattle.fields.proofs.Lists.{T-eq}
+use Rattle.fields.proofs.Lists.{and-false, T-eq}
 use Rattle.fields.proofs.Parts.{length-part}
 use Rattle.format.specs.declared.Key.{Key}
 use Rattle.format.specs.Questions.{Answer, refused, absent, remove, accepted, ask, bind}
@@ -112,10 +112,6 @@ module _ (t : Tally) (i : Item) (rec : T (isRecord i)) where
       → taken t (viewOf i) ≡ some (record { extent = t .extent; marked = true; refs = b .refs; total = b .total; weight = sum weightIn (b .refs) })
   unfolding viewRecord taken
   taken-by b e m s = ap (taken t) (view-is ∙ ap viewRecord e) ∙ rw (m, T-eq (sound start (b .refs)) s) refl
-
-and-false : (b : Bool) → (b && false) ≡ false
-and-false true = refl
-and-false false = refl
 
 module _ (s : List ℕ) (g : Group) (at next : ℕ) (key : Key) (rec : T (isRecord (itemOf s at next key))) where
   abbrev inner : List ℕ

@@ -9,6 +9,7 @@ use mathlib.Core.List.{List}
 use lib.Dec.{T, leb}
 use mir.Facts.{not-T}
 use borrow.Author.Tests.{le-leb, lt-leb}
+use Rattle.fields.proofs.Lists.{and-false}
 use Rattle.format.specs.declared.Key.{Key}
 use Rattle.format.specs.References.{known, payloadLength, Ref, ref}
 use Rattle.format.specs.Items.{Item}
@@ -45,10 +46,6 @@ stride-is size kind other e q = e ∙ ap (λ (k : ℕ). 1 + payloadLength k) (sy
 pub named-form : (i : Item) (r : Named) (weight : ℕ) (w : Wanted) → r ≡ Of weight w → Naming i r → NameOf i weight w
 unfolding Naming
 named-form i r weight w e n = subst (Naming i) e n
-
-and-false : (b : Bool) → (b && false) ≡ false
-and-false true = refl
-and-false false = refl
 
 never : {A : Type 0} (a b : Bool) (x : A) → cond (a && (b && false)) (some x) none ≡ none
 never true true x = refl

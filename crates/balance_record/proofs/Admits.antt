@@ -10,7 +10,7 @@ use lib.ListN.{drop}
 use borrow.Author.Tests.{eq-eqb, ne-eqb, le-leb, lt-leb, lt-ltb, le-ltb}
 use Rattle.fields.specs.Lists.{all, same}
 use Rattle.fields.specs.Numbers.{words}
-use Rattle.fields.proofs.Lists.{lt-or}
+use Rattle.fields.proofs.Lists.{and-false, lt-or}
 use Rattle.format.specs.References.{rowIn, known, payloadLength, countPosition, counted, fieldCount, Ref, refAt, place, falls}
 use Rattle.format.specs.Bodies.{named}
 use Rattle.distinct_triples.specs.Triples.{tripleOf, Distinct}
@@ -118,11 +118,7 @@ module _ (run : Run) (r : Ref) where
   unfolding joins
   not-joins-kind h =
       let k : r .kind ≡ run .kind → ⊥ = (λ e. h (sym e)) in
-      simp (ne-eqb _ _ k) (never (eqb (run .kind) 178))
-    where
-      never : (a : Bool) → (a && false) ≡ false
-      never true = refl
-      never false = refl
+      simp (ne-eqb _ _ k) (and-false (eqb (run .kind) 178))
 
   not-joins-spot : (place r ≡ run .spot → ⊥) → joins run r ≡ false
   unfolding joins

@@ -7,7 +7,7 @@ use Prim.Native.Nat.{ℕ, _≤_, _<_}
 use native.Mathlib.Omega.{arith}
 use lib.Dec.{ltb}
 use borrow.Author.Tests.{ltb-true, ltb-false, lt-ltb, le-ltb, ne-eqb}
-use Rattle.fields.proofs.Lists.{by-test}
+use Rattle.fields.proofs.Lists.{and-false, by-test}
 use Rattle.format.specs.declared.Edited.{Edited}
 use Rattle.format.specs.declared.Change.{Change}
 use Rattle.format.specs.declared.Change.the-variants.{AddBlock, AddData, AddShared, DropBlock, DropData, DropShared}
@@ -19,10 +19,6 @@ use Rattle.export_codes.specs.Postings.{changeOf, postedIf, narrowed, st
 
 -- ---- the change that stands in
 
-and-false : (b c : Bool) → c ≡ false → (b && c) ≡ false
-and-false true c e = e
-and-false false c e = refl
-
 -- question 3 answered with no: what would follow plays no part
 on-no : {A : Type 0} (sheet : List ℕ) (three : Bool) (next : List Item → Answer A) → three ≡ false
     → onSheet sheet three next ≡ bind (readSheet sheet) (λ items. refused 3)
@@ -32,7 +28,7 @@ on-no sheet three next e = ap (λ (b : Bool). onSheet sheet b next) e
 post-no : (nodesize : ℕ) (sheet : List ℕ) (change : Change) → kindFits change ≡ false
     → post nodesize sheet change ≡ bind (readSheet sheet) (λ items. refused 3)
 unfolding post
-post-no nodesize sheet change e = on-no sheet (nodesizeFits nodesize && kindFits change) _ (and-false (nodesizeFits nodesize) (kindFits change) e)
+post-no nodesize sheet change e = on-no sheet (nodesizeFits nodesize && kindFits change) _ (rw e (and-false (nodesizeFits nodesize)))
 
 posted-no : (nodesize : ℕ) (sheet : List ℕ) (change other : Change) (room : ℕ) → kindFits change ≡ false → kindFits other ≡ false
     → posted nodesize sheet change room ≡ posted nodesize sheet other room

@@ -23,6 +23,14 @@ pub T-eq : (b : Bool) → T b → b ≡ true
 T-eq true t = refl
 T-eq false t = absurd t
 
+pub and-true : (a : Bool) → (a && true) ≡ a
+and-true true = refl
+and-true false = refl
+
+pub and-false : (a : Bool) → (a && false) ≡ false
+and-false true = refl
+and-false false = refl
+
 pub imp-out : (a b : Bool) → T (not a || b) → T a → T b
 imp-out true b t h = t
 imp-out false b t h = absurd h

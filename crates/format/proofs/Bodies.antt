@@ -8,13 +8,14 @@ use native.Mathlib.Omega.{arith}
 use lib.Dec.{T, leb, eqb, leb→le, le→leb}
 use lib.ListN.{length, take, drop, length-append, length-drop, take-append-drop}
 use lib.Seq.{take-at, drop-at, take-append-le, drop-append-le, take-take, drop-drop, length-take-le}
+use Rattle.format.specs.Bodies.{bodyFits, onBody}
 use Rattle.fields.specs.Lists.{all}
 use Rattle.fields.specs.Numbers.{le, leBytes, areBytes}
 use Rattle.fields.specs.Parts.{part, written}
 use Rattle.fields.proofs.Numbers.{areBytes-take, areBytes-drop, areBytes-append, areBytes-leBytes, length-leBytes, le-bound, le-leBytes, leBytes-le-at}
 use Rattle.format.specs.Questions.{Answer, refused, accepted, ask, bind}
 use Rattle.format.specs.References.{Ref, readRefs, refsBytes, totalOf, flagsOf, startOf, Body, bodyWith, readBody, bodyBytes}
-use Rattle.format.proofs.Answers.{accepted-inj, ask-ok, ask-yes, bind-ok}
+use Rattle.format.proofs.Answers.{bind-yes, accepted-inj, ask-ok, ask-yes, bind-ok}
 use Rattle.format.proofs.Refs.{whole, read-refsBytes, readRefs-whole, refsBytes-read, areBytes-refsBytes, bind-refused, Reads, read, strange as strangeRefs, cutOff as cutOffRefs, readRefs-decides}
 
 -- where the references start, from the bytes after the total
@@ -231,3 +232,10 @@ readBody-decides type d =
     go true true r (read refs e) = body (with-refs refs) (ap (λ x. bind x next) e)
     go true true r (strangeRefs e) = strange (bind-refused r next 7 e)
     go true true r (cutOffRefs e) = cutOff (bind-refused r next 8 e)
+
+-- ---- a call on a body that reads
+
+pub on-body : {A : Type 0} (type : ℕ) (d : List ℕ) (b : Body) (next : Body → Answer A) → length d ≤ 65535 → readBody type d ≡ accepted b
+    → onBody type d next ≡ next b
+unfolding onBody bodyFits
+on-body type d b next h r = ask-yes (bodyFits d) 3 _ (le→leb (length d) 65535 h) ∙ bind-yes (readBody type d) next r

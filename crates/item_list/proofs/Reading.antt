@@ -9,6 +9,7 @@ use lib.Dec.{T, leb, eqb, leb→le}
 use mir.Facts.{and-yes}
 use lib.ListN.{length, drop, getD}
 use borrow.Author.Tests.{le-leb, lt-leb}
+use Rattle.fields.proofs.Lists.{and-true, and-false}
 use Rattle.fields.specs.Lists.{all}
 use Rattle.fields.specs.Numbers.{areBytes}
 use Rattle.format.specs.declared.Key.{Key}
@@ -27,7 +28,7 @@ use Rattle.item_list.specs.declared.Listing.the-variants.{Refused, Found
 use Rattle.item_list.specs.Steps.{itemAt, stepAt, opensList, following, checkedOf, itemsIn, itemsOf, Listed}
 use Rattle.item_list.specs.Seeks.{sizeOf, placeIn, passing}
 use Rattle.item_list.specs.Listings.{listedAt, listingOf, countOf, orElse, verdictOf}
-use Rattle.item_list.proofs.Steps.{and-false, whole-at, items-end, items-broken, items-over, items-item}
+use Rattle.item_list.proofs.Steps.{whole-at, items-end, items-broken, items-over, items-item}
 use Rattle.item_list.proofs.Walks.{ends}
 
 -- ---- the pass
@@ -61,10 +62,6 @@ after-cons (suc n) key i items = ap (λ (b : Bool). keyBelow key (i .key) && (b 
 and-assoc : (a b c : Bool) → (a && (b && c)) ≡ ((a && b) && c)
 and-assoc true b c = refl
 and-assoc false b c = refl
-
-and-true : (a : Bool) → (a && true) ≡ a
-and-true true = refl
-and-true false = refl
 
 place-nil : (place : Place) → orElse place Missing ≡ place
 unfolding orElse

@@ -8,6 +8,7 @@ use lib.Dec.{T, leb, ltb}
 use lib.ListN.{length, take, drop, getD, length-drop, drop-of-length-le}
 use lib.Seq.{drop-drop, getD-drop, length-take-le}
 use borrow.Author.Tests.{le-leb, lt-leb, le-ltb, eq-eqb, ne-eqb, leb-true, leb-false}
+use Rattle.fields.proofs.Lists.{and-false}
 use Rattle.fields.specs.Numbers.{be}
 use Rattle.fields.specs.Parts.{part}
 use Rattle.format.specs.Questions.{refused, accepted, ask, bind}
@@ -16,10 +17,6 @@ use Rattle.format.specs.Items.{keyOf, keyBelow, itemLength, wholeItem, firstIte
 use Rattle.format.proofs.Items.{readItems-nil, readItems-full, readItems-more, wholeItem-out}
 use Rattle.item_list.specs.declared.Step.the-variants.{Whole, Broken, End}
 use Rattle.item_list.specs.Steps.{itemAt, nextAt, stepAt}
-
-pub and-false : (a : Bool) → (a && false) ≡ false
-and-false true = refl
-and-false false = refl
 
 or-false : (a : Bool) → (a || false) ≡ a
 or-false true = refl

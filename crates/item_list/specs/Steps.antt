@@ -8,6 +8,7 @@ use lib.ListN.{length, drop}
 use Rattle.format.specs.declared.Key.{Key}
 use Rattle.format.specs.Questions.{Answer, refused, absent, remove, accepted}
 use Rattle.format.specs.Items.{Item, keyBelow, itemLength, wholeItem, firstItem, readSheet}
+unfoldable pub use Rattle.format.specs.History.{itemsIn}
 use Rattle.item_list.specs.declared.Step.{Step}
 use Rattle.item_list.specs.declared.Step.the-variants.{Whole, Broken, End}
 use Rattle.item_list.specs.declared.Checked.{Checked}
@@ -45,12 +46,6 @@ checkedOf remove = Refused 101
 checkedOf (accepted items) = Count (length items)
 
 -- the items of an accepted list
-unfoldable pub itemsIn : Answer (List Item) → List Item
-itemsIn (refused number) = []
-itemsIn absent = []
-itemsIn remove = []
-itemsIn (accepted items) = items
-
 abbrev pub itemsOf : List ℕ → List Item
 itemsOf s = itemsIn (readSheet s)
 

@@ -11,7 +11,7 @@ use borrow.Author.Tests.{le-leb, lt-leb, leb-true}
 use Rattle.fields.specs.Lists.{all}
 use Rattle.fields.specs.Numbers.{beBytes}
 use Rattle.fields.specs.Parts.{part, written, spliced}
-use Rattle.fields.proofs.Lists.{T-eq, all-map}
+use Rattle.fields.proofs.Lists.{and-false, T-eq, all-map}
 use Rattle.fields.proofs.Numbers.{length-beBytes}
 use Rattle.fields.proofs.Parts.{part-all, part-rest, written-pair, written-next, written-front, length-spliced}
 use Rattle.format.specs.declared.Key.{Key}
@@ -21,7 +21,6 @@ use Rattle.format.specs.Questions.{Answer, refused, accepted, ask, bind, held, 
 use Rattle.format.specs.Items.{Item, keyBytes, itemBytes, sheetBytes, dataFits, sheetHolds, heldSheet}
 use Rattle.format.proofs.Items.{sane, sane-out, length-keyBytes, length-itemBytes}
 use Rattle.item_write.specs.Writes.{headBytes, roomFor, heldBytes}
-use Rattle.item_list.proofs.Steps.{and-false}
 
 -- ---- an item's head
 

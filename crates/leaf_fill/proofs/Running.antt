@@ -9,11 +9,12 @@ use lib.Dec.{leb, ltb}
 use lib.ListN.{length, take, drop, length-append}
 use lib.Seq.{take-at, drop-at}
 use borrow.Author.Tests.{le-leb, lt-leb, lt-ltb, le-ltb}
+use Rattle.fields.proofs.Lists.{and-false}
 use Rattle.fields.specs.Lists.{all}
 use Rattle.format.specs.Items.{Item}
 use Rattle.format.specs.Sheets.{itemSpace, spaceOf, cutFits, gapOf, closer, bestCut}
 use Rattle.item_list.specs.Steps.{itemAt, itemsOf}
-use Rattle.item_list.proofs.Steps.{WholeAt, data-long, and-false}
+use Rattle.item_list.proofs.Steps.{WholeAt, data-long}
 use Rattle.item_list.proofs.Walks.{More}
 use Rattle.item_list.proofs.Spaces.{space-append, space-cons}
 use Rattle.leaf_fill.specs.declared.measuring.Cutting.{Cutting}

@@ -7,7 +7,7 @@ use lib.Dec.{T, leb}
 use lib.ListN.{length}
 use mir.Facts.{and-yes}
 use Rattle.fields.specs.Lists.{all}
-use Rattle.fields.proofs.Lists.{T-eq}
+use Rattle.fields.proofs.Lists.{and-true, T-eq}
 use Rattle.format.specs.Questions.{Answer, refused, absent, remove, accepted, ask, bind, held}
 use Rattle.format.specs.Items.{Item, sheetBytes, dataFits, sheetHolds, heldSheet}
 use Rattle.item_write.specs.Writes.{roomFor}
@@ -36,10 +36,6 @@ held-bind room remove next put h = refl
 held-bind room (accepted d) next put h = h d refl
 
 -- a test of all items where all but one pass it
-
-and-true : (a : Bool) → (a && true) ≡ a
-and-true true = refl
-and-true false = refl
 
 pub all-but : (p : Item → Bool) (a : List Item) (x : Item) (b : List Item) → T (all p (a ++ b)) → all p (a ++ x ∷ b) ≡ p x
 all-but p [] x b t = rw (T-eq (all p b) t) (and-true (p x))

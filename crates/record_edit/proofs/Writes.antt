@@ -7,6 +7,7 @@ use native.Mathlib.Omega.{arith}
 use lib.ListN.{length, take, drop, length-append, length-drop}
 use lib.Seq.{length-take-le, take-add, take-append-le, take-take, drop-at, drop-append-le}
 use borrow.Author.Tests.{le-leb, lt-leb}
+use Rattle.fields.proofs.Lists.{and-false}
 use Rattle.fields.specs.Parts.{part, written, spliced}
 use Rattle.fields.proofs.Parts.{part-rest, length-part, length-spliced}
 use Rattle.format.specs.declared.Key.{Key}
@@ -18,7 +19,6 @@ use Rattle.format.proofs.Items.{length-itemBytes}
 use Rattle.format.proofs.Outputs.{answered-refused, answered-written}
 use Rattle.item_write.specs.Writes.{headBytes, roomFor}
 use Rattle.item_write.proofs.Writes.{length-head, item-head}
-use Rattle.item_list.proofs.Steps.{and-false}
 use Rattle.plan_write.specs.declared.plan.Outcome.the-variants.{Edit, Absent, Remove, Refused}
 use Rattle.plan_write.specs.declared.plan.Plan.{Plan}
 use Rattle.plan_write.specs.Plans.{edited, planned, planAnswer, EditIn}

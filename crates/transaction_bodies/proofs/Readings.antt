@@ -7,16 +7,13 @@ use native.Mathlib.Omega.{arith}
 use lib.Dec.{T}
 use lib.ListN.{drop}
 use borrow.Author.Tests.{eq-eqb, ne-eqb}
+use Rattle.fields.proofs.Lists.{and-false}
 use Rattle.format.specs.Questions.{Answer, refused, absent, remove, accepted, bind}
 use Rattle.format.specs.References.{Ref, refAt}
 use Rattle.format.specs.Bodies.{times, offsetOf}
 use Rattle.inline_refs.specs.Steps.{readFrom}
 use Rattle.inline_refs.proofs.Steps.{At}
 use Rattle.transaction_bodies.specs.Counts.{reads, allOf, sumOf, addsAt, isOnce, isCounted}
-
-and-false : (b : Bool) → false ≡ b && false
-and-false true = refl
-and-false false = refl
 
 -- ---- one more reference in front
 
@@ -25,9 +22,9 @@ more r x = bind x (λ refs. accepted (r ∷ refs))
 
 all-more : (p : Ref → Bool) (r : Ref) (x : Answer (List Ref)) → allOf p (more r x) ≡ p r && allOf p x
 unfolding allOf bind
-all-more p r (refused number) = and-false (p r)
-all-more p r absent = and-false (p r)
-all-more p r remove = and-false (p r)
+all-more p r (refused number) = sym (and-false (p r))
+all-more p r absent = sym (and-false (p r))
+all-more p r remove = sym (and-false (p r))
 all-more p r (accepted refs) = refl
 
 reads-more : (r : Ref) (x : Answer (List Ref)) → reads (more r x) ≡ reads x

@@ -22,14 +22,6 @@ use Rattle.transaction_bodies.specs.Counts.{isOurs, addsAt}
 
 -- ---- a test that is asked by its contrary
 
-pub not-yes : (b : Bool) → not b ≡ true → b ≡ false
-not-yes true e = sym e
-not-yes false e = refl
-
-pub not-no : (b : Bool) → not b ≡ false → b ≡ true
-not-no true e = refl
-not-no false e = sym e
-
 -- ---- the lent offsets
 
 module _ (l : List ℕ) (i : ℕ) (h : i < length l) where

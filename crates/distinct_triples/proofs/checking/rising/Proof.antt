@@ -2,8 +2,9 @@ use denote.Ref.{now}
 use Prim.Native.Nat.{_-_, _≤_}
 use native.Mathlib.Omega.{arith}
 use mir.Facts.{fits-widen}
+use borrow.Author.Tests.{not-false}
 use Rattle.distinct_triples.specs.Triples.{Rising}
-use Rattle.distinct_triples.proofs.Orders.{no-true, not-no, rising-one, rising-more, rising-up-to}
+use Rattle.distinct_triples.proofs.Orders.{no-true, rising-one, rising-more, rising-up-to}
 use borrow.Author.Needs.{needs}
 use Rattle.distinct_triples.proofs.checking.rising.Statement.{statement}
 use Rattle.distinct_triples.proofs.checking.rising.Tie as tie
@@ -30,7 +31,7 @@ loop-again : tie.Need-loop-again Inv-loop μ-loop
 loop-again c =
     let a = c .before .before .before .before .before .before .before .before .args in
     let loop = c .before .before .before .before .before .loop in
-    (omega arith, rising-more (now (a .body)) (a .from) (now (a .order)) (loop .k) (loop .inv .0) (loop .inv .1) (c .before .below .ensures (not-no _ (c .if1 .left))))
+    (omega arith, rising-more (now (a .body)) (a .from) (now (a .order)) (loop .k) (loop .inv .0) (loop .inv .1) (c .before .below .ensures (not-false _ (c .if1 .left))))
 
 returns-2 : tie.Need-returns-2 Inv-loop μ-loop
 returns-2 c = λ e. rising-up-to _ _ _ _ _ (c .loop-test .left) (c .before .loop .inv .1)

@@ -1,5 +1,5 @@
 use mathlib.Core.Path.{sym, _∙_}
-use Rattle.transaction_bodies.proofs.Singles.{not-yes, not-no}
+use borrow.Author.Tests.{not-true, not-false}
 use Rattle.transaction_bodies.proofs.Readings.{all-reads}
 use Rattle.transaction_bodies.proofs.Only.{at-total, at-flags, held-total, held-flags, held-ours, held-once, held-counted}
 use borrow.Author.Needs.{needs}
@@ -21,13 +21,13 @@ returns-3 c =
     let one = two .before .before in
     held-ours _ _ _ _ _ _ (sym (at-total _ _ (one .before .get-u64-le .ensures)) ∙ one .if1 .left)
     (sym (at-flags _ _ (two .before .get-u64-le2 .ensures)) ∙ two .if2 .left)
-    (sym (c .before .all-ours .ensures) ∙ not-yes _ (c .if3 .taken))
+    (sym (c .before .all-ours .ensures) ∙ not-true _ (c .if3 .taken))
 
 all-once-requires : tie.Need-all-once-requires
 all-once-requires c κs =
     let rows = c .before .before .before .before in (
       rows .rows .ensures,
-      (rows .before .before .before .before .before .before .before .pre .1, all-reads _ _ (sym (c .before .before .all-ours .ensures) ∙ not-no _ (c .before .if3 .left))),
+      (rows .before .before .before .before .before .before .before .pre .1, all-reads _ _ (sym (c .before .before .all-ours .ensures) ∙ not-false _ (c .before .if3 .left))),
     )
 
 returns-4 : tie.Need-returns-4
@@ -37,15 +37,15 @@ returns-4 c =
     let one = two .before .before in
     held-once _ _ _ _ _ _ (sym (at-total _ _ (one .before .get-u64-le .ensures)) ∙ one .if1 .left)
     (sym (at-flags _ _ (two .before .get-u64-le2 .ensures)) ∙ two .if2 .left)
-    (sym (three .before .all-ours .ensures) ∙ not-no _ (three .if3 .left))
-    (sym (c .before .all-once .ensures) ∙ not-yes _ (c .if4 .taken))
+    (sym (three .before .all-ours .ensures) ∙ not-false _ (three .if3 .left))
+    (sym (c .before .all-once .ensures) ∙ not-true _ (c .if4 .taken))
 
 all-counted-requires : tie.Need-all-counted-requires
 all-counted-requires c κs =
     let three = c .before .before .before .before in
     let rows = three .before .before .before in (
       rows .rows .ensures,
-      (rows .before .before .before .before .before .before .before .pre .1, all-reads _ _ (sym (three .before .all-ours .ensures) ∙ not-no _ (three .if3 .left))),
+      (rows .before .before .before .before .before .before .before .pre .1, all-reads _ _ (sym (three .before .all-ours .ensures) ∙ not-false _ (three .if3 .left))),
     )
 
 returns-5 : tie.Need-returns-5
@@ -56,9 +56,9 @@ returns-5 c =
     let one = two .before .before in
     held-counted _ _ _ _ _ _ (sym (at-total _ _ (one .before .get-u64-le .ensures)) ∙ one .if1 .left)
     (sym (at-flags _ _ (two .before .get-u64-le2 .ensures)) ∙ two .if2 .left)
-    (sym (three .before .all-ours .ensures) ∙ not-no _ (three .if3 .left))
+    (sym (three .before .all-ours .ensures) ∙ not-false _ (three .if3 .left))
     _
-    (sym (four .before .all-once .ensures) ∙ not-no _ (four .if4 .left))
+    (sym (four .before .all-once .ensures) ∙ not-false _ (four .if4 .left))
     (c .all-counted .ensures)
 
 pub held-from-spec : {M : Type 1} → statement M

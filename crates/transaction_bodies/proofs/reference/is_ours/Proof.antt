@@ -1,4 +1,5 @@
-use Rattle.transaction_bodies.proofs.Singles.{not-yes, not-no, ours-no, ours-is}
+use borrow.Author.Tests.{not-true, not-false}
+use Rattle.transaction_bodies.proofs.Singles.{ours-no, ours-is}
 use borrow.Author.Needs.{needs}
 use Rattle.transaction_bodies.proofs.reference.is_ours.Statement.{statement}
 use Rattle.transaction_bodies.proofs.reference.is_ours.Tie as tie
@@ -6,12 +7,12 @@ use Rattle.transaction_bodies.proofs.reference.is_ours.Tie as tie
 returns : tie.Need-returns
 returns c =
     let names = c .before in
-    ours-no _ _ (names .before .offset-at .ensures) _ _ _ _ (names .names .ensures) (not-yes _ (c .if1 .taken))
+    ours-no _ _ (names .before .offset-at .ensures) _ _ _ _ (names .names .ensures) (not-true _ (c .if1 .taken))
 
 returns-2 : tie.Need-returns-2
 returns-2 c =
     let names = c .before .before in
-    ours-is _ _ (names .before .offset-at .ensures) _ _ _ _ (names .names .ensures) _ (not-no _ (c .before .if1 .left)) (c .times-in .ensures)
+    ours-is _ _ (names .before .offset-at .ensures) _ _ _ _ (names .names .ensures) _ (not-false _ (c .before .if1 .left)) (c .times-in .ensures)
 
 pub is-ours-spec : {M : Type 1} → statement M
 is-ours-spec =

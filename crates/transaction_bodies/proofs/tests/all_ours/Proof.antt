@@ -3,10 +3,10 @@ use Prim.Native.Nat.{_-_}
 use native.Mathlib.Omega.{arith}
 use lib.ListN.{length}
 use denote.Ref.{now}
+use borrow.Author.Tests.{not-true, not-false}
 use Rattle.inline_refs.specs.Steps.{readFrom}
 use Rattle.inline_refs.proofs.Steps.{seen}
 use Rattle.transaction_bodies.specs.Counts.{allOf, isOurs}
-use Rattle.transaction_bodies.proofs.Singles.{not-yes, not-no}
 use Rattle.transaction_bodies.proofs.Readings.{all-step, all-no, all-end, all-fault}
 use borrow.Author.Needs.{needs}
 use Rattle.transaction_bodies.proofs.tests.all_ours.Statement.{statement}
@@ -29,7 +29,7 @@ returns : tie.Need-returns Inv-loop μ-loop
 returns c =
     let step = c .before .before .before .before .before in
     let w = seen (now (step .before .before .before .before .args .body)) (step .before .loop .at) _ (sym (c .before .before .before .kind .given .1) ∙ step .step .ensures) in
-    all-no _ _ _ _ _ _ _ w _ _ (c .before .is-ours .ensures) (not-yes _ (c .if1 .taken)) ∙ step .before .loop .inv
+    all-no _ _ _ _ _ _ _ w _ _ (c .before .is-ours .ensures) (not-true _ (c .if1 .taken)) ∙ step .before .loop .inv
 
 loop-less : tie.Need-loop-less Inv-loop μ-loop
 loop-less c =
@@ -41,7 +41,7 @@ loop-again : tie.Need-loop-again Inv-loop μ-loop
 loop-again c =
     let step = c .before .before .before .before .before in
     let w = seen (now (step .before .before .before .before .args .body)) (step .before .loop .at) _ (sym (c .before .before .before .kind .given .1) ∙ step .step .ensures) in
-    all-step _ _ _ _ _ _ _ w _ _ (c .before .is-ours .ensures) (not-no _ (c .if1 .left)) ∙ step .before .loop .inv
+    all-step _ _ _ _ _ _ _ w _ _ (c .before .is-ours .ensures) (not-false _ (c .if1 .left)) ∙ step .before .loop .inv
 
 returns-2 : tie.Need-returns-2 Inv-loop μ-loop
 returns-2 c =
