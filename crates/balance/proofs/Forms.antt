@@ -20,7 +20,7 @@ use Rattle.inline_refs.specs.declared.wanted.Wanted.{Wanted}
 use Rattle.inline_refs.specs.declared.wanted.Wanted.the-variants.{Block, Data, SharedBlock, SharedData}
 use Rattle.inline_refs.specs.Scans.{kindOf, fieldsOf}
 use Rattle.balance_laws.proofs.Says.{naming-of}
-use Rattle.history.proofs.Naming.{Naming as Kinds, is176, is178, is182, is184}
+use Rattle.theorems.proofs.Naming.{Naming as Kinds, is176, is178, is182, is184}
 use Rattle.balance.specs.declared.reference.Named.the-variants.{Of, Bad}
 use Rattle.balance.specs.Groups.{Naming}
 

@@ -14,9 +14,9 @@ use Rattle.format.specs.declared.Key.{Key}
 use Rattle.format.specs.References.{known, payloadLength, Ref, ref}
 use Rattle.format.specs.Items.{Item}
 use Rattle.format.specs.Names.{View, reference, malformed, isRefItem, viewRefItem, viewOf}
-use Rattle.history.proofs.Naming.{above-172, naming-known}
-use Rattle.history.proofs.Order.{named-yes}
-use Rattle.history.proofs.Facts.{view-item}
+use Rattle.theorems.proofs.Naming.{above-172, naming-known}
+use Rattle.theorems.proofs.Order.{named-yes}
+use Rattle.theorems.proofs.Facts.{view-item}
 use Rattle.inline_refs.specs.declared.wanted.Wanted.{Wanted}
 use Rattle.inline_refs.specs.Scans.{kindOf, fieldsOf, isWanted}
 use Rattle.balance_laws.specs.Tally.{taken, unnamed}

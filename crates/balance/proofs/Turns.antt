@@ -15,7 +15,7 @@ use Rattle.format.specs.Items.{Item}
 use Rattle.format.specs.Apply.{isRecord}
 use Rattle.format.specs.Names.{unrelated, isRefItem, viewRefItem, viewOf, balanced}
 use Rattle.format.proofs.Items.{sheet-sane}
-use Rattle.history.proofs.Naming.{Naming as Kinds, is176, is178, is182, is184}
+use Rattle.theorems.proofs.Naming.{Naming as Kinds, is176, is178, is182, is184}
 use Rattle.item_list.specs.Steps.{itemAt, itemsOf, Listed}
 use Rattle.item_list.proofs.Steps.{WholeAt, data-is}
 use Rattle.balance_laws.specs.Tally.{Tally, fresh, closed, taken, here, entered, entry, onward, pass}

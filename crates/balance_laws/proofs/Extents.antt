@@ -13,7 +13,7 @@ use Rattle.format.specs.Items.{Item, rising}
 use Rattle.format.specs.Apply.{isRecord}
 use Rattle.format.specs.Names.{Name, Entry, isRefItem, viewOf, refEntries, itemEntries, entries, isRecordOf, records, stands, ofExtent, viewTotal}
 use Rattle.format.proofs.Keys.{Before, below-out, beyond, rising-after}
-use Rattle.history.proofs.Facts.{entries-here, none-here}
+use Rattle.theorems.proofs.Facts.{entries-here, none-here}
 use Rattle.balance_laws.specs.Tally.{Tally, fresh, closed}
 use Rattle.balance_laws.proofs.Sorted.{names}
 use Rattle.balance_laws.proofs.Parts.{isRefOf, totalIn, Facts}

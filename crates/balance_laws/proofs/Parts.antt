@@ -12,8 +12,8 @@ use Rattle.fields.proofs.Lists.{imp-in, cond-yes, sum-append, all-left, all-rig
 use Rattle.format.specs.Items.{Item}
 use Rattle.format.specs.Apply.{isRecord, recordOf}
 use Rattle.format.specs.Names.{Name, Entry, isRefItem, viewOf, itemEntries, entries, good, isRecordOf, records, stands, counts, ofExtent, viewTotal, balanced}
-use Rattle.history.proofs.Sums.{counts-out, counts-in}
-use Rattle.history.proofs.Edit.{balanced-out, balanced-in}
+use Rattle.theorems.proofs.Sums.{counts-out, counts-in}
+use Rattle.theorems.proofs.Edit.{balanced-out, balanced-in}
 
 -- ---- what an item adds for an extent
 

@@ -21,7 +21,7 @@ use Rattle.format.specs.Names.{Name, View, extentRecord, reference, unrelated, 
 use Rattle.format.proofs.Rows.{Kind, k172, k176, k178, k182, k184, known-kind}
 use Rattle.format.proofs.Refs.{whole, whole-out}
 use Rattle.format.proofs.Bodies.{read-sound}
-use Rattle.history.proofs.Naming.{Naming, is176, is178, is182, is184}
+use Rattle.theorems.proofs.Naming.{Naming, is176, is178, is182, is184}
 use Rattle.balance_laws.specs.Runs.{weighs}
 use Rattle.balance_laws.specs.Tally.{weightIn}
 use Rattle.balance_laws.proofs.Sorted.{names, nameOf, names-cons, one-or}

@@ -13,8 +13,8 @@ use Rattle.fields.proofs.Lists.{imp-out, imp-in, or-left, or-right, cond-yes, c
 use Rattle.format.specs.References.{Ref, place, placeOf, falls, follows, leads, ordered}
 use Rattle.format.specs.Bodies.{named}
 use Rattle.format.specs.Names.{Name, sameName, refEntry, refEntries, stands}
-use Rattle.history.proofs.Sums.{sameName-yes, sameName-refl, refEntries-append}
-use Rattle.history.proofs.Order.{follows-out, named-yes, yes-named}
+use Rattle.theorems.proofs.Sums.{sameName-yes, sameName-refl, refEntries-append}
+use Rattle.theorems.proofs.Order.{follows-out, named-yes, yes-named}
 use Rattle.format.proofs.Refs.{yes-or-no}
 use Rattle.balance_laws.specs.Runs.{Run, start, joins, kept, after, apart, weighs, admits, sound}
 

@@ -18,8 +18,8 @@ use Rattle.format.specs.Names.{Name, Entry, View, extentRecord, reference, unre
 use Rattle.format.proofs.Refs.{whole}
 use Rattle.format.proofs.Keys.{Before, below-out, beyond, rising-after}
 use Rattle.format.proofs.Items.{sane, sane-out}
-use Rattle.history.proofs.Naming.{Naming, above-172}
-use Rattle.history.proofs.Order.{named-yes}
+use Rattle.theorems.proofs.Naming.{Naming, above-172}
+use Rattle.theorems.proofs.Order.{named-yes}
 use Rattle.balance_laws.specs.Runs.{start, weighs, sound}
 use Rattle.balance_laws.specs.Tally.{Tally, weightIn, unnamed, taken}
 use Rattle.balance_laws.proofs.Sorted.{names, nameOf, one-or, one-most, one-self, names-other, names-cons, sound-out, sound-in}

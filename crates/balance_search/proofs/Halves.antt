@@ -13,7 +13,7 @@ use mir.Facts.{T-not, not-T}
 use Rattle.fields.specs.Lists.{all}
 use Rattle.fields.proofs.Lists.{T-eq, lt-or}
 use Rattle.format.specs.References.{payloadLength, Ref, refAt, place, placeOf}
-use Rattle.history.proofs.Order.{named-yes}
+use Rattle.theorems.proofs.Order.{named-yes}
 use Rattle.inline_refs.specs.declared.wanted.Wanted.{Wanted}
 use Rattle.inline_refs.specs.Scans.{kindOf, fieldsOf, isWanted}
 use Rattle.balance_laws.specs.SideBySide.{spanRefs}

@@ -13,7 +13,7 @@ use mir.Facts.{and-yes, yes-and, T-not, yes-eqb}
 use Rattle.fields.specs.Lists.{all}
 use Rattle.fields.proofs.Lists.{T-eq, all-right, all-map, all-two}
 use Rattle.format.specs.References.{known, payloadLength, Ref, refAt, place, falls, follows, leads, ordered}
-use Rattle.history.proofs.Order.{follows-out, ordered-back, follows-trans}
+use Rattle.theorems.proofs.Order.{follows-out, ordered-back, follows-trans}
 use Rattle.balance_laws.specs.SideBySide.{spanRefs}
 use Rattle.balance_search.specs.Places.{refsFrom, reached, left, Skips, Counts, payloadAt, placeAt, Spanned}
 

@@ -12,9 +12,9 @@ use Rattle.fields.specs.Numbers.{areBytes}
 use Rattle.format.specs.declared.Edited.{Edited}
 use Rattle.format.specs.Questions.{Answer, refused, absent, remove, accepted, editedOf, lent, Answered}
 use Rattle.format.specs.History.{Posting, Seen, answerTo, sheetAfter, isAccepted, run, seen, balancedSheet}
-use Rattle.history.specs.Demand.{Wides, Decided, no, yes, Demand3 as OfPostings}
-use Rattle.history.proofs.Demand.{demand-3}
-use Rattle.ledger.specs.Calls.{Call, AllKept, wasWritten, wasDecided, nextSheet, lastSheet, seenBy, postingsOf, Demand3}
+use Rattle.theorems.specs.Demand.{Wides, Decided, no, yes, Correct, AllCorrect as AllPosted, Demand3 as OfPostings}
+use Rattle.theorems.proofs.Demand.{demand-3}
+use Rattle.ledger.specs.Calls.{Call, AllKept, wasWritten, wasDecided, nextSheet, lastSheet, seenBy, postingOf, postingsOf, AllCorrect, Demand3}
 
 -- what an answer says, the caller sees
 told : (a : Answer (List ℕ)) {r : Edited} {old new : List ℕ} → Answered a r old new → wasWritten r ≡ isAccepted a
@@ -33,28 +33,25 @@ wrote sheet (accepted result) {old = old} {new = new} w =
     ap (λ (r : Edited). nextSheet sheet r new) (w .result) ∙ ap (take (length result)) (w .output)
     ∙ take-append-seam result (drop (length result) old)
 
-abbrev firstOf : Call → Posting
-firstOf c = record { nodesize = c .nodesize; change = c .change; room = length (c .old) }
-
 pub same-run : (sheet : List ℕ) (calls : List Call) → AllKept sheet calls → lastSheet sheet calls ≡ run sheet (postingsOf calls)
 unfolding answerTo
 same-run sheet [] k = refl
 same-run sheet (c ∷ calls) (k, ks) =
     same-run (nextSheet sheet (c .result) (c .new)) calls ks
-    ∙ ap (λ (s : List ℕ). run s (postingsOf calls)) (wrote sheet (answerTo sheet (firstOf c)) k)
+    ∙ ap (λ (s : List ℕ). run s (postingsOf calls)) (wrote sheet (answerTo sheet (postingOf c)) k)
 
 pub same-seen : (sheet : List ℕ) (calls : List Call) → AllKept sheet calls → seenBy calls ≡ seen sheet (postingsOf calls)
 unfolding answerTo
 same-seen sheet [] k = refl
 same-seen sheet (c ∷ calls) (k, ks) =
-    ap₂ (λ (b : Bool) (l : List Seen). record { change = c .change; accepted = b } ∷ l) (told (answerTo sheet (firstOf c)) k)
+    ap₂ (λ (b : Bool) (l : List Seen). record { change = c .change; accepted = b } ∷ l) (told (answerTo sheet (postingOf c)) k)
     (same-seen (nextSheet sheet (c .result) (c .new)) calls ks
-    ∙ ap (λ (s : List ℕ). seen s (postingsOf calls)) (wrote sheet (answerTo sheet (firstOf c)) k))
+    ∙ ap (λ (s : List ℕ). seen s (postingsOf calls)) (wrote sheet (answerTo sheet (postingOf c)) k))
 
 -- no call says absent or remove
 decided-so : (a : Answer (List ℕ)) {r : Edited} {old new : List ℕ} → Decided a → Answered a r old new → T (wasDecided r)
 unfolding editedOf
-decided-so a {r} (no k e) w = subst (λ (x : Edited). T (wasDecided x)) (sym (w .result ∙ ap editedOf e)) tt
+decided-so a {r} (no k n e) w = subst (λ (x : Edited). T (wasDecided x)) (sym (w .result ∙ ap editedOf e)) n
 decided-so a {r} (yes s e) w = subst (λ (x : Edited). T (wasDecided x)) (sym (w .result ∙ ap editedOf e)) tt
 
 all-decided : ((s : List ℕ) (p : Posting) → Decided (answerTo s p)) → (sheet : List ℕ) (calls : List Call) → AllKept sheet calls
@@ -62,8 +59,19 @@ all-decided : ((s : List ℕ) (p : Posting) → Decided (answerTo s p)) → (she
 unfolding answerTo
 all-decided d sheet [] k = tt
 all-decided d sheet (c ∷ calls) (k, ks) =
-    yes-and (wasDecided (c .result)) _ (decided-so (answerTo sheet (firstOf c)) (d sheet (firstOf c)) k)
+    yes-and (wasDecided (c .result)) _ (decided-so (answerTo sheet (postingOf c)) (d sheet (postingOf c)) k)
     (all-decided d (nextSheet sheet (c .result) (c .new)) calls ks)
+
+-- what is so of each posting is so of each call
+all-correct : (sheet : List ℕ) (calls : List Call) → AllKept sheet calls → AllPosted sheet (postingsOf calls) → AllCorrect sheet calls
+unfolding answerTo
+all-correct sheet [] k p = tt
+all-correct sheet (c ∷ calls) (k, ks) (p, ps) =
+    let a : Answer (List ℕ) = answerTo sheet (postingOf c) in
+    let w = wrote sheet a k in
+    (subst (λ (b : Bool). Correct sheet (postingOf c) b (nextSheet sheet (c .result) (c .new))) (sym (told a k))
+    (subst (Correct sheet (postingOf c) (isAccepted a)) (sym w) p),
+    all-correct (nextSheet sheet (c .result) (c .new)) calls ks (subst (λ (s : List ℕ). AllPosted s (postingsOf calls)) (sym w) ps))
 
 pub calls-demand-3 : (sheet : List ℕ) (calls : List Call) → T (areBytes sheet) → T (balancedSheet sheet) → Wides (postingsOf calls)
     → AllKept sheet calls → Demand3 sheet calls
@@ -72,6 +80,7 @@ calls-demand-3 sheet calls bytes balance wide kept =
     let r = same-run sheet calls kept in
     let v = same-seen sheet calls kept in
     record {
+      correct = all-correct sheet calls kept (d .correct);
       counts = rw (r, v) (d .counts);
       balance = rw r (d .balance);
       untouched = rw (r, v) (d .untouched);

@@ -14,6 +14,7 @@ use Rattle.format.specs.Questions.{Answered}
 use Rattle.format.specs.Names.{Name, count}
 use Rattle.format.specs.Ledger.{posted}
 use Rattle.format.specs.History.{Posting, Seen, Tally, history, touched, itemsOf, sheetItems, balancedSheet}
+use Rattle.theorems.specs.Demand.{isRefusal, Correct}
 
 -- ---- one call: what it was given, what the lent output held before and after, and what it answered
 
@@ -34,12 +35,12 @@ wasWritten Absent = false
 wasWritten Remove = false
 wasWritten (Refused number) = false
 
--- accepted or refused
+-- accepted, or refused with a question's number
 abbrev pub wasDecided : Edited → Bool
 wasDecided (Written size) = true
 wasDecided Absent = false
 wasDecided Remove = false
-wasDecided (Refused number) = true
+wasDecided (Refused number) = isRefusal number
 
 -- the sheet for the next call: the front of the lent output where it was written, else the same sheet
 abbrev pub nextSheet : List ℕ → Edited → List ℕ → List ℕ
@@ -63,17 +64,27 @@ seenBy [] = []
 seenBy (c ∷ calls) = record { change = c .change; accepted = wasWritten (c .result) } ∷ seenBy calls
 
 -- the postings that these calls are
+abbrev pub postingOf : Call → Posting
+postingOf c = record { nodesize = c .nodesize; change = c .change; room = length (c .old) }
+
 abbrev pub postingsOf : List Call → List Posting
 postingsOf [] = []
-postingsOf (c ∷ calls) = record { nodesize = c .nodesize; change = c .change; room = length (c .old) } ∷ postingsOf calls
+postingsOf (c ∷ calls) = postingOf c ∷ postingsOf calls
 
 -- the history of a name, from what the caller saw
 abbrev pub tallyBy : Name → List ℕ → List Call → Tally
 tallyBy n sheet calls = history n (count n (sheetItems sheet)) (seenBy calls)
 
--- ---- demand 3 of what the calls wrote
+-- ---- demand 3 of what the calls answered and wrote
+
+abbrev pub AllCorrect : List ℕ → List Call → Type 0
+AllCorrect sheet [] = Unit {0}
+AllCorrect sheet (c ∷ calls) =
+    Correct sheet (postingOf c) (wasWritten (c .result)) (nextSheet sheet (c .result) (c .new))
+    × AllCorrect (nextSheet sheet (c .result) (c .new)) calls
 
 pub record Demand3 (sheet : List ℕ) (calls : List Call) : Type 0 where
+  pub correct : AllCorrect sheet calls
   pub counts : (n : Name)
       → count n (sheetItems (lastSheet sheet calls)) + tallyBy n sheet calls .taken
       ≡ count n (sheetItems sheet) + tallyBy n sheet calls .given

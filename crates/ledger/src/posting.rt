@@ -14,10 +14,11 @@ ghost use Rattle.format.specs.Questions.{Answered};
 ghost use Rattle.format.specs.Bodies.{sharedKind};
 ghost use Rattle.format.specs.Items.{nodesizeFits, heldSheet};
 ghost use Rattle.format.specs.Names.{balanced};
-ghost use Rattle.format.specs.Ledger.{nameOf, kindFits, changed, posted};
+ghost use Rattle.format.specs.Ledger.{nameOf, kindFits, changed};
 ghost use Rattle.item_list.specs.Steps.{Listed, itemsOf};
 ghost use Rattle.ledger_adds.specs.Known.{BalancedList, RecordAt};
 ghost use Rattle.ledger.specs.Posting.{beforeFive, SharedWanted};
+ghost use Rattle.ledger.specs.Calls.{Kept};
 
 fn kind_fits(change: Change) -> bool
     ensures { λ r. ⌜ r ≡ kindFits change ⌝ }
@@ -137,7 +138,7 @@ fn before_five(sheet: &[u8], nodesize: u32, change: Change) -> u32
 
 // Document 01's posting: the sheet with the change, into `out`.
 pub fn post(sheet: &[u8], nodesize: u32, change: Change, out: &mut [u8]) -> Edited
-    ensures { λ r. ⌜ Answered (posted nodesize (now (sheet .entry)) change (length (now (out .entry)))) r (now (out .entry)) (now (out .exit)) ⌝ }
+    ensures { λ r. ⌜ Kept (now (sheet .entry)) (record { nodesize = nodesize; change = change; old = now (out .entry); new = now (out .exit); result = r }) ⌝ }
 {
     let listing = item_list::find(sheet, item_list::Wanted::Record(extent_of(change)));
     match listing {

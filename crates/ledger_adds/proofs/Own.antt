@@ -22,11 +22,11 @@ use Rattle.format.specs.Names.{Name, sameName, Entry, itemEntries, good, stands
 use Rattle.format.specs.Ledger.{notItsOwn}
 use Rattle.format.proofs.Keys.{sameKey-yes, sameKey-refl, rising-unique}
 use Rattle.format.proofs.Items.{sane, sane-out}
-use Rattle.history.proofs.Naming.{Naming, is176, is178, is182, is184, naming-no-record}
-use Rattle.history.proofs.Sums.{sameName-yes, sameName-refl}
-use Rattle.history.proofs.Edit.{only}
-use Rattle.history.proofs.Facts.{plain-entry, data-entry}
-use Rattle.acceptance.proofs.Counts.{data-form}
+use Rattle.theorems.proofs.Naming.{Naming, is176, is178, is182, is184, naming-no-record}
+use Rattle.theorems.proofs.Sums.{sameName-yes, sameName-refl}
+use Rattle.theorems.proofs.Edit.{only}
+use Rattle.theorems.proofs.Facts.{plain-entry, data-entry}
+use Rattle.theorems.proofs.Counts.{data-form}
 use Rattle.balance_laws.proofs.Sorted.{names, nameOf, one-or}
 use Rattle.balance_laws.proofs.Says.{Says, aRecord, aReference, nothing, bad, says, entries-ref, entries-none, entries-bad}
 use Rattle.inline_refs.specs.declared.wanted.Wanted.{Wanted}

@@ -15,7 +15,7 @@ use Rattle.format.specs.Sheets.{hasKey}
 use Rattle.format.specs.Names.{good}
 use Rattle.format.specs.Ledger.{notItsOwn}
 use Rattle.format.proofs.Items.{sane}
-use Rattle.history.proofs.Edit.{balanced-out}
+use Rattle.theorems.proofs.Edit.{balanced-out}
 use Rattle.inline_refs.specs.declared.wanted.Wanted.{Wanted}
 use Rattle.inline_refs.specs.Scans.{kindOf, fieldsOf}
 use Rattle.item_list.specs.declared.Sought.{Sought}

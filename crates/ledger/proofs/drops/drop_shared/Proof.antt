@@ -3,7 +3,7 @@ use denote.Ref.{now}
 use lib.ListN.{length}
 use Rattle.fields.proofs.Numbers.{areBytes-in}
 use Rattle.format.specs.Ledger.{dropSharedRef}
-use Rattle.history.proofs.Edit.{balanced-out}
+use Rattle.theorems.proofs.Edit.{balanced-out}
 use Rattle.item_list.specs.Steps.{itemsOf}
 use Rattle.item_list.proofs.Reading.{listed}
 use Rattle.transaction.proofs.Spots.{Standing}

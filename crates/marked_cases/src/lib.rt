@@ -1,1 +1,0 @@
-// Document 01's marked cases: theorems alone, in specs/.

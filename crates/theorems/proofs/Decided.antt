@@ -1,0 +1,329 @@
+-- A posting is refused or accepted: absent and remove, which the calls below it may say, never come out of it.
+-- Assumes nothing.
+use mathlib.Core.Path.{_≡_, refl}
+use mathlib.Core.Bool.{Bool, true, false, _&&_, _||_, cond}
+use mathlib.Core.List.{List}
+use mathlib.Core.Option.{Option, none, some}
+use Prim.Native.Nat.{ℕ, zero, suc, _+_, _-_, _^_}
+use lib.Dec.{T, leb, ltb, eqb}
+use lib.ListN.{length}
+use Rattle.fields.specs.Lists.{all, same, Cut, cut}
+use Rattle.fields.specs.Numbers.{leBytes, words}
+use Rattle.fields.specs.Parts.{written}
+use Rattle.format.specs.declared.BlockRef.{BlockRef}
+use Rattle.format.specs.declared.DataRef.{DataRef}
+use Rattle.format.specs.declared.SharedRef.{SharedRef}
+use Rattle.format.specs.declared.Keyed.{Keyed}
+use Rattle.format.specs.declared.Keyed.the-variants.{Block, Data}
+use Rattle.format.specs.declared.Key.{Key}
+use Rattle.format.specs.declared.Change.{Change}
+use Rattle.format.specs.declared.Change.the-variants.{AddBlock, AddData, AddShared, DropBlock, DropData, DropShared}
+use Rattle.format.specs.Questions.{Answer, refused, absent, remove, accepted, ask, bind, needed, found, ifAbsent, also, held}
+use Rattle.format.specs.References.{counted, Ref, Body, totalOf, readBody, placeOf}
+use Rattle.format.specs.Bodies.{named, one, triple, bodyFits, sharedKind, onBody, onHead, raisedBy, loweredByOne, reducedBy, onTotal, lowerTotal, reduceTotal, dropInline, dropInlineTreeRef, dropInlineDataRef, takeInlineShared, keyedCount, dropKeyedDataRef, Spot, isGap, standingWeight, addAt, addInlineTreeRef, addInlineData, addInlineShared}
+use Rattle.format.specs.Items.{Item, keyOf, readSheet, onSheet, nodesizeFits, sheetHolds, heldSheet}
+use Rattle.format.specs.Sheets.{hasKey, deleted}
+use Rattle.format.specs.Apply.{inlineLimit, recordOf, onRecord, replaced, keyedBody, applyKeyedAdd, sharedBody, applySharedAdd, flagged, dropTreeRef}
+use Rattle.format.specs.Names.{Name, balanced}
+use Rattle.format.specs.Ledger.{notItsOwn, kindFits, added, droppedAt, dropDataRef, sharedCount, dropSharedRef, changed, post, posted}
+use Rattle.format.specs.History.{Posting, answerTo}
+use Rattle.format.proofs.Bodies.{ReadsBody, body, short, strange, cutOff, readBody-decides}
+use Rattle.format.proofs.Items.{ReadsSheet, sheet, broken, unsorted, readSheet-decides}
+use Rattle.theorems.specs.Demand.{isRefusal, Decided, no, yes}
+
+-- ---- a refusal or a result; not remove; not absent
+
+abbrev pub decides : {A : Type 0} → Answer A → Bool
+decides (refused n) = isRefusal n
+decides absent = false
+decides remove = false
+decides (accepted a) = true
+
+abbrev stays : {A : Type 0} → Answer A → Bool
+stays (refused n) = isRefusal n
+stays absent = true
+stays remove = false
+stays (accepted a) = true
+
+abbrev finds : {A : Type 0} → Answer A → Bool
+finds (refused n) = isRefusal n
+finds absent = false
+finds remove = true
+finds (accepted a) = true
+
+decides-ask : {A : Type 0} (b : Bool) (n : ℕ) → T (isRefusal n) → (next : Answer A) → T (decides next) → T (decides (ask b n next))
+unfolding ask
+decides-ask true n r next t = t
+decides-ask false n r next t = r
+
+stays-ask : {A : Type 0} (b : Bool) (n : ℕ) → T (isRefusal n) → (next : Answer A) → T (stays next) → T (stays (ask b n next))
+unfolding ask
+stays-ask true n r next t = t
+stays-ask false n r next t = r
+
+found-ask : {A : Type 0} (b : Bool) (n : ℕ) → T (isRefusal n) → (next : Answer A) → T (finds next) → T (finds (ask b n next))
+unfolding ask
+found-ask true n r next t = t
+found-ask false n r next t = r
+
+decides-bind : {A B : Type 0} (r : Answer A) (next : A → Answer B) → T (decides r) → ((a : A) → T (decides (next a)))
+    → T (decides (bind r next))
+unfolding bind
+decides-bind (refused n) next t f = t
+decides-bind absent next t f = absurd t
+decides-bind remove next t f = absurd t
+decides-bind (accepted a) next t f = f a
+
+stays-bind : {A B : Type 0} (r : Answer A) (next : A → Answer B) → T (stays r) → ((a : A) → T (stays (next a)))
+    → T (stays (bind r next))
+unfolding bind
+stays-bind (refused n) next t f = t
+stays-bind absent next t f = tt
+stays-bind remove next t f = absurd t
+stays-bind (accepted a) next t f = f a
+
+decides-stays : {A : Type 0} (r : Answer A) → T (decides r) → T (stays r)
+decides-stays (refused n) t = t
+decides-stays absent t = absurd t
+decides-stays remove t = absurd t
+decides-stays (accepted a) t = tt
+
+decides-needed : {A : Type 0} (n : ℕ) → T (isRefusal n) → (o : Option A) → T (decides (needed n o))
+unfolding needed
+decides-needed n r none = r
+decides-needed n r (some a) = tt
+
+stays-found : {A : Type 0} (o : Option A) → T (stays (found o))
+unfolding found
+stays-found none = tt
+stays-found (some a) = tt
+
+decides-ifAbsent : {A : Type 0} (r s : Answer A) → T (stays r) → T (decides s) → T (decides (ifAbsent r s))
+unfolding ifAbsent
+decides-ifAbsent (refused n) s t u = t
+decides-ifAbsent absent s t u = u
+decides-ifAbsent remove s t u = absurd t
+decides-ifAbsent (accepted a) s t u = tt
+
+decides-also : {A : Type 0} (b : Bool) (n : ℕ) → T (isRefusal n) → (a : Answer A) → T (decides a) → T (decides (also b n a))
+unfolding also
+decides-also true n r a t = t
+decides-also false n r (refused m) t = lower (leb m n)
+  where
+    lower : (c : Bool) → T (isRefusal (cond c m n))
+    lower true = t
+    lower false = r
+decides-also false n r absent t = r
+decides-also false n r remove t = r
+decides-also false n r (accepted a) t = r
+
+decides-held : {A : Type 0} (holds : A → Bool) (r : Answer A) → T (decides r) → T (decides (held holds r))
+unfolding held
+decides-held holds r t = decides-bind r _ t (λ a. decides-ask (holds a) 21 tt (accepted a) tt)
+
+-- ---- bodies and sheets read, or are refused
+
+reads-body : (type : ℕ) (d : List ℕ) → T (decides (readBody type d))
+reads-body type d = go (readBody-decides type d)
+  where
+    go : ReadsBody (readBody type d) → T (decides (readBody type d))
+    go (body b e) = rw e tt
+    go (short e) = rw e tt
+    go (strange e) = rw e tt
+    go (cutOff e) = rw e tt
+
+reads-sheet : (s : List ℕ) → T (decides (readSheet s))
+reads-sheet s = go (readSheet-decides s)
+  where
+    go : ReadsSheet (readSheet s) → T (decides (readSheet s))
+    go (sheet items e) = rw e tt
+    go (broken e) = rw e tt
+    go (unsorted e) = rw e tt
+
+-- ---- calls on bodies
+
+decides-onBody : {A : Type 0} (type : ℕ) (d : List ℕ) (next : Body → Answer A) → ((b : Body) → T (decides (next b)))
+    → T (decides (onBody type d next))
+unfolding onBody
+decides-onBody type d next f = decides-ask (bodyFits d) 3 tt _ (decides-bind (readBody type d) next (reads-body type d) f)
+
+stays-onBody : {A : Type 0} (type : ℕ) (d : List ℕ) (next : Body → Answer A) → ((b : Body) → T (stays (next b)))
+    → T (stays (onBody type d next))
+unfolding onBody
+stays-onBody type d next f =
+    stays-ask (bodyFits d) 3 tt _ (stays-bind (readBody type d) next (decides-stays (readBody type d) (reads-body type d)) f)
+
+decides-onTotal : (d : List ℕ) (next : ℕ → Answer ℕ) → ((n : ℕ) → T (decides (next n))) → T (decides (onTotal d next))
+unfolding onTotal onHead
+decides-onTotal d next f =
+    decides-ask (bodyFits d) 3 tt _ (decides-ask (leb 24 (length d)) 6 tt _ (decides-bind (next (totalOf d)) _ (f (totalOf d)) (λ n. tt)))
+
+decides-lowerTotal : (d : List ℕ) → T (decides (lowerTotal d))
+unfolding lowerTotal loweredByOne
+decides-lowerTotal d = decides-onTotal d loweredByOne (λ n. decides-ask (leb 2 n) 13 tt _ tt)
+
+decides-reduceTotal : (d : List ℕ) (amount : ℕ) → T (decides (reduceTotal d amount))
+unfolding reduceTotal reducedBy
+decides-reduceTotal d amount = decides-onTotal d (reducedBy amount) (λ n. decides-ask (leb amount n) 14 tt _ tt)
+
+decides-addAt : (b : Body) (r : Ref) (spot : Spot) → T (decides (addAt b r spot))
+unfolding addAt raisedBy
+decides-addAt b r spot =
+    decides-ask (counted (r .kind) || isGap spot) 9 tt _
+    (decides-ask (counted (r .kind) || eqb (r .weight) 1) 10 tt _
+    (decides-ask (ltb (standingWeight spot + r .weight) (2 ^ 32)) 11 tt _
+    (decides-bind (ask (ltb (b .total + r .weight) (2 ^ 64)) 12 (accepted (b .total + r .weight))) _
+    (decides-ask (ltb (b .total + r .weight) (2 ^ 64)) 12 tt _ tt) (λ t. tt))))
+
+stays-dropInline : (type : ℕ) (d : List ℕ) (kind : ℕ) (fields : List ℕ) → T (stays (dropInline type d kind fields))
+unfolding dropInline loweredByOne
+stays-dropInline type d kind fields =
+    stays-onBody type d _ (λ b.
+    stays-bind (found (cut (named kind fields) (b .refs))) _ (stays-found (cut (named kind fields) (b .refs))) (λ c.
+    stays-bind (ask (leb 2 (b .total)) 13 (accepted (b .total - 1))) _ (stays-ask (leb 2 (b .total)) 13 tt _ tt) (λ t. tt)))
+
+stays-takeInlineShared : (type : ℕ) (d : List ℕ) (s : SharedRef) → T (stays (takeInlineShared type d s))
+unfolding takeInlineShared
+stays-takeInlineShared type d s =
+    stays-ask (sharedKind (s .kind)) 3 tt _
+    (stays-onBody type d _ (λ b.
+    stays-bind (found (cut (named (s .kind) (one (s .parent))) (b .refs))) _
+    (stays-found (cut (named (s .kind) (one (s .parent))) (b .refs))) (λ c. tt)))
+
+found-dropKeyed : (d : List ℕ) (name : DataRef) → T (finds (dropKeyedDataRef d name))
+unfolding dropKeyedDataRef
+found-dropKeyed d name =
+    found-ask (bodyFits d) 3 tt _
+    (found-ask (eqb (length d) 28 && same (words 3 d) (triple name)) 15 tt _
+    (found-ask (leb 1 (keyedCount d)) 16 tt _ (go (eqb (keyedCount d) 1))))
+  where
+    go : (c : Bool) → T (finds (cond c remove (accepted (written 24 (leBytes 4 (keyedCount d - 1)) d))))
+    go true = tt
+    go false = tt
+
+-- ---- calls on sheets
+
+decides-onRecord : {A : Type 0} (extent : ℕ) (items : List Item) (next : Cut Item → Answer A)
+    → ((c : Cut Item) → T (decides (next c)))
+    → T (decides (onRecord extent items next))
+unfolding onRecord
+decides-onRecord extent items next f =
+    decides-bind (needed 5 (cut (recordOf extent) items)) next (decides-needed 5 tt (cut (recordOf extent) items)) f
+
+decides-replaced : (key : Key) (d : List ℕ) (items : List Item) → T (decides (replaced key d items))
+unfolding replaced
+decides-replaced key d items =
+    decides-bind (needed 5 (cut (hasKey key) items)) _ (decides-needed 5 tt (cut (hasKey key) items)) (λ c. tt)
+
+decides-deleted : (key : Key) (items : List Item) → T (decides (deleted key items))
+unfolding deleted
+decides-deleted key items =
+    decides-bind (needed 5 (cut (hasKey key) items)) _ (decides-needed 5 tt (cut (hasKey key) items)) (λ c. tt)
+
+decides-keyedBody : (i : Item) (keyed : Keyed) (amount : ℕ) → T (decides (keyedBody i keyed amount false))
+unfolding keyedBody addInlineTreeRef addInlineData
+decides-keyedBody i (Block block) amount = decides-onBody (i .key .kind) (i .bytes) _ (λ b. decides-addAt b _ _)
+decides-keyedBody i (Data d) zero = tt
+decides-keyedBody i (Data d) (suc amount) = decides-onBody (i .key .kind) (i .bytes) _ (λ b. decides-addAt b _ _)
+
+decides-applyKeyedAdd : (nodesize extent : ℕ) (keyed : Keyed) (amount : ℕ) (items : List Item)
+    → T (decides (applyKeyedAdd nodesize extent keyed amount false items))
+unfolding applyKeyedAdd
+decides-applyKeyedAdd nodesize extent keyed amount items =
+    decides-onRecord extent items _ (λ c.
+    decides-bind (keyedBody (c .hit) keyed amount false) _ (decides-keyedBody (c .hit) keyed amount) (λ d.
+    decides-ask (leb (length d) (length (c .hit .bytes)) || leb (length d) (inlineLimit nodesize)) 17 tt _ tt))
+
+decides-applySharedAdd : (nodesize extent : ℕ) (s : SharedRef) (amount : ℕ) (items : List Item)
+    → T (decides (applySharedAdd nodesize extent s amount false items))
+unfolding applySharedAdd sharedBody addInlineShared
+decides-applySharedAdd nodesize extent s amount items =
+    decides-onRecord extent items _ (λ c.
+    decides-bind (addInlineShared (c .hit .key .kind) (c .hit .bytes) s amount) _
+    (decides-ask (sharedKind (s .kind)) 3 tt _ (decides-onBody (c .hit .key .kind) (c .hit .bytes) _ (λ b. decides-addAt b _ _)))
+    (λ d.
+    decides-ask (leb (length d) (inlineLimit nodesize)) 17 tt _ tt))
+
+decides-droppedAt : (k : Cut Item) (answer : Answer (List ℕ)) → T (finds answer) → T (decides (droppedAt k answer))
+unfolding droppedAt
+decides-droppedAt k (refused n) t = t
+decides-droppedAt k absent t = absurd t
+decides-droppedAt k remove t = tt
+decides-droppedAt k (accepted d) t = tt
+
+decides-dropTreeRef : (block : BlockRef) (items : List Item) (c : Cut Item) → T (decides (dropTreeRef block false items c))
+unfolding dropTreeRef dropInlineTreeRef flagged
+decides-dropTreeRef block items c =
+    decides-ifAbsent _ _
+    (stays-bind (dropInline (c .hit .key .kind) (c .hit .bytes) 176 (one (block .tree))) _
+    (stays-dropInline (c .hit .key .kind) (c .hit .bytes) 176 (one (block .tree))) (λ d.
+    stays-bind (accepted d) _ tt (λ z. tt)))
+    (decides-bind (deleted (keyOf (c .hit .key .objectid) 176 (block .tree)) items) _
+    (decides-deleted (keyOf (c .hit .key .objectid) 176 (block .tree)) items) (λ others.
+    decides-bind (lowerTotal (c .hit .bytes)) _ (decides-lowerTotal (c .hit .bytes)) (λ d.
+    decides-bind (accepted d) _ tt (λ z. decides-replaced (c .hit .key) z others))))
+
+decides-dropDataRef : (d : DataRef) (items : List Item) (c : Cut Item) → T (decides (dropDataRef d items c))
+unfolding dropDataRef dropInlineDataRef
+decides-dropDataRef d items c =
+    decides-ifAbsent _ _
+    (stays-bind (dropInline (c .hit .key .kind) (c .hit .bytes) 178 (triple d)) _
+    (stays-dropInline (c .hit .key .kind) (c .hit .bytes) 178 (triple d)) (λ z. tt))
+    (decides-bind (needed 5 (cut (hasKey (keyOf (c .hit .key .objectid) 178 (placeOf 178 (triple d)))) items)) _
+    (decides-needed 5 tt (cut (hasKey (keyOf (c .hit .key .objectid) 178 (placeOf 178 (triple d)))) items)) (λ k.
+    decides-bind (lowerTotal (c .hit .bytes)) _ (decides-lowerTotal (c .hit .bytes)) (λ z.
+    decides-bind (droppedAt k (dropKeyedDataRef (k .hit .bytes) d)) _
+    (decides-droppedAt k _ (found-dropKeyed (k .hit .bytes) d)) (λ others.
+    decides-replaced (c .hit .key) z others))))
+
+decides-dropSharedRef : (s : SharedRef) (items : List Item) (c : Cut Item) → T (decides (dropSharedRef s items c))
+unfolding dropSharedRef
+decides-dropSharedRef s items c =
+    decides-ifAbsent _ _
+    (stays-bind (takeInlineShared (c .hit .key .kind) (c .hit .bytes) s) _ (stays-takeInlineShared (c .hit .key .kind) (c .hit .bytes) s) (λ out.
+    stays-bind (reduceTotal (out .bytes) (out .count)) _
+    (decides-stays (reduceTotal (out .bytes) (out .count)) (decides-reduceTotal (out .bytes) (out .count))) (λ z. tt)))
+    (decides-bind (needed 5 (cut (hasKey (keyOf (c .hit .key .objectid) (s .kind) (s .parent))) items)) _
+    (decides-needed 5 tt (cut (hasKey (keyOf (c .hit .key .objectid) (s .kind) (s .parent))) items)) (λ k.
+    decides-bind (reduceTotal (c .hit .bytes) (sharedCount (k .hit))) _
+    (decides-reduceTotal (c .hit .bytes) (sharedCount (k .hit))) (λ z.
+    decides-replaced (c .hit .key) z _)))
+
+-- ---- changes and postings
+
+decides-added : (n : Name) (amount : ℕ) (items : List Item) (answer : Answer (List Item)) → T (decides answer)
+    → T (decides (added n amount items answer))
+unfolding added
+decides-added n amount items answer t = decides-also (all (notItsOwn n) items) 9 tt _ (decides-also (leb 1 amount) 10 tt answer t)
+
+decides-changed : (nodesize : ℕ) (change : Change) (items : List Item) → T (decides (changed nodesize change items))
+unfolding changed
+decides-changed nodesize (AddBlock extent name) items =
+    decides-added _ 1 items _ (decides-applyKeyedAdd nodesize extent (Block name) 1 items)
+decides-changed nodesize (AddData extent name amount) items =
+    decides-added _ amount items _ (decides-applyKeyedAdd nodesize extent (Data name) amount items)
+decides-changed nodesize (AddShared extent name amount) items =
+    decides-added _ amount items _ (decides-applySharedAdd nodesize extent name amount items)
+decides-changed nodesize (DropBlock extent name) items = decides-onRecord extent items _ (decides-dropTreeRef name items)
+decides-changed nodesize (DropData extent name) items = decides-onRecord extent items _ (decides-dropDataRef name items)
+decides-changed nodesize (DropShared extent name) items = decides-onRecord extent items _ (decides-dropSharedRef name items)
+
+decides-posted : (nodesize : ℕ) (s : List ℕ) (change : Change) (room : ℕ) → T (decides (posted nodesize s change room))
+unfolding posted heldSheet post onSheet
+decides-posted nodesize s change room =
+    decides-bind (held (sheetHolds room) (post nodesize s change)) _
+    (decides-held (sheetHolds room) (post nodesize s change)
+    (decides-bind (readSheet s) _ (reads-sheet s) (λ items.
+    decides-ask (nodesizeFits nodesize && kindFits change) 3 tt _
+    (decides-ask (balanced items) 4 tt _ (decides-changed nodesize change items))))) (λ items. tt)
+
+pub decided : (s : List ℕ) (p : Posting) → Decided (answerTo s p)
+unfolding answerTo
+decided s p = go (posted (p .nodesize) s (p .change) (p .room)) refl (decides-posted (p .nodesize) s (p .change) (p .room))
+  where
+    go : (a : Answer (List ℕ)) → posted (p .nodesize) s (p .change) (p .room) ≡ a → T (decides a)
+        → Decided (posted (p .nodesize) s (p .change) (p .room))
+    go (refused n) e t = no n t e
+    go absent e t = absurd t
+    go remove e t = absurd t
+    go (accepted r) e t = yes r e
