@@ -1,3 +1,4 @@
 pub mod Dropping
 pub mod Postings
 pub mod Calls
+pub mod Instance

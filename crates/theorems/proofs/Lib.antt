@@ -18,3 +18,4 @@ pub mod DropCallsAccepted
 pub mod Acceptance
 pub mod Demand
 pub mod Impossible
+pub mod Instance
