@@ -1,7 +1,5 @@
 // Document 01's books: one change posted.
-ghost use lib.ListN.{length};
-ghost use Rattle.export_codes.specs.Exports.{Coded};
-ghost use Rattle.export_codes.specs.Postings.{changeOf, postedIf};
+ghost use Rattle.extent_refs.specs.Posts.{Kept};
 
 #[no_mangle]
 pub extern "C" fn ledger_post(
@@ -16,7 +14,7 @@ pub extern "C" fn ledger_post(
     out: &mut [u8],
     len: &mut u64,
 ) -> u32
-    ensures { λ r. ⌜ Coded (postedIf nodesize (now (sheet .entry)) (changeOf change extent a b c amount) (length (now (out .entry)))) r (now (len .exit)) (now (out .entry)) (now (out .exit)) ⌝ }
+    ensures { λ r. ⌜ Kept (now (sheet .entry)) (record { nodesize = nodesize; number = change; extent = extent; a = a; b = b; c = c; amount = amount; old = now (out .entry); new = now (out .exit); code = r; size = now (len .exit) }) ⌝ }
 {
     let posting = export_codes::change_of(change, extent, a, b, c, amount);
     let answer = ledger::post(sheet, nodesize, posting, out);

@@ -68,10 +68,11 @@ unfolding answerTo
 all-correct sheet [] k p = tt
 all-correct sheet (c ∷ calls) (k, ks) (p, ps) =
     let a : Answer (List ℕ) = answerTo sheet (postingOf c) in
-    let w = wrote sheet a k in
-    (subst (λ (b : Bool). Correct sheet (postingOf c) b (nextSheet sheet (c .result) (c .new))) (sym (told a k))
-    (subst (Correct sheet (postingOf c) (isAccepted a)) (sym w) p),
-    all-correct (nextSheet sheet (c .result) (c .new)) calls ks (subst (λ (s : List ℕ). AllPosted s (postingsOf calls)) (sym w) ps))
+    let w = wrote sheet a k in (
+      subst (λ (b : Bool). Correct sheet (postingOf c) b (nextSheet sheet (c .result) (c .new))) (sym (told a k))
+          (subst (Correct sheet (postingOf c) (isAccepted a)) (sym w) p),
+      all-correct (nextSheet sheet (c .result) (c .new)) calls ks (subst (λ (s : List ℕ). AllPosted s (postingsOf calls)) (sym w) ps),
+    )
 
 pub calls-demand-3 : (sheet : List ℕ) (calls : List Call) → T (areBytes sheet) → T (balancedSheet sheet) → Wides (postingsOf calls)
     → AllKept sheet calls → Demand3 sheet calls
