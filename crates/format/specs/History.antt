@@ -1,7 +1,7 @@
 -- Document 01, "The entry": a list of postings, and the history, "a plain tally". Assumes nothing.
 use mathlib.Core.Bool.{Bool, true, false, _&&_, _||_, cond}
 use mathlib.Core.List.{List, [], _∷_}
-use Prim.Native.Nat.{ℕ, _+_, _-_}
+use Prim.Native.Nat.{ℕ, _+_}
 use lib.Dec.{eqb}
 use Rattle.format.specs.declared.Change.{Change}
 use Rattle.format.specs.declared.Change.the-variants.{AddBlock, AddData, AddShared, DropBlock, DropData, DropShared}
@@ -59,13 +59,17 @@ gave t amount = record { opening = t .opening; given = t .given + amount; taken 
 abbrev pub took : Tally → ℕ → Tally
 took t amount = record { opening = t .opening; given = t .given; taken = t .taken + amount }
 
+-- "take shared adds opening plus given minus taken" to taken, which then is opening plus given
+abbrev pub tookAll : Tally → Tally
+tookAll t = record { opening = t .opening; given = t .given; taken = t .opening + t .given }
+
 unfoldable pub enter : Change → Tally → Tally
 enter (AddBlock extent name) t = gave t 1
 enter (AddData extent name amount) t = gave t amount
 enter (AddShared extent name amount) t = gave t amount
 enter (DropBlock extent name) t = took t 1
 enter (DropData extent name) t = took t 1
-enter (DropShared extent name) t = took t (t .opening + t .given - t .taken)  -- never below 0: demand 3
+enter (DropShared extent name) t = tookAll t
 
 -- "A refused one moves nothing. Accepted, under the change's name"
 abbrev pub tally : Name → Tally → List Seen → Tally

@@ -1,7 +1,7 @@
 -- What one accepted posting does to a balanced sheet and to the tally of every name. Assumes nothing.
 use mathlib.Core.Path.{_≡_, refl, sym, ap, _∙_, subst}
 use mathlib.Core.Logic.{_≢_}
-use Prim.Native.Nat.{ℕ, _+_, _-_, _≤_}
+use Prim.Native.Nat.{ℕ, _+_, _≤_}
 use native.Mathlib.Omega.{arith}
 use mathlib.Core.Bool.{Bool, true, false, not, cond}
 use mathlib.Core.Option.{Option}
@@ -120,7 +120,7 @@ drop-fit c out items after s n t q h = let e = moved (nameOf c) 0 out false item
 
 wipe-fit : (c : Change) (out : ℕ) (items after : List Item) → Balanced items → Step (nameOf c) 0 out true items after
     → (n : Name) (t : Tally)
-    → T (sameName n (nameOf c)) → Fit (count n items) t → Fit (count n after) (took t (t .opening + t .given - t .taken))
+    → T (sameName n (nameOf c)) → Fit (count n items) t → Fit (count n after) (record { opening = t .opening; given = t .given; taken = t .opening + t .given })
 wipe-fit c out items after b s n t q h =
     let e : count n after ≡ 0 =
     ap (λ (x : Name). count x after) (sameName-yes n (nameOf c) q) ∙ wiped (nameOf c) 0 out items after b s in
