@@ -7,4 +7,6 @@ pub mod Bodies
 pub mod Keys
 pub mod Items
 pub mod Splices
+pub mod Computed
 pub mod Postings
+pub mod Singles

@@ -1,0 +1,111 @@
+-- Single postings computed: sheets that do not read (1), that are out of order (2) or that are not balanced (4), each for one
+-- reason of document 01, and which of two reasons a posting is refused for. Assumes nothing.
+use mathlib.Core.Path.{_≡_, refl}
+use mathlib.Core.List.{List, [], _∷_, _++_}
+use Prim.Native.Nat.{ℕ, _+_}
+use lib.ListN.{take}
+use Rattle.fields.specs.Numbers.{leBytes, beBytes}
+use Rattle.format.specs.declared.Change.the-variants.{AddBlock, AddData, DropData}
+use Rattle.format.specs.References.{Ref, ref}
+use Rattle.format.specs.Bodies.{keyedDataRefBody}
+use Rattle.format.specs.Items.{Item, sheetBytes}
+use Rattle.format.proofs.Computed.{computed, tree, inode, item, recordBytes, block, file, dataRef, Line, within, line}
+
+pub record Single : Type 0 where
+  pub sheet : List ℕ
+  pub line : Line
+
+abbrev on : List Item → Line → Single
+on items l = record { sheet = sheetBytes items; line = l }
+
+-- a change that is accepted where the sheet is balanced
+abbrev add : ℕ → Line
+add number = line (AddBlock 8192 (tree 7)) number
+
+abbrev bytes : List ℕ → Single
+bytes sheet = record { sheet = sheet; line = add 1 }
+
+-- a block with one reference, and what is put beside it
+abbrev beside : List Item → ℕ → Single
+beside items number = on (block 8192 1 (ref 176 (5 ∷ []) 1 ∷ []) ∷ items) (add number)
+
+-- a block with these references, of that total
+abbrev of : ℕ → List Ref → ℕ → Single
+of total refs number = on (block 8192 total refs ∷ []) (add number)
+
+abbrev hash : ℕ
+hash = 0x0dfb591fbbf5f519
+
+-- a data extent of that total with the item of (5, 258, 0)
+abbrev byItem : ℕ → ℕ → List ℕ → Line → Single
+byItem total offset bytes l = on (file 12288 total [] ∷ item 12288 178 offset bytes ∷ []) l
+
+unfoldable pub singles : List Single
+singles =
+    -- 1: no byte, another version, no whole item, L below 17, data cut short
+    bytes []
+    ∷ bytes (2 ∷ [])
+    ∷ bytes (1 ∷ 0 ∷ [])
+    ∷ bytes (1 ∷ (beBytes 4 16 ++ beBytes 8 0 ++ beBytes 8 0))
+    ∷ bytes (take 54 (sheetBytes (block 8192 1 (ref 176 (5 ∷ []) 1 ∷ []) ∷ [])))
+    -- 2: equal keys, and falling ones
+    ∷ on (item 8192 169 0 [] ∷ item 8192 169 0 [] ∷ []) (add 2)
+    ∷ on (item 8192 169 1 [] ∷ item 8192 169 0 [] ∷ []) (add 2)
+    ∷ on (item 8193 169 0 [] ∷ item 8192 169 0 [] ∷ []) (within 500 1000 (AddBlock 8192 (tree 7)) 2)
+    -- balanced, with items that name nothing
+    ∷ beside [] 0
+    ∷ beside (item 8192 192 4096 [] ∷ []) 0
+    ∷ of 2 (ref 176 (5 ∷ []) 1 ∷ ref 182 (9 ∷ []) 1 ∷ []) 0
+    -- 4: a total too high, too low
+    ∷ of 2 (ref 176 (5 ∷ []) 1 ∷ []) 4
+    ∷ of 1 (ref 176 (5 ∷ []) 1 ∷ ref 176 (4 ∷ []) 1 ∷ []) 4
+    ∷ of 1 (ref 172 (5 ∷ []) 0 ∷ []) 4
+    -- two records, a reference item without one
+    ∷ on (item 8192 168 4096 (recordBytes 1 0 [] []) ∷ block 8192 0 [] ∷ []) (add 4)
+    ∷ beside (item 9000 182 100 [] ∷ []) 4
+    -- records that do not read: 6, 7 and 8
+    ∷ beside (item 9000 169 0 (1 ∷ []) ∷ []) 4
+    ∷ beside (item 9000 168 4096 (recordBytes 2 0 [] []) ∷ []) 4
+    ∷ beside (item 9000 169 0 (recordBytes 2 0 [] [] ++ 177 ∷ []) ∷ []) 4
+    ∷ beside (item 9000 169 0 (recordBytes 2 0 [] [] ++ 172 ∷ 5 ∷ []) ∷ []) 4
+    -- types that fall, first fields that rise, a hash that rises
+    ∷ of 2 (ref 182 (9 ∷ []) 1 ∷ ref 176 (5 ∷ []) 1 ∷ []) 4
+    ∷ of 2 (ref 176 (4 ∷ []) 1 ∷ ref 176 (5 ∷ []) 1 ∷ []) 4
+    ∷ of 2 (ref 182 (4 ∷ []) 1 ∷ ref 182 (5 ∷ []) 1 ∷ []) 4
+    ∷ of 2 (ref 184 (4 ∷ []) 1 ∷ ref 184 (5 ∷ []) 1 ∷ []) 4
+    ∷ of 2 (dataRef 256 1 ∷ dataRef 257 1 ∷ []) 4
+    -- a name twice: inline, and inline and as an item
+    ∷ of 2 (dataRef 257 1 ∷ dataRef 257 1 ∷ []) 4
+    ∷ on (block 8192 2 (ref 176 (5 ∷ []) 1 ∷ []) ∷ item 8192 176 5 [] ∷ []) (add 4)
+    -- a count of 0, inline and as an item
+    ∷ of 0 (ref 184 (5 ∷ []) 0 ∷ []) 4
+    ∷ beside (item 8192 184 5 (leBytes 4 0) ∷ []) 4
+    -- reference items in another form
+    ∷ beside (item 8192 176 6 (0 ∷ []) ∷ []) 4
+    ∷ beside (item 8192 182 6 (0 ∷ []) ∷ []) 4
+    ∷ beside (item 8192 184 6 (leBytes 8 1) ∷ []) 4
+    ∷ byItem 0 hash (leBytes 8 5 ++ leBytes 8 258) (add 4)
+    ∷ byItem 0 (hash + 1) (keyedDataRefBody (inode 258 0) 1) (add 4)
+    -- 3 before 4, and 4 before 5
+    ∷ on (block 8192 2 [] ∷ []) (within 500 1000 (AddBlock 8192 (tree 7)) 3)
+    ∷ on (block 8192 2 [] ∷ []) (line (AddBlock 9000 (tree 7)) 4)
+    -- two triples of one hash stand inline, the new one behind
+    ∷ on (file 12288 2 (dataRef 257 2 ∷ []) ∷ []) (line (AddData 12288 (inode 258 3678701417) 1) 0)
+    ∷ of 2 (dataRef 257 1 ∷ ref 178 (5 ∷ 258 ∷ 3678701417 ∷ []) 1 ∷ []) 0
+    -- 13 before 15; 13 of the last data reference, inline or as an item
+    ∷ byItem 1 hash (keyedDataRefBody (inode 258 0) 1) (line (DropData 12288 (inode 259 1228700967)) 13)
+    ∷ byItem 1 hash (keyedDataRefBody (inode 258 0) 1) (line (DropData 12288 (inode 258 0)) 13)
+    ∷ on (file 12288 1 (dataRef 257 1 ∷ []) ∷ []) (line (DropData 12288 (inode 257 0)) 13)
+    ∷ []
+
+abbrev computedOf : List Single → List ℕ
+computedOf [] = []
+computedOf (s ∷ more) = computed (s .sheet) (s .line .posting) ∷ computedOf more
+
+abbrev numbersOf : List Single → List ℕ
+numbersOf [] = []
+numbersOf (s ∷ more) = s .line .number ∷ numbersOf more
+
+pub answers : computedOf singles ≡ numbersOf singles
+unfolding computed singles
+answers = refl
