@@ -4,11 +4,8 @@ use mathlib.Core.Path.{refl}
 use mathlib.Core.List.{List, [], _∷_}
 use Prim.Native.Nat.{ℕ}
 use lib.ListN.{length, replicate}
-use Rattle.fields.specs.Numbers.{leBytes, beBytes, wordBytes}
 use Rattle.format.specs.Questions.{Answer, codeOf, lentPart, lent}
-use Rattle.format.specs.References.{rowIn, payloadLength, countPosition, counted, refBytes, refsBytes, bodyBytes}
-use Rattle.format.specs.Bodies.{keyedDataRefBody}
-use Rattle.format.specs.Items.{keyBytes, itemBytes, itemsBytes, sheetBytes}
+use Rattle.format.proofs.Computed.{computed}
 use Rattle.format.proofs.Postings.{opening, opens}
 use Rattle.ledger.specs.Calls.{nextSheet, Demand3}
 use Rattle.export_codes.specs.Postings.{changeOf, postedIf}
@@ -53,8 +50,8 @@ kept sheet (n ∷ list) = (record { code = refl; size = refl; output = refl }, k
 
 abbrev numbers : List Numbers
 numbers =
-    record { number = 1; a = 7; b = 0 } ∷ record { number = 9; a = 7; b = 0 } ∷ record { number = 6; a = 184; b = 300 } ∷ []
+    record { number = 1; a = 7; b = 0 } ∷ record { number = 9; a = 7; b = 0 } ∷ record { number = 6; a = 182; b = 100 } ∷ []
 
 pub met : Demand3 opening (callsOf (postsFor opening numbers))
-unfolding opening leBytes beBytes wordBytes rowIn payloadLength countPosition counted refBytes refsBytes bodyBytes keyedDataRefBody keyBytes itemBytes itemsBytes sheetBytes
+unfolding computed opening
 met = posts-demand-3 opening (postsFor opening numbers) tt opens tt (kept opening numbers)

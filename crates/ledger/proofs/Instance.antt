@@ -4,13 +4,10 @@ use mathlib.Core.Path.{_≡_, refl, sym, ap, ap₂, _∙_, subst}
 use mathlib.Core.List.{List, [], _∷_}
 use Prim.Native.Nat.{ℕ}
 use lib.ListN.{length, replicate, length-replicate}
-use Rattle.fields.specs.Numbers.{leBytes, beBytes, wordBytes}
 use Rattle.format.specs.Questions.{Answer, editedOf, lent}
-use Rattle.format.specs.References.{rowIn, payloadLength, countPosition, counted, refBytes, refsBytes, bodyBytes}
-use Rattle.format.specs.Bodies.{keyedDataRefBody}
-use Rattle.format.specs.Items.{keyBytes, itemBytes, itemsBytes, sheetBytes}
 use Rattle.format.specs.Ledger.{posted}
 use Rattle.format.specs.History.{Posting, run}
+use Rattle.format.proofs.Computed.{computed}
 use Rattle.format.proofs.Postings.{opening, closing, postings, opens, closes}
 use Rattle.theorems.specs.Demand.{Wides}
 use Rattle.theorems.proofs.Instance.{wide}
@@ -45,7 +42,7 @@ pub calls : List Call
 calls = callsFor opening postings
 
 pub met : Demand3 opening calls
-unfolding calls opening leBytes beBytes wordBytes rowIn payloadLength countPosition counted refBytes refsBytes bodyBytes keyedDataRefBody keyBytes itemBytes itemsBytes sheetBytes
+unfolding computed calls opening
 met = calls-demand-3 opening calls tt opens (subst Wides (sym (same-postings opening postings)) wide) (kept opening postings)
 
 pub ends : lastSheet opening calls ≡ closing

@@ -18,7 +18,7 @@ use Rattle.format.specs.References.{payloadLength, countPosition, counted, fiel
 use Rattle.format.specs.Items.{Item, rising, readSheet, sheetBytes, dataFits}
 use Rattle.format.specs.Names.{Name, sameName, entries, stands, count, balanced}
 use Rattle.format.specs.Ledger.{nameOf, kindFits, changed}
-use Rattle.format.specs.History.{Posting, answerTo, Tally, gave, took, enter, itemsOf, itemsIn, sheetItems, passes, balancedSheet}
+use Rattle.format.specs.History.{Posting, answerTo, Tally, gave, took, tookAll, enter, itemsOf, itemsIn, sheetItems, passes, balancedSheet}
 use Rattle.format.proofs.Answers.{accepted-inj}
 use Rattle.format.proofs.Items.{sane, sheet-sane, read-sheetBytes, areBytes-sheetBytes}
 use Rattle.theorems.specs.Demand.{Wide}
@@ -120,7 +120,7 @@ drop-fit c out items after s n t q h = let e = moved (nameOf c) 0 out false item
 
 wipe-fit : (c : Change) (out : ℕ) (items after : List Item) → Balanced items → Step (nameOf c) 0 out true items after
     → (n : Name) (t : Tally)
-    → T (sameName n (nameOf c)) → Fit (count n items) t → Fit (count n after) (record { opening = t .opening; given = t .given; taken = t .opening + t .given })
+    → T (sameName n (nameOf c)) → Fit (count n items) t → Fit (count n after) (tookAll t)
 wipe-fit c out items after b s n t q h =
     let e : count n after ≡ 0 =
     ap (λ (x : Name). count x after) (sameName-yes n (nameOf c) q) ∙ wiped (nameOf c) 0 out items after b s in

@@ -5,12 +5,9 @@ use Prim.Native.Nat.{ℕ, _^_}
 use lib.Dec.{T, ltb}
 use mir.Facts.{and-yes}
 use Rattle.fields.specs.Lists.{all}
-use Rattle.fields.specs.Numbers.{leBytes, beBytes, wordBytes}
-use Rattle.format.specs.References.{rowIn, payloadLength, countPosition, counted, refBytes, refsBytes, bodyBytes}
-use Rattle.format.specs.Bodies.{keyedDataRefBody}
-use Rattle.format.specs.Items.{keyBytes, itemBytes, itemsBytes, sheetBytes}
 use Rattle.format.specs.Ledger.{nameOf}
 use Rattle.format.specs.History.{Posting}
+use Rattle.format.proofs.Computed.{computed}
 use Rattle.format.proofs.Postings.{opening, postings, opens}
 use Rattle.theorems.specs.Demand.{Wide, Wides, Demand3}
 use Rattle.theorems.proofs.Demand.{demand-3}
@@ -27,5 +24,5 @@ unfolding postings
 wide = wides postings tt
 
 pub met : Demand3 opening postings
-unfolding opening leBytes beBytes wordBytes rowIn payloadLength countPosition counted refBytes refsBytes bodyBytes keyedDataRefBody keyBytes itemBytes itemsBytes sheetBytes
+unfolding computed opening
 met = demand-3 opening postings tt opens wide
