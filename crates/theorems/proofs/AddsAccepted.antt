@@ -35,7 +35,7 @@ use Rattle.theorems.proofs.Edit.{Balanced}
 use Rattle.theorems.proofs.Steps.{tidy, Here, here-of, ordered-at, long-at}
 use Rattle.theorems.proofs.Adds.{added-out}
 use Rattle.theorems.specs.Acceptance.{Accepts, Exactly, UpToFive, inline, apart, grown, sharedSize, AddsBlock, AddsData, AddsShared}
-use Rattle.theorems.proofs.Posting.{Posts, posts-out, posts-in, itemSize, holds-out, holds-in, size-put, few-put, fit-put, limit-small, Scene, scene, AtRecord, record-out, record-in}
+use Rattle.theorems.proofs.Posting.{Posts, posts-out, posts-in, itemSize, holds-out, holds-in, size-put, few-put, fit-put, limit-small, SheetFacts, sheet-facts, AtRecord, record-out, record-in}
 use Rattle.theorems.proofs.Counts.{Formed, formed, two-places, inline-none, inline-one, own-out, own-in}
 
 -- ---- lengths of references and bodies
@@ -190,7 +190,7 @@ limit-out x y z t h = go (or-yes (leb x y) (leb x z) t)
     go (inl u) = let k : x ≤ y = leb→le x y u in absurd (omega arith)
     go (inr u) = leb→le x z u
 
-module _ (sheet : List ℕ) (items : List Item) (S : Scene sheet items) (m : Name) (c : Cut Item) (b : Body)
+module _ (sheet : List ℕ) (items : List Item) (S : SheetFacts sheet items) (m : Name) (c : Cut Item) (b : Body)
     (H : Here m items c b) where
   pub length-at : length (c .hit .bytes) ≤ 65535
   unfolding dataFits
@@ -254,11 +254,11 @@ module _ (nodesize : ℕ) (sheet : List ℕ) (room : ℕ) (raw : T (areBytes she
   abbrev next : Cut Item → Answer (List Item)
   next c = bind (call (c .hit)) (λ body. ask (test (length (c .hit .bytes)) (length body)) 17 (accepted (putBack c body)))
 
-  ok-spot : (items : List Item) → Scene sheet items → (c : Cut Item) (b : Body) → Here m items c b
+  ok-spot : (items : List Item) → SheetFacts sheet items → (c : Cut Item) (b : Body) → Here m items c b
       → SpotOk (m .kind) (m .fields) amount (nm .naming) (nm .size) (b .refs) (spot b)
   ok-spot items S c b H = spots nm b (ordered-at m items c b H (S .balance) (S .tidied)) (long-at m items c b H (S .balance) (S .tidied))
 
-  from-body : (P : Posts nodesize sheet change room) → Scene sheet (P .items) → T (all (notItsOwn m) (P .items)) → 1 ≤ amount
+  from-body : (P : Posts nodesize sheet change room) → SheetFacts sheet (P .items) → T (all (notItsOwn m) (P .items)) → 1 ≤ amount
       → (F : AtRecord m (P .items) next (P .after)) (body : List ℕ) → call (F .at .hit) ≡ accepted body
       → T (test (length (F .at .hit .bytes)) (length body)) → putBack (F .at) body ≡ P .after
       → AddFacts nodesize sheet m amount room test
@@ -284,7 +284,7 @@ module _ (nodesize : ℕ) (sheet : List ℕ) (room : ℕ) (raw : T (areBytes she
         small = r .1;
       }
 
-  from-record : (P : Posts nodesize sheet change room) → Scene sheet (P .items) → T (all (notItsOwn m) (P .items)) → 1 ≤ amount
+  from-record : (P : Posts nodesize sheet change room) → SheetFacts sheet (P .items) → T (all (notItsOwn m) (P .items)) → 1 ≤ amount
       → AtRecord m (P .items) next (P .after) → AddFacts nodesize sheet m amount room test
   from-record P S own positive F =
       let h = bind-ok (call (F .at .hit)) _ (F .then) in
@@ -294,11 +294,11 @@ module _ (nodesize : ℕ) (sheet : List ℕ) (room : ℕ) (raw : T (areBytes she
   add-only : Accepts nodesize sheet change room → AddFacts nodesize sheet m amount room test
   add-only acc =
       let P = posts-out nodesize sheet change room acc in
-      let S = scene sheet (P .items) raw (P .reads) (P .balance) in
+      let S = sheet-facts sheet (P .items) raw (P .reads) (P .balance) in
       let (own, positive, e) = questions-out m amount (P .items) (P .after) _ (sym (changes (P .items)) ∙ P .done) in
       from-record P S own positive (record-out sheet m (P .items) (P .after) next S e)
 
-  to-body : (f : AddFacts nodesize sheet m amount room test) → Scene sheet (f .items) → (b : Body) → Here m (f .items) (f .at) b
+  to-body : (f : AddFacts nodesize sheet m amount room test) → SheetFacts sheet (f .items) → (b : Body) → Here m (f .items) (f .at) b
       → (body : List ℕ)
       → addAt b (ref (m .kind) (m .fields) amount) (spot b) ≡ accepted body
       → length body ≡ length (f .at .hit .bytes) + grown m (f .at) (1 + payloadLength (m .kind))
@@ -327,7 +327,7 @@ module _ (nodesize : ℕ) (sheet : List ℕ) (room : ℕ) (raw : T (areBytes she
 
   add-enough : AddFacts nodesize sheet m amount room test → Accepts nodesize sheet change room
   add-enough f =
-      let S = scene sheet (f .items) raw (f .upToFive .reads) (f .upToFive .balance) in
+      let S = sheet-facts sheet (f .items) raw (f .upToFive .reads) (f .upToFive .balance) in
       let (b, H) = here-of m (f .items) (f .at) (S .balance) (S .tidied) (f .upToFive .stands) in
       let (body, e, long′) = adds-in m nm amount (f .items) (f .at) b H (S .balance) (S .tidied) (S .light m (f .at) b H) (spot b)
       (ok-spot (f .items) S (f .at) b H)

@@ -30,7 +30,7 @@ use Rattle.theorems.proofs.Facts.{rest-none, refs-none, named-entries, 
 use Rattle.theorems.proofs.Steps.{tidy, Here, here-of, balanced-at}
 use Rattle.theorems.proofs.Drops.{weight-at, item-counts}
 use Rattle.theorems.specs.Acceptance.{UpToFive, inline, apart}
-use Rattle.theorems.proofs.Posting.{scene}
+use Rattle.theorems.proofs.Posting.{sheet-facts}
 
 -- ---- the name of a change: one of the four types, with as many fields as the type has
 
@@ -367,6 +367,6 @@ module _ (m : Name) (items : List Item) (c : Cut Item) (b : Body) (H : Here m it
 pub two-places : (nodesize : ℕ) (sheet : List ℕ) (n : Name) (items : List Item) (at : Cut Item) → T (areBytes sheet)
     → UpToFive nodesize sheet (n .extent) items at → (count n items ≡ inline n at + apart n at) × ((inline n at ≡ 0) ⊎ (apart n at ≡ 0))
 two-places nodesize sheet n items at raw d =
-    let S = scene sheet items raw (d .reads) (d .balance) in
+    let S = sheet-facts sheet items raw (d .reads) (d .balance) in
     let (b, H) = here-of n items at (S .balance) (S .tidied) (d .stands) in
     (count-split n items at b H (S .balance) (S .tidied), one-place n items at b H (S .balance) (S .tidied))

@@ -39,7 +39,7 @@ use Rattle.theorems.proofs.Facts.{data-entry}
 use Rattle.theorems.proofs.Steps.{Here, here-of}
 use Rattle.theorems.proofs.DropCalls.{key-found, keyed-entry, not-178}
 use Rattle.theorems.specs.Acceptance.{Accepts, Exactly, UpToFive, inline, apart, freed, sharedSize, sharedItem, DropsBlock, DropsData, DropsShared}
-use Rattle.theorems.proofs.Posting.{Posts, posts-out, posts-in, itemSize, size-put, few-put, fit-put, Scene, scene, AtRecord, record-out, record-in}
+use Rattle.theorems.proofs.Posting.{Posts, posts-out, posts-in, itemSize, size-put, few-put, fit-put, SheetFacts, sheet-facts, AtRecord, record-out, record-in}
 use Rattle.theorems.proofs.Counts.{Formed, formed, count-split, inline-none, inline-one, Own, own-of, plain-own, data-own}
 use Rattle.theorems.proofs.AddsAccepted.{length-ref, length-none, length-edit, length-at, shared-size}
 use Rattle.theorems.proofs.DropsAccepted.{bind-ask, inline-found, inline-missing, lower-in, reduce-in, length-total, within-total, Shorter, shorter-out, shorter-in, kept, key-at}
@@ -63,15 +63,15 @@ Gives sheet test gone c answer = (after : List Item) × (answer ≡ ask (test (t
 module _ (nodesize : ℕ) (sheet : List ℕ) (room : ℕ) (raw : T (areBytes sheet)) (change : Change) (kind : T (kindFits change))
     (next : List Item → Cut Item → Answer (List Item)) (test : ℕ → Bool) (gone : List Item → Cut Item → ℕ)
     (changes : (items : List Item) → changed nodesize change items ≡ onRecord (nameOf change .extent) items (next items))
-    (counts : (items : List Item) → Scene sheet items → (c : Cut Item) (b : Body) → Here (nameOf change) items c b
+    (counts : (items : List Item) → SheetFacts sheet items → (c : Cut Item) (b : Body) → Here (nameOf change) items c b
     → (after : List Item) → next items c ≡ accepted after → 1 ≤ count (nameOf change) items)
-    (gives : (items : List Item) → Scene sheet items → (c : Cut Item) (b : Body) → Here
+    (gives : (items : List Item) → SheetFacts sheet items → (c : Cut Item) (b : Body) → Here
     (nameOf change) items c b → 1 ≤ count (nameOf change) items
     → Gives sheet test (gone items c) c (next items c)) where
   abbrev m : Name
   m = nameOf change
 
-  from-record : (P : Posts nodesize sheet change room) → Scene sheet (P .items) → AtRecord m (P .items) (next (P .items)) (P .after)
+  from-record : (P : Posts nodesize sheet change room) → SheetFacts sheet (P .items) → AtRecord m (P .items) (next (P .items)) (P .after)
       → DropFacts nodesize sheet m room test gone
   from-record P S F =
       let n = counts (P .items) S (F .at) (F .body) (F .here) (P .after) (F .then) in
@@ -90,12 +90,12 @@ module _ (nodesize : ℕ) (sheet : List ℕ) (room : ℕ) (raw : T (areBytes she
   drop-only : Accepts nodesize sheet change room → DropFacts nodesize sheet m room test gone
   drop-only acc =
       let P = posts-out nodesize sheet change room acc in
-      let S = scene sheet (P .items) raw (P .reads) (P .balance) in
+      let S = sheet-facts sheet (P .items) raw (P .reads) (P .balance) in
       from-record P S (record-out sheet m (P .items) (P .after) (next (P .items)) S (sym (changes (P .items)) ∙ P .done))
 
   drop-enough : DropFacts nodesize sheet m room test gone → Accepts nodesize sheet change room
   drop-enough f =
-      let S = scene sheet (f .items) raw (f .upToFive .reads) (f .upToFive .balance) in
+      let S = sheet-facts sheet (f .items) raw (f .upToFive .reads) (f .upToFive .balance) in
       let (b, H) = here-of m (f .items) (f .at) (S .balance) (S .tidied) (f .upToFive .stands) in
       let (after, e, short) = gives (f .items) S (f .at) b H (f .counts) in
       posts-in nodesize sheet change room
@@ -171,7 +171,7 @@ less-length r k l h = go (ltb 1 (r .weight)) (eqb (r .weight) 1) refl refl
 
 -- ---- a drop on the record of a name
 
-module _ (sheet : List ℕ) (items : List Item) (S : Scene sheet items) (m : Name) (f : Formed m) (c : Cut Item) (b : Body)
+module _ (sheet : List ℕ) (items : List Item) (S : SheetFacts sheet items) (m : Name) (f : Formed m) (c : Cut Item) (b : Body)
     (H : Here m items c b) where
   fits : length (c .hit .bytes) ≤ 65535
   fits = length-at sheet items S m c b H
@@ -295,7 +295,7 @@ module _ (sheet : List ℕ) (items : List Item) (S : Scene sheet items) (m : Nam
 
 -- ---- a block reference
 
-module _ (sheet : List ℕ) (extent : ℕ) (name : BlockRef) (items : List Item) (S : Scene sheet items) (c : Cut Item) (b : Body)
+module _ (sheet : List ℕ) (extent : ℕ) (name : BlockRef) (items : List Item) (S : SheetFacts sheet items) (c : Cut Item) (b : Body)
     (H : Here (nameOf (DropBlock extent name)) items c b) where
   abbrev block-name : Name
   block-name = nameOf (DropBlock extent name)
@@ -411,11 +411,11 @@ drops-block nodesize sheet extent name room raw =
     gone : List Item → Cut Item → ℕ
     gone items c = freed (nameOf (DropBlock extent name)) c 9 21
 
-    counts : (items : List Item) → Scene sheet items → (c : Cut Item) (b : Body) → Here (nameOf (DropBlock extent name)) items c b
+    counts : (items : List Item) → SheetFacts sheet items → (c : Cut Item) (b : Body) → Here (nameOf (DropBlock extent name)) items c b
         → (after : List Item) → dropTreeRef name false items c ≡ accepted after → 1 ≤ count (nameOf (DropBlock extent name)) items
     counts items S c b H after e = block-counts sheet extent name items S c b H after e
 
-    gives : (items : List Item) → Scene sheet items → (c : Cut Item) (b : Body) → Here (nameOf (DropBlock extent name)) items c b
+    gives : (items : List Item) → SheetFacts sheet items → (c : Cut Item) (b : Body) → Here (nameOf (DropBlock extent name)) items c b
         → 1 ≤ count (nameOf (DropBlock extent name)) items → Gives sheet (leb 2) (gone items c) c (dropTreeRef name false items c)
     gives items S c b H n = block-gives sheet extent name items S c b H n
 
@@ -439,7 +439,7 @@ dropped-triple k d others e =
     let h₁₅ = dropped-ask k (eqb (length bytes) 28 && same (words 3 bytes) (triple d)) 15 _ (h₃ .1) in
     same-yes (words 3 bytes) (triple d) (and-yes (eqb (length bytes) 28) (same (words 3 bytes) (triple d)) (h₁₅ .0) .1)
 
-module _ (sheet : List ℕ) (extent : ℕ) (name : DataRef) (items : List Item) (S : Scene sheet items) (c : Cut Item) (b : Body)
+module _ (sheet : List ℕ) (extent : ℕ) (name : DataRef) (items : List Item) (S : SheetFacts sheet items) (c : Cut Item) (b : Body)
     (H : Here (nameOf (DropData extent name)) items c b) where
   abbrev data-name : Name
   data-name = nameOf (DropData extent name)
@@ -604,11 +604,11 @@ drops-data nodesize sheet extent name room raw =
     gone : List Item → Cut Item → ℕ
     gone items c = cond (eqb (count m items) 1) (freed m c 29 49) 0
 
-    counts : (items : List Item) → Scene sheet items → (c : Cut Item) (b : Body) → Here m items c b
+    counts : (items : List Item) → SheetFacts sheet items → (c : Cut Item) (b : Body) → Here m items c b
         → (after : List Item) → dropDataRef name items c ≡ accepted after → 1 ≤ count m items
     counts items S c b H after e = data-stands sheet extent name items S c b H after e
 
-    gives : (items : List Item) → Scene sheet items → (c : Cut Item) (b : Body) → Here m items c b → 1 ≤ count m items
+    gives : (items : List Item) → SheetFacts sheet items → (c : Cut Item) (b : Body) → Here m items c b → 1 ≤ count m items
         → Gives sheet (leb 2) (gone items c) c (dropDataRef name items c)
     gives items S c b H n = data-gives sheet extent name items S c b H n
 
@@ -627,7 +627,7 @@ abbrev unasked : ℕ → Bool
 unasked total = true
 
 module _ (sheet : List ℕ) (extent : ℕ) (name : SharedRef) (sk : T (sharedKind (name .kind))) (items : List Item)
-    (S : Scene sheet items) (c : Cut Item)
+    (S : SheetFacts sheet items) (c : Cut Item)
     (b : Body) (H : Here (nameOf (DropShared extent name)) items c b) where
   abbrev shared-name : Name
   shared-name = nameOf (DropShared extent name)
@@ -774,11 +774,11 @@ drops-shared nodesize sheet extent name room raw =
     gone : List Item → Cut Item → ℕ
     gone items c = freed m c (sharedSize (name .kind)) (sharedItem (name .kind))
 
-    counts : T (sharedKind (name .kind)) → (items : List Item) → Scene sheet items → (c : Cut Item) (b : Body) → Here m items c b
+    counts : T (sharedKind (name .kind)) → (items : List Item) → SheetFacts sheet items → (c : Cut Item) (b : Body) → Here m items c b
         → (after : List Item) → dropSharedRef name items c ≡ accepted after → 1 ≤ count m items
     counts k items S c b H after e = shared-stands sheet extent name k items S c b H after e
 
-    gives : T (sharedKind (name .kind)) → (items : List Item) → Scene sheet items → (c : Cut Item) (b : Body) → Here m items c b
+    gives : T (sharedKind (name .kind)) → (items : List Item) → SheetFacts sheet items → (c : Cut Item) (b : Body) → Here m items c b
         → 1 ≤ count m items
         → Gives sheet unasked (gone items c) c (dropSharedRef name items c)
     gives k items S c b H n = shared-gives sheet extent name k items S c b H n

@@ -31,7 +31,7 @@ use Rattle.theorems.proofs.Edit.{Balanced}
 use Rattle.theorems.proofs.Steps.{tidy, Here}
 use Rattle.theorems.proofs.Drops.{first, first-at, first-found, first-skip, key-record}
 use Rattle.theorems.proofs.Bounds.{total-is}
-use Rattle.theorems.proofs.Posting.{itemSize, holds-out, holds-in, size-put, few-put, fit-put, Scene}
+use Rattle.theorems.proofs.Posting.{itemSize, holds-out, holds-in, size-put, few-put, fit-put, SheetFacts}
 
 -- ---- questions that are left
 
@@ -138,7 +138,7 @@ first-cut {A} p l x e = go (cut p l) refl
     go none q = no-some (sym (first-none p l (cut-none p l q)) ∙ e)
     go (some c) q = (c, q, some-inj (sym (first-found p l c (cut-some p l q)) ∙ e))
 
-module _ (sheet : List ℕ) (items : List Item) (S : Scene sheet items) (m : Name) (c : Cut Item) (b : Body) (H : Here m items c b)
+module _ (sheet : List ℕ) (items : List Item) (S : SheetFacts sheet items) (m : Name) (c : Cut Item) (b : Body) (H : Here m items c b)
     (k : Cut Item) (ek : items ≡ k .front ++ k .hit ∷ k .back) (nr : T (not (isRecord (k .hit)))) where
   kept-first : (o : List Item) → T (all (λ i. not (isRecord i)) o)
       → first (hasKey (c .hit .key)) (k .front ++ (o ++ k .back)) ≡ some (c .hit)
@@ -194,7 +194,7 @@ module _ (sheet : List ℕ) (items : List Item) (S : Scene sheet items) (m : Nam
       )
 
 -- the key of an item of a sheet finds it
-pub key-at : (sheet : List ℕ) (items : List Item) → Scene sheet items → (k : Cut Item) → items ≡ k .front ++ k .hit ∷ k .back
+pub key-at : (sheet : List ℕ) (items : List Item) → SheetFacts sheet items → (k : Cut Item) → items ≡ k .front ++ k .hit ∷ k .back
     → (key : Key) → k .hit .key ≡ key
     → cut (hasKey key) items ≡ some k
 key-at sheet items S k e key q =

@@ -172,7 +172,7 @@ limit-small nodesize h = omega arith
 
 -- ---- a balanced sheet
 
-pub record Scene (sheet : List ℕ) (items : List Item) : Type 0 where
+pub record SheetFacts (sheet : List ℕ) (items : List Item) : Type 0 where
   pub balance : Balanced items
   pub tidied : T (all tidy items)
   pub fit : T (all (λ i. dataFits (i .bytes)) items)
@@ -182,10 +182,10 @@ pub record Scene (sheet : List ℕ) (items : List Item) : Type 0 where
   pub size : length sheet ≡ 1 + sum itemSize items
   pub light : (m : Name) (c : Cut Item) (b : Body) → Here m items c b → b .total ≤ 4294967296 * 262144
 
-pub scene : (sheet : List ℕ) (items : List Item) → T (areBytes sheet) → readSheet sheet ≡ accepted items → T (balanced items)
-    → Scene sheet items
+pub sheet-facts : (sheet : List ℕ) (items : List Item) → T (areBytes sheet) → readSheet sheet ≡ accepted items → T (balanced items)
+    → SheetFacts sheet items
 unfolding dataFits
-scene sheet items raw reads balance =
+sheet-facts sheet items raw reads balance =
     let s = sheet-sane sheet items raw reads in
     let bal = balanced-out items balance in
     let td = all-map sane tidy sane-tidy items (s .0) in
@@ -209,7 +209,7 @@ pub record AtRecord (m : Name) (items : List Item) (next : Cut Item → Answer (
   pub here : Here m items at body
   pub then : next at ≡ accepted after
 
-pub record-out : (sheet : List ℕ) (m : Name) (items after : List Item) (next : Cut Item → Answer (List Item)) → Scene sheet items
+pub record-out : (sheet : List ℕ) (m : Name) (items after : List Item) (next : Cut Item → Answer (List Item)) → SheetFacts sheet items
     → onRecord (m .extent) items next ≡ accepted after → AtRecord m items next after
 unfolding onRecord
 record-out sheet m items after next s e =
