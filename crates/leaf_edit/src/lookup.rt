@@ -1,24 +1,42 @@
 // An item by its number, from 0.
 ghost use mathlib.Core.Path.{_≡_};
+ghost use mathlib.Core.List.{[]};
+ghost use Prim.Native.Nat.{_+_, _-_, _≤_};
 ghost use lib.ListN.{length};
+ghost use Rattle.fields.specs.Parts.{part};
 ghost use Rattle.format.specs.Questions.{codeOf, lentNumber, lentPart};
 ghost use Rattle.format.specs.Sheets.{item, itemStart};
 use item_list::Listing;
 use item_list::Wanted;
 
-// Its data, as a part of the list; `refused` gets the refusal, or 0.
+// No part of the list: what a refusal hands back stands at its first byte.
+fn no_part<'a>(sheet: &'a [u8]) -> &'a [u8]
+    ensures { λ r. ⌜ (now r ≡ []) × (r .ptr .0 ≡ sheet .entry .ptr .0) × (r .ptr .1 ≡ sheet .entry .ptr .1) ⌝ }
+{
+    &sheet[0..0]
+}
+
+// The part of the list from one position up to another.
+fn part_of<'a>(sheet: &'a [u8], from: usize, to: usize) -> &'a [u8]
+    requires { ⌜ (from ≤ to) × (to ≤ length (now sheet)) ⌝ }
+    ensures { λ r. ⌜ (now r ≡ part from (to - from) (now (sheet .entry))) × (r .ptr .0 ≡ sheet .entry .ptr .0) × (r .ptr .1 ≡ from + sheet .entry .ptr .1) ⌝ }
+{
+    &sheet[from..to]
+}
+
+// Its data, as a part of the list: these bytes, at their position in the caller's slice. `refused` gets the refusal, or 0.
 pub fn item<'a>(sheet: &'a [u8], number: usize, refused: &mut u32) -> &'a [u8]
-    ensures { λ r. ⌜ (now r ≡ lentPart (item (now (sheet .entry)) number)) × (now (refused .exit) ≡ codeOf (item (now (sheet .entry)) number)) ⌝ }
+    ensures { λ r. ⌜ (now r ≡ lentPart (item (now (sheet .entry)) number)) × (now (refused .exit) ≡ codeOf (item (now (sheet .entry)) number)) × (r .ptr .0 ≡ sheet .entry .ptr .0) × (r .ptr .1 ≡ lentNumber (itemStart (now (sheet .entry)) number) + sheet .entry .ptr .1) ⌝ }
 {
     let listing = item_list::find(sheet, Wanted::Number(number));
     match listing {
         Listing::Refused(refusal) => {
             *refused = refusal;
-            return &sheet[0..0];
+            return no_part(sheet);
         }
         Listing::Missing { count: _ } => {
             *refused = 5;
-            return &sheet[0..0];
+            return no_part(sheet);
         }
         Listing::Found {
             count: _,
@@ -27,7 +45,7 @@ pub fn item<'a>(sheet: &'a [u8], number: usize, refused: &mut u32) -> &'a [u8]
             end,
         } => {
             *refused = 0;
-            return &sheet[start + 21..end];
+            return part_of(sheet, start + 21, end);
         }
     }
 }
