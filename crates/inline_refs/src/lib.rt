@@ -1,15 +1,22 @@
-// The reader of inline references: the table of the five kinds, a cursor that reads one reference after the other, and the
-// one scan that all calls on a body share.
+// The readers of inline references: the table of the five kinds, a cursor that reads one reference after the other, a reader that
+// borrows the body, and the one scan that all calls on a body share.
+mod count;
 mod kinds;
+mod reader;
 mod scan;
 mod site;
 mod start;
 mod step;
 mod wanted;
 
+pub use count::Counted;
+pub use count::count_refs;
 pub use kinds::Row;
 pub use kinds::row_of;
 pub use kinds::rows;
+pub use reader::Reader;
+pub use reader::Stepped;
+pub use reader::step_from;
 pub use scan::Scan;
 pub use scan::Seen;
 pub use scan::scan_body;

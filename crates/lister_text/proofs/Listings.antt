@@ -23,9 +23,9 @@ use Rattle.format.proofs.Refs.{readRefs-decides}
 use Rattle.inline_refs.specs.Steps.{readFrom}
 use Rattle.inline_refs.specs.Scans.{refsIn}
 use Rattle.inline_refs.proofs.Notes.{Opens}
-use Rattle.ref_positions.specs.declared.Counted.the-variants.{Count, Refused}
-use Rattle.ref_positions.specs.Counts.{countOf}
-use Rattle.ref_positions.proofs.Places.{count-reads, fault-reads}
+use Rattle.inline_refs.specs.declared.count.Counted.the-variants.{Count, Refused}
+use Rattle.inline_refs.specs.Counts.{countOf}
+use Rattle.inline_refs.proofs.Counts.{count-reads, fault-reads}
 use Rattle.lister_text.specs.Puts.{Put, refsOf}
 
 -- ---- what the text is

@@ -3,8 +3,8 @@ mod lines;
 mod puts;
 
 use format::Edited;
+use inline_refs::Counted;
 use inline_refs::Start;
-use ref_positions::Counted;
 ghost use mathlib.Core.Path.{_≡_};
 ghost use Prim.Native.Nat.{_≤_};
 ghost use lib.Dec.{leb};
@@ -22,7 +22,7 @@ fn put_body(out: &mut [u8], item_type: u8, body: &[u8]) -> usize
         Start::Refused(number) => lines::put_refused(out, number),
         Start::From(start) => {
             let rows = inline_refs::rows();
-            match ref_positions::count_refs(&rows, body, start) {
+            match inline_refs::count_refs(&rows, body, start) {
                 Counted::Refused(number) => lines::put_refused(out, number),
                 Counted::Count(count) => {
                     let at = lines::put_head(out, body, start, count);

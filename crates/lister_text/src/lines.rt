@@ -1,7 +1,6 @@
 // The lines of the text.
-use inline_refs::Cursor;
+use inline_refs::Counted;
 use inline_refs::Step;
-use ref_positions::Counted;
 ghost use mathlib.Core.Path.{_≡_};
 ghost use mathlib.Core.Bool.{cond};
 ghost use mathlib.Core.List.{[], _∷_};
@@ -12,7 +11,7 @@ ghost use Rattle.format.specs.Questions.{refused};
 ghost use Rattle.format.specs.References.{kinds, known, payloadLength, countPosition, counted, fieldCount, refAt, totalOf, flagsOf};
 ghost use Rattle.format.specs.Lister.{line, refLine, refLines, printed};
 ghost use Rattle.inline_refs.specs.Steps.{readFrom};
-ghost use Rattle.ref_positions.specs.Counts.{countOf};
+ghost use Rattle.inline_refs.specs.Counts.{countOf};
 ghost use Rattle.lister_text.specs.Puts.{Put, spaced, refsOf};
 
 // The only line of a refusal.
@@ -80,11 +79,11 @@ fn put_ref(
 }
 
 // The lines of the references from `start` on, which were counted before: at most five bytes of text for each byte that is read.
-pub fn put_refs(
+pub fn put_refs<'a>(
     out: &mut [u8],
     at: usize,
-    rows: &[[u8; 3]; 5],
-    body: &[u8],
+    rows: &'a [[u8; 3]; 5],
+    body: &'a [u8],
     start: usize,
     count: usize,
 ) -> usize
@@ -95,17 +94,18 @@ pub fn put_refs(
     let mut cursor = start;
     let mut next = at;
     loop {
-        let here = Cursor { at: cursor };
-        match here.step(rows, body) {
+        let stepped = inline_refs::step_from(rows, body, cursor);
+        let step = stepped.step;
+        match step {
             Step::Ref {
                 kind,
                 start: payload,
                 size,
                 count: place,
-                next: after,
+                next: _,
             } => {
                 next = put_ref(out, next, body, kind, payload, size, place);
-                cursor = after.at;
+                cursor = stepped.at;
             }
             Step::End => {
                 return next;

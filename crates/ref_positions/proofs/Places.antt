@@ -1,4 +1,4 @@
--- Laws of the two passes, and of the call's ways out. Assumes nothing.
+-- Laws of the pass that writes, and of the call's ways out. Assumes nothing.
 use mathlib.Core.Path.{_≡_, refl, sym, ap, subst, _∙_}
 use mathlib.Core.Bool.{cond}
 use mathlib.Core.List.{List, [], _∷_, _++_, append-assoc, append-nil}
@@ -22,9 +22,10 @@ use Rattle.inline_refs.specs.Steps.{readFrom}
 use Rattle.inline_refs.specs.Scans.{refsIn}
 use Rattle.inline_refs.proofs.Steps.{At}
 use Rattle.inline_refs.proofs.Notes.{Opens, on-refs}
-use Rattle.ref_positions.specs.declared.Counted.{Counted}
-use Rattle.ref_positions.specs.declared.Counted.the-variants.{Count, Refused}
-use Rattle.ref_positions.specs.Counts.{countOf, placesIn}
+use Rattle.inline_refs.specs.declared.count.Counted.the-variants.{Count, Refused}
+use Rattle.inline_refs.specs.Counts.{countOf}
+use Rattle.inline_refs.proofs.Counts.{count-reads, fault-reads}
+use Rattle.ref_positions.specs.Places.{placesIn}
 
 -- ---- one reference further
 
@@ -49,74 +50,12 @@ module _ (s : List ℕ) (at k p n q next : ℕ) (h : At s at k p n q next) where
         places = ap (positions at) (sym (accepted-inj (w .2))) ∙ ap (λ (m : ℕ). at ∷ positions m (w .0)) next-is;
       }
 
--- ---- the first pass
-
-abbrev pub plus : ℕ → Counted → Counted
-plus n (Count m) = Count (n + m)
-plus n (Refused number) = Refused number
-
-plus-zero : (c : Counted) → plus 0 c ≡ c
-plus-zero (Count m) = ap Count (omega arith)
-plus-zero (Refused number) = refl
-
-pub counts-none : (x : Answer (List Ref)) → plus 0 (countOf x) ≡ countOf x
-counts-none x = plus-zero (countOf x)
-
-counts-cons : (n : ℕ) (r : Ref) (x : Answer (List Ref)) → plus (n + 1) (countOf x) ≡ plus n (countOf (bind x (λ refs. accepted (r ∷ refs))))
-unfolding countOf bind
-counts-cons n r (refused number) = refl
-counts-cons n r absent = refl
-counts-cons n r remove = refl
-counts-cons n r (accepted refs) = ap Count (omega arith)
-
-pub counts-step : (s : List ℕ) (at k p n q next m : ℕ) → At s at k p n q next
-    → plus (m + 1) (countOf (readFrom s next)) ≡ plus m (countOf (readFrom s at))
-counts-step s at k p n q next m h =
-    counts-cons m (refAt k (drop p s)) (readFrom s next) ∙ ap (λ (x : Answer (List Ref)). plus m (countOf x)) (sym (h .reads))
-
-pub counts-end : (x : Answer (List Ref)) (n : ℕ) → x ≡ accepted [] → Count n ≡ plus n (countOf x)
-unfolding countOf
-counts-end x n e = ap Count (omega arith) ∙ ap (λ (y : Answer (List Ref)). plus n (countOf y)) (sym e)
-
-pub counts-fault : (x : Answer (List Ref)) (n number : ℕ) → x ≡ refused number → Refused number ≡ plus n (countOf x)
-unfolding countOf
-counts-fault x n number e = ap (λ (y : Answer (List Ref)). plus n (countOf y)) (sym e)
-
--- ---- what a count says
-
-pub record Reads (x : Answer (List Ref)) (count : ℕ) : Type 0 where
-  pub refs : List Ref
-  pub is : x ≡ accepted refs
-  pub many : count ≡ length refs
-
-count-inj : {m n : ℕ} → Count m ≡ Count n → m ≡ n
-count-inj e = cc
-
-count-not : {X : Type 0} {m n : ℕ} → Count m ≡ Refused n → X
-count-not e = let z : _≡_ {A = ℕ} 0 1 = cc in absurd (omega arith)
-
-refused-inj : {m n : ℕ} → Refused m ≡ Refused n → n ≡ m
-refused-inj e = cc
-
-pub count-reads : (x : Answer (List Ref)) (count : ℕ) → Count count ≡ countOf x → Reads x count
-unfolding countOf
-count-reads (refused number) count e = count-not e
-count-reads absent count e = count-not e
-count-reads remove count e = count-not e
-count-reads (accepted refs) count e = record { refs = refs; is = refl; many = count-inj e }
-
-pub fault-reads : (x : Answer (List Ref)) (n : ℕ) → Decided x → Refused n ≡ countOf x → x ≡ refused n
-unfolding countOf
-fault-reads x n (read l q) e = count-not (sym (e ∙ ap countOf q))
-fault-reads x n (strange q) e = q ∙ ap refused (refused-inj (e ∙ ap countOf q))
-fault-reads x n (cutOff q) e = q ∙ ap refused (refused-inj (e ∙ ap countOf q))
-
 length-positions : (at : ℕ) (refs : List Ref) → length (positions at refs) ≡ length refs
 unfolding positions
 length-positions at [] = refl
 length-positions at (r ∷ refs) = ap suc (length-positions _ refs)
 
--- ---- the second pass
+-- ---- the pass
 
 pub record Placing (s lent₀ now : List ℕ) (start at i : ℕ) : Type 0 where
   pub rest : List Ref

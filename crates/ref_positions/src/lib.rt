@@ -1,6 +1,6 @@
 // Where the inline references of a body stand. Refusal 21 writes nothing, so they are counted before they are written.
 use format::Edited;
-use inline_refs::Cursor;
+use inline_refs::Counted;
 use inline_refs::Start;
 use inline_refs::Step;
 ghost use mathlib.Core.Path.{_≡_};
@@ -12,48 +12,12 @@ ghost use Rattle.format.specs.References.{kinds};
 ghost use Rattle.format.specs.Bodies.{inlineRefs};
 ghost use Rattle.format.specs.Sheets.{heldCuts};
 ghost use Rattle.inline_refs.specs.Steps.{readFrom};
-ghost use Rattle.ref_positions.specs.Counts.{countOf, placesIn};
+ghost use Rattle.inline_refs.specs.Counts.{countOf};
+ghost use Rattle.ref_positions.specs.Places.{placesIn};
 
-// How many references there are, or the question that is answered "no".
-pub enum Counted {
-    Count(usize),
-    Refused(u32),
-}
-
-// The lister puts the number before the references too.
-pub fn count_refs(rows: &[[u8; 3]; 5], body: &[u8], start: usize) -> Counted
-    requires { ⌜ now rows ≡ kinds ⌝ }
-    requires { ⌜ (start ≤ length (now body)) × (length (now body) ≤ 65535) ⌝ }
-    ensures { λ r. ⌜ r ≡ countOf (readFrom (now (body .entry)) start) ⌝ }
-{
-    let mut at = start;
-    let mut n: usize = 0;
-    loop {
-        let cursor = Cursor { at };
-        match cursor.step(rows, body) {
-            Step::Ref {
-                kind: _,
-                start: _,
-                size: _,
-                count: _,
-                next,
-            } => {
-                at = next.at;
-                n += 1;
-            }
-            Step::End => {
-                return Counted::Count(n);
-            }
-            Step::Refused(number) => {
-                return Counted::Refused(number);
-            }
-        }
-    }
-}
-
-fn put_positions(
-    rows: &[[u8; 3]; 5],
-    body: &[u8],
+fn put_positions<'a>(
+    rows: &'a [[u8; 3]; 5],
+    body: &'a [u8],
     start: usize,
     count: usize,
     positions: &mut [u16],
@@ -65,22 +29,24 @@ fn put_positions(
     let mut at = start;
     let mut i: usize = 0;
     loop {
-        let cursor = Cursor { at };
-        match cursor.step(rows, body) {
+        let stepped = inline_refs::step_from(rows, body, at);
+        let step = stepped.step;
+        match step {
             Step::Ref {
                 kind: _,
                 start: _,
                 size: _,
                 count: _,
-                next,
+                next: _,
             } => {
                 positions[i] = at as u16;
                 i += 1;
-                at = next.at;
+                at = stepped.at;
             }
             Step::End => {
                 return;
             }
+            // None is: they were counted.
             Step::Refused(_) => {
                 return;
             }
@@ -95,7 +61,7 @@ pub fn inline_refs(item_type: u8, body: &[u8], positions: &mut [u16]) -> Edited
         Start::Refused(number) => Edited::Refused(number),
         Start::From(start) => {
             let rows = inline_refs::rows();
-            match count_refs(&rows, body, start) {
+            match inline_refs::count_refs(&rows, body, start) {
                 Counted::Refused(number) => Edited::Refused(number),
                 Counted::Count(count) => {
                     if positions.len() < count {

@@ -8,7 +8,8 @@ use Rattle.format.specs.Lister.{refLines}
 use Rattle.format.proofs.Answers.{refused-not}
 use Rattle.inline_refs.specs.Steps.{readFrom}
 use Rattle.inline_refs.proofs.Steps.{seen}
-use Rattle.ref_positions.proofs.Places.{count-reads}
+use Rattle.inline_refs.proofs.Moves.{stands-behind}
+use Rattle.inline_refs.proofs.Counts.{count-reads}
 use Rattle.lister_text.specs.Puts.{refsOf}
 use Rattle.lister_text.proofs.Writes.{Makes, makes-all, makes-is, makes-next, makes-done}
 use Rattle.lister_text.proofs.Texts.{Readable, readable, readable-next, lines-next, lines-end, ref-short}
@@ -35,14 +36,16 @@ put-ref-requires c κs =
     let step = kind .before .before in
     let s = step .before .before .before .before in
     let loop = step .before .loop in
-    let w = seen (now (s .args .body)) (loop .cursor) _ (sym (kind .kind .given .1) ∙ step .step .ensures) in
+    let said = step .step-from .ensures in
+    let w = stands-behind (now (s .args .body)) (loop .cursor) _ (said .0) _ _ _ _ _ (kind .step .given .1) _ (said .1) in
     (w .kindKnown, omega (arith, w .start, w .further, w .within), w .long, w .place, s .pre .1 .0, omega (arith, loop .inv .2, loop .inv .3, s .pre .1 .0))
 
 loop-less : tie.Need-loop-less Inv-loop μ-loop
 loop-less c =
     let kind = c .before .before .before .before .before in
     let step = kind .before .before in
-    let w = seen (now (step .before .before .before .before .args .body)) (step .before .loop .cursor) _ (sym (kind .kind .given .1) ∙ step .step .ensures) in
+    let said = step .step-from .ensures in
+    let w = stands-behind (now (step .before .before .before .before .args .body)) (step .before .loop .cursor) _ (said .0) _ _ _ _ _ (kind .step .given .1) _ (said .1) in
     omega (arith, w .inside, w .further, w .within)
 
 loop-again : tie.Need-loop-again Inv-loop μ-loop
@@ -52,10 +55,11 @@ loop-again c =
     let step = kind .before .before in
     let s = step .before .before .before .before in
     let loop = step .before .loop in
-    let w = seen (now (s .args .body)) (loop .cursor) _ (sym (kind .kind .given .1) ∙ step .step .ensures) in (
+    let said = step .step-from .ensures in
+    let w = stands-behind (now (s .args .body)) (loop .cursor) _ (said .0) _ _ _ _ _ (kind .step .given .1) _ (said .1) in (
       makes-next (put .put-ref .ensures) (makes-is (lines-next _ _ _ _ _ _ _ w (loop .inv .1)) (loop .inv .0)),
       readable-next _ _ _ _ _ _ _ w (loop .inv .1),
-      omega (arith, put .put-ref .ensures .further, ref-short (kind .kind .given .0 .0) (drop (kind .kind .given .0 .1 .0) (now (s .args .body))) (w .kindKnown), w .long, w .further, loop .inv .2),
+      omega (arith, put .put-ref .ensures .further, ref-short (kind .step .given .0 .0) (drop (kind .step .given .0 .1 .0) (now (s .args .body))) (w .kindKnown), w .long, w .further, loop .inv .2),
       w .within,
       put .put-ref .kept .0 ∙ loop .inv .4,
     )
@@ -68,7 +72,7 @@ returns c =
     let step = c .before .before in
     let s = step .before .before .before .before in
     let loop = step .before .loop in
-    let w = seen (now (s .args .body)) (loop .cursor) _ (sym (c .enum-told .given .1) ∙ step .step .ensures) in
+    let w = seen (now (s .args .body)) (loop .cursor) _ (sym (c .enum-told .given .1) ∙ step .step-from .ensures .0) in
     (makes-done (lines-end _ w) (loop .inv .0), omega (arith, loop .inv .2, loop .inv .3))
 
 same-length-2 : tie.Need-same-length-2 Inv-loop μ-loop
@@ -79,7 +83,7 @@ returns-2 c =
     let step = c .before .before in
     let s = step .before .before .before .before in
     let loop = step .before .loop in
-    let w = seen (now (s .args .body)) (loop .cursor) _ (sym (c .enum-told2 .given .1) ∙ step .step .ensures) in
+    let w = seen (now (s .args .body)) (loop .cursor) _ (sym (c .enum-told2 .given .1) ∙ step .step-from .ensures .0) in
     refused-not (sym w ∙ loop .inv .1)
 
 pub put-refs-spec : {M : Type 1} → statement M

@@ -2,12 +2,12 @@
 use mathlib.Core.Path.{_≡_, sym, ap, subst, _∙_}
 use mathlib.Core.List.{List}
 use Prim.Native.Nat.{ℕ}
 use Rattle.inline_refs.specs.declared.step.Step.{Step}
 use Rattle.inline_refs.specs.declared.step.Step.the-variants.{Ref as Whole, End, Refused}
 use Rattle.inline_refs.specs.declared.step.Cursor.{Cursor}
 use Rattle.inline_refs.specs.Steps.{stepAt}
 use Rattle.inline_refs.proofs.Steps.{At, seen}
-use Rattle.ref_reader.specs.Moves.{moved}
+use Rattle.inline_refs.specs.Moves.{moved}
 
 module _ (s : List ℕ) (at : ℕ) (step : Step) (is : step ≡ stepAt s at) where
   module _ (kind start size count : ℕ) (next : Cursor) (e : step ≡ Whole kind start size count next) where

@@ -1,17 +1,15 @@
-// A reader that borrows a body: its bytes and a position. `Reader::step` reads the reference at the position by the cursor of
-// `inline_refs`, says what the cursor says, and moves behind it. Where the references of a body start, `open_body` says.
+// A reader that borrows a body: its bytes and a position. `Reader::step` reads the reference at the position by the cursor,
+// says what the cursor says, and moves behind it. Where the references of a body start, `open_body` says.
 //
 // The borrow checker covers no function over a struct that holds a reference, so `new`, `step` and `step_from` are proved by
 // hand, and the work is left to `step_at`, which it covers. Every other caller goes through `step_from`, whose parameters are
-// plain, and needs no such proof.
-mod count;
-
-pub use count::count_refs;
-use inline_refs::Cursor;
-use inline_refs::Step;
+// plain, and needs no such proof. The table of the kinds and the body are lent for one lifetime.
+use crate::step::Cursor;
+use crate::step::Step;
 ghost use mathlib.Core.Path.{_≡_};
+ghost use Rattle.format.specs.References.{kinds};
 ghost use Rattle.inline_refs.specs.Steps.{stepAt};
-ghost use Rattle.ref_reader.specs.Moves.{moved};
+ghost use Rattle.inline_refs.specs.Moves.{moved};
 
 pub struct Reader<'a> {
     pub body: &'a [u8],
@@ -25,12 +23,12 @@ pub struct Stepped {
 }
 
 // The work of a step, on the reader's two fields.
-fn step_at(body: &[u8], at: usize) -> Stepped
+fn step_at<'a>(table: &'a [[u8; 3]; 5], body: &'a [u8], at: usize) -> Stepped
+    requires { ⌜ now table ≡ kinds ⌝ }
     ensures { λ r. ⌜ (r .step ≡ stepAt (now (body .entry)) at) × (r .at ≡ moved (stepAt (now (body .entry)) at) at) ⌝ }
 {
-    let rows = inline_refs::rows();
     let cursor = Cursor { at };
-    let step = cursor.step(&rows, body);
+    let step = cursor.step(table, body);
     match step {
         Step::Ref {
             kind: _,
@@ -55,21 +53,23 @@ impl<'a> Reader<'a> {
     }
 
     // The body stays; the position is behind a whole reference, and as it was at the end and at a fault.
-    pub fn step(&mut self) -> Step
+    pub fn step(&mut self, table: &'a [[u8; 3]; 5]) -> Step
+        requires { ⌜ now table ≡ kinds ⌝ }
         ensures { λ r. ⌜ (r ≡ stepAt (now (now (self .entry) .body)) (now (self .entry) .at)) × (now (self .exit) .body ≡ now (self .entry) .body) × (now (self .exit) .at ≡ moved (stepAt (now (now (self .entry) .body)) (now (self .entry) .at)) (now (self .entry) .at)) ⌝ }
     {
-        let stepped = step_at(self.body, self.at);
+        let stepped = step_at(table, self.body, self.at);
         self.at = stepped.at;
         stepped.step
     }
 }
 
 // One step of a reader that stands at `at`: what it says, and where it then stands.
-pub fn step_from(body: &[u8], at: usize) -> Stepped
+pub fn step_from<'a>(table: &'a [[u8; 3]; 5], body: &'a [u8], at: usize) -> Stepped
+    requires { ⌜ now table ≡ kinds ⌝ }
     ensures { λ r. ⌜ (r .step ≡ stepAt (now (body .entry)) at) × (r .at ≡ moved (stepAt (now (body .entry)) at) at) ⌝ }
 {
     let mut reader = Reader::new(body, at);
-    let step = reader.step();
+    let step = reader.step(table);
     Stepped {
         step,
         at: reader.at,

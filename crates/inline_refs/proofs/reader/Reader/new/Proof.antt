@@ -1,4 +1,4 @@
--- `ref_reader::Reader::new` meets its contract: a walk of its MIR, by hand. A `Reader` is made of the slice and the number passed, in the result's local.
+-- `inline_refs::Reader::new` meets its contract: a walk of its MIR, by hand. A `Reader` is made of the slice and the number passed, in the result's local.
 -- A `&[u8]` is Copy, so what it owns is had twice: once for body at exit, and once inside the result, beside the facts of at.
 -- Assumes nothing.
 use mathlib.Core.Path.{refl}
@@ -34,13 +34,13 @@ use denote.Triple.Spec.{Meets, tripleOf}
 use denote.Triple.Table.{entered}
 use denote.Triple.Walked.{says, Stays, stay-none, stay-none-slice, walkOf, goes-none, goes-none-slice, Walks, ends-at, walked, walk-meets}
 use denote.Exit.{yes}
-use Rattle.ref_reader.specs.declared.Reader.{Reader}
-use Rattle.ref_reader.proofs.Reader as T
-use Rattle.ref_reader.proofs.Reader.Laws as T′
-use Rattle.ref_reader.proofs.Reader.new.Key.{name as #ref-reader·new}
-use Rattle.ref_reader.proofs.Reader.new as new
-use Rattle.ref_reader.proofs.Reader.new.Statement as stated
-use Rattle.ref_reader.proofs.Reader.new.Code as code
+use Rattle.inline_refs.specs.declared.reader.Reader.{Reader}
+use Rattle.inline_refs.proofs.reader.Reader as T
+use Rattle.inline_refs.proofs.reader.Reader.Laws as T′
+use Rattle.inline_refs.proofs.reader.Reader.new.Key.{name as #reader·new}
+use Rattle.inline_refs.proofs.reader.Reader.new as new
+use Rattle.inline_refs.proofs.reader.Reader.new.Statement as stated
+use Rattle.inline_refs.proofs.reader.Reader.new.Code as code
 
 abbrev stayed : Stays (new.ended .signature .params) (new.ended .kept)
 stayed = (stay-none-slice (0 ∷ []) tt (plain (λ _. u8)) yes, (stay-none (λ _. usize) yes, tt))
@@ -94,5 +94,5 @@ pub new-spec : {M : Type 1} → stated.statement M
 unfolding code.routine tablesOf
 new-spec 𝓤 H 𝓜 𝓖 𝓡 =
     entered 𝓤 H (tripleOf 𝓤 H (𝓖 .A) new.signature (new.spec 𝓤 H (𝓖 .A) (𝓜 .mem) (𝓡 .run)))
-    (tables 𝓤 H 𝓜 𝓡 code.env .C) (tables 𝓤 H 𝓜 𝓡 code.env .Λ) #ref-reader·new code.function (code.unfolded 𝓤 H 𝓜 𝓡)
+    (tables 𝓤 H 𝓜 𝓡 code.env .C) (tables 𝓤 H 𝓜 𝓡 code.env .Λ) #reader·new code.function (code.unfolded 𝓤 H 𝓜 𝓡)
     (new-meets 𝓤 H (𝓖 .A) (givenOf 𝓤 H 𝓜 𝓖) (𝓜 .mem) (𝓡 .run) (tablesOf 𝓤 H 𝓜 (tables 𝓤 H 𝓜 𝓡 code.env)))

@@ -1,0 +1,13 @@
+-- How many references were read. Reading says neither absent nor remove. Assumes nothing.
+use mathlib.Core.List.{List}
+use lib.ListN.{length}
+use Rattle.format.specs.Questions.{Answer, refused, absent, remove, accepted}
+use Rattle.format.specs.References.{Ref}
+use Rattle.inline_refs.specs.declared.count.Counted.{Counted}
+use Rattle.inline_refs.specs.declared.count.Counted.the-variants.{Count, Refused}
+
+unfoldable pub countOf : Answer (List Ref) → Counted
+countOf (refused number) = Refused number
+countOf absent = Refused 100
+countOf remove = Refused 101
+countOf (accepted refs) = Count (length refs)
