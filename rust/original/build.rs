@@ -47,7 +47,7 @@ fn main() {
     println!("cargo:rustc-check-cfg=cfg(original_here)");
     println!("cargo:rerun-if-env-changed=EXTENT_REFS_ORIGINAL");
     println!("cargo:rerun-if-changed=build.rs");
-    println!("cargo:rerun-if-changed=src/door.rs");
+    println!("cargo:rerun-if-changed=src/public.rs");
     for name in WHOLE.iter().chain(&["btree", "transaction"]) {
         println!("cargo:rerun-if-changed={}", folder.join(format!("{name}.rs")).display());
     }
@@ -76,8 +76,8 @@ fn main() {
         transaction += &format!("{line}\n");
     }
     transaction += &cut(&folder, "transaction", &OF_TRANSACTION);
-    // A child module sees its parent's private items: the door to them.
-    transaction += &format!("#[path = {:?}]\npub mod door;\n", here.join("src/door.rs"));
+    // A child module sees its parent's private items.
+    transaction += &format!("#[path = {:?}]\npub mod public;\n", here.join("src/public.rs"));
     fs::write(out.join("transaction.rs"), transaction).unwrap();
 
     println!("cargo:rustc-cfg=original_here");

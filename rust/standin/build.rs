@@ -1,30 +1,29 @@
-//! Writes one exported function per call, from the model's list of parameters.
+//! Writes one exported function per call, from the table of calls.
 use std::path::PathBuf;
 use std::{env, fs};
 
 fn main() {
     println!("cargo:rerun-if-changed=build.rs");
     let mut text = String::new();
-    for (call, line) in model::calls::PARAMETERS {
+    for model::table::Call { name: call, parameters, result, .. } in model::table::CALLS {
         let (mut head, mut args, mut back) = (String::new(), String::new(), String::new());
-        for (at, word) in line.split_whitespace().enumerate() {
-            let (name, kind) = word.split_once(':').expect("name:kind");
+        for (at, (name, kind)) in parameters.iter().enumerate() {
             let slice =
                 |mutable, element| format!("{name}: *{mutable} {element}, {name}_len: usize, ");
-            match kind {
+            match *kind {
                 "bytes" | "words" => {
                     let (element, case) =
-                        if kind == "bytes" { ("u8", "Bytes") } else { ("u64", "Words") };
+                        if *kind == "bytes" { ("u8", "Bytes") } else { ("u64", "Words") };
                     head += &slice("const", element);
                     args += &format!("Arg::{case}(from_raw_parts({name}, {name}_len).to_vec()), ");
                 }
                 "out" | "cuts" => {
                     let (element, case) =
-                        if kind == "out" { ("u8", "Out") } else { ("u16", "Cuts") };
+                        if *kind == "out" { ("u8", "Out") } else { ("u16", "Cuts") };
                     head += &slice("mut", element);
                     args += &format!("Arg::{case}(from_raw_parts({name}, {name}_len).to_vec()), ");
                     back += &format!("if let Arg::{case}(now) = &said.args[{at}] {{ from_raw_parts_mut({name}, {name}_len).copy_from_slice(now); }}\n");
-                    if kind == "out" {
+                    if *kind == "out" {
                         back += &format!("beside({name}, {name}_len);\n");
                     }
                 }
@@ -40,7 +39,6 @@ fn main() {
                 }
             }
         }
-        let result = if *call == "extent_write_data_ref_hash" { "u64" } else { "u32" };
         text += &format!(
             "#[no_mangle]\npub unsafe extern \"C\" fn {call}({head}) -> {result} {{\n\
              let args = [{args}];\nlet said = faulty({call:?}, &args);\n{back}said.code as {result}\n}}\n"

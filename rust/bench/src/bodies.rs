@@ -3,12 +3,12 @@ use crate::measure::Bench;
 use extent_refs::lent;
 use original::backref::{self, Keyed};
 use original::extent_write::{self, TreeBlockAllocation};
-use original::transaction::door;
+use original::transaction::public;
 use std::hint::black_box;
 
 /// Data references of inodes 257 on, in the order that a record has them.
 fn data_body(count: u64) -> Vec<u8> {
-    let first = door::data_extent_body(7, 5, 257, 0);
+    let first = public::data_extent_body(7, 5, 257, 0);
     (1..count).fold(first, |body, n| {
         backref::add_inline_data_ref(168, &body, 5, 257 + n, 0).expect("one more")
     })
@@ -16,7 +16,7 @@ fn data_body(count: u64) -> Vec<u8> {
 
 /// A data reference, then shared data references of parents 4,096 on.
 fn shared_body(count: u64) -> Vec<u8> {
-    let first = door::data_extent_body(7, 5, 257, 0);
+    let first = public::data_extent_body(7, 5, 257, 0);
     (1..=count).fold(first, |body, n| {
         backref::add_inline_shared(168, &body, 184, 4096 * n, 2).expect("one more")
     })
@@ -40,7 +40,7 @@ pub fn rows(b: &mut Bench) {
     b.row(
         "extent_write_data_extent_body",
         "",
-        || door::data_extent_body(black_box(7), 5, 257, 0),
+        || public::data_extent_body(black_box(7), 5, 257, 0),
         |out, len| lent::extent_write_data_extent_body(black_box(7), 5, 257, 0, out, len).into(),
     );
     b.row(
@@ -59,7 +59,7 @@ pub fn rows(b: &mut Bench) {
     b.row(
         "transaction_keyed_data_ref_names",
         "",
-        || door::keyed_data_ref_names(black_box(&item), 5, 257, 0),
+        || public::keyed_data_ref_names(black_box(&item), 5, 257, 0),
         |_, names| {
             lent::transaction_keyed_data_ref_names(black_box(&item), 5, 257, 0, names).into()
         },
@@ -93,19 +93,19 @@ fn made(b: &mut Bench) {
     b.row(
         "transaction_shared_add_item",
         "",
-        || door::shared_add_item(4096, black_box(184), 8192, 2),
+        || public::shared_add_item(4096, black_box(184), 8192, 2),
         |out, len| lent::transaction_shared_add_item(black_box(184), 2, out, len).into(),
     );
     b.row(
         "transaction_shared_add_inline_size",
         "",
-        || door::shared_add_inline_size(black_box(184)),
+        || public::shared_add_inline_size(black_box(184)),
         |_, size| lent::transaction_shared_add_inline_size(black_box(184), size).into(),
     );
     b.row(
         "transaction_max_inline_extent_item",
         "",
-        || door::max_inline_extent_item(black_box(16_384)),
+        || public::max_inline_extent_item(black_box(16_384)),
         |_, limit| lent::transaction_max_inline_extent_item(black_box(16_384), limit).into(),
     );
 }
@@ -219,7 +219,7 @@ fn with_references(b: &mut Bench, count: u64) {
     b.row(
         "transaction_held_only_by",
         size,
-        || door::held_only_by(&data, 5, 257, &offsets),
+        || public::held_only_by(&data, 5, 257, &offsets),
         |_, holds| lent::transaction_held_only_by(&data, 5, 257, &offsets, holds).into(),
     );
 }

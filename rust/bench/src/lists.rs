@@ -6,14 +6,14 @@ use original::backref::Keyed;
 use original::chunk::DiskKey;
 use original::extent_write::TreeBlockAllocation;
 use original::leaf_edit::{self, OwnedItem};
-use original::transaction::door;
+use original::transaction::public;
 use std::hint::black_box;
 
 /// Records of data extents, with a tree block's record last.
 fn list(count: u64) -> Vec<OwnedItem> {
     let record = |n: u64| OwnedItem {
         key: DiskKey { objectid: 4096 * (n + 1), key_type: 168, offset: 4096 },
-        data: door::data_extent_body(7, 5, 257 + n, 0),
+        data: public::data_extent_body(7, 5, 257 + n, 0),
     };
     let mut items: Vec<OwnedItem> = (0..count - 1).map(record).collect();
     let block = TreeBlockAllocation { bytenr: 4096 * count, level: 0, generation: 7, owner: 5 };
@@ -64,7 +64,7 @@ pub fn with_items(b: &mut Bench, count: u64) {
     let last = 4096 * count;
     let middle = 4096 * (1 + count / 2).min(count - 1).max(1);
     let new = DiskKey { objectid: middle + 1, key_type: 168, offset: 4096 };
-    let data = door::data_extent_body(7, 5, 257, 0);
+    let data = public::data_extent_body(7, 5, 257, 0);
     let item = OwnedItem { key: new, data: data.clone() };
     let node = 65_536;
     let mut cuts = vec![0; 4096];
@@ -136,14 +136,14 @@ pub fn with_items(b: &mut Bench, count: u64) {
     b.row(
         "transaction_record_of",
         size,
-        || door::record_of(&items, last).map(|i| i.data.len()),
+        || public::record_of(&items, last).map(|i| i.data.len()),
         |_, number| lent::transaction_record_of(&sheet, last, number).into(),
     );
     let block = Keyed::Block { tree: 7 };
     b.row(
         "transaction_apply_keyed_add_block",
         size,
-        || door::apply_keyed_add(16_384, items.clone(), last, block, 1, false),
+        || public::apply_keyed_add(16_384, items.clone(), last, block, 1, false),
         |out, len| {
             lent::transaction_apply_keyed_add_block(16_384, &sheet, last, 7, 1, false, out, len)
                 .into()
@@ -153,7 +153,7 @@ pub fn with_items(b: &mut Bench, count: u64) {
     b.row(
         "transaction_apply_keyed_add_data",
         size,
-        || door::apply_keyed_add(16_384, items.clone(), middle, name, 1, false),
+        || public::apply_keyed_add(16_384, items.clone(), middle, name, 1, false),
         |out, len| {
             lent::transaction_apply_keyed_add_data(
                 16_384, &sheet, middle, 6, 257, 0, 1, false, out, len,
@@ -164,7 +164,7 @@ pub fn with_items(b: &mut Bench, count: u64) {
     b.row(
         "transaction_apply_shared_add",
         size,
-        || door::apply_shared_add(16_384, items.clone(), middle, 184, 8192, 2, false),
+        || public::apply_shared_add(16_384, items.clone(), middle, 184, 8192, 2, false),
         |out, len| {
             lent::transaction_apply_shared_add(
                 16_384, &sheet, middle, 184, 8192, 2, false, out, len,
@@ -178,7 +178,7 @@ pub fn with_items(b: &mut Bench, count: u64) {
     b.row(
         "ledger_post",
         &format!("{size}, give data"),
-        || door::apply_keyed_add(16_384, items.clone(), middle, name, 1, false),
+        || public::apply_keyed_add(16_384, items.clone(), middle, name, 1, false),
         |out, len| lent::ledger_post(16_384, &sheet, 2, middle, 6, 257, 0, 1, out, len).into(),
     );
 }
@@ -186,14 +186,14 @@ pub fn with_items(b: &mut Bench, count: u64) {
 /// A shared reference of two counts at `middle` and a second tree at `last`, to be dropped again.
 fn drops(b: &mut Bench, size: &str, items: &[OwnedItem], middle: u64, last: u64) {
     let block = Keyed::Block { tree: 7 };
-    let items = door::apply_shared_add(16_384, items.to_vec(), middle, 184, 8192, 2, false)
-        .and_then(|items| door::apply_keyed_add(16_384, items, last, block, 1, false))
+    let items = public::apply_shared_add(16_384, items.to_vec(), middle, 184, 8192, 2, false)
+        .and_then(|items| public::apply_keyed_add(16_384, items, last, block, 1, false))
         .expect("room for both");
     let sheet = sheet(&items);
     b.row(
         "transaction_apply_shared_drop",
         size,
-        || door::apply_shared_drop(items.clone(), middle, 184, 8192, 2, false),
+        || public::apply_shared_drop(items.clone(), middle, 184, 8192, 2, false),
         |out, len| {
             lent::transaction_apply_shared_drop(&sheet, middle, 184, 8192, 2, false, out, len)
                 .into()
@@ -202,7 +202,7 @@ fn drops(b: &mut Bench, size: &str, items: &[OwnedItem], middle: u64, last: u64)
     b.row(
         "transaction_drop_kept_tree_ref",
         size,
-        || door::drop_kept_tree_ref(items.clone(), last, 7, 0, false),
+        || public::drop_kept_tree_ref(items.clone(), last, 7, 0, false),
         |out, len| lent::transaction_drop_kept_tree_ref(&sheet, last, 0, 7, false, out, len).into(),
     );
 }

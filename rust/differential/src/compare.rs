@@ -1,10 +1,10 @@
 //! One call, all comparisons.
 use crate::archive::{self, Archive};
 use crate::generate::{ample, edges, lent, random};
-use crate::questions;
+use crate::questions::Reached;
 use crate::random::Random;
 use crate::show;
-use crate::verdict::{agreement, inside, of_original, Agreement, Verdict, ORIGINAL_HERE};
+use crate::verdict::{agreement, inside, of_original, written, Agreement, Verdict, ORIGINAL_HERE};
 use model::calls::{outcome, Arg, Outcome};
 use std::collections::BTreeMap;
 use std::time::{Duration, Instant};
@@ -69,8 +69,11 @@ impl Tally {
     }
 }
 
+/// Past the time, no longer than this for codes that did not come up.
+const LONGER: Duration = Duration::from_secs(20);
+
 /// The comparisons of one call, within a time: some random cases whatever the time, the edges,
-/// then random cases again. On a busy machine the edges may be cut, which is then said.
+/// then random cases again, and past the time until every code of the call has come up.
 pub fn call(name: &'static str, time: Duration) -> Vec<String> {
     let begun = Instant::now();
     let mut both = Both::new(name);
@@ -79,33 +82,25 @@ pub fn call(name: &'static str, time: Duration) -> Vec<String> {
         let args = random(name, &mut r);
         both.case(&args);
     }
-    let edges = edges(name, &mut Random::named(name, SEED + 1));
-    let mut done = 0;
-    for args in &edges {
-        if begun.elapsed() > 2 * time {
-            break;
-        }
+    for args in &edges(name, &mut Random::named(name, SEED + 1)) {
         both.case(args);
-        done += 1;
     }
     for _ in 0..MOST {
-        if begun.elapsed() > time {
+        let over = begun.elapsed();
+        if over > time && (both.reached.whole() || over > time + LONGER) {
             break;
         }
         let args = random(name, &mut r);
         both.case(&args);
     }
-    let mut lines = both.lines();
-    if done < edges.len() {
-        lines.push(format!("note {name}: {done} of {} edge cases in this time", edges.len()));
-    }
-    lines
+    both.lines()
 }
 
 struct Both {
     call: &'static str,
     archive: Option<Archive>,
     turn: usize,
+    reached: Reached,
     model_original: Tally,
     archive_model: Tally,
     archive_original: Tally,
@@ -117,57 +112,52 @@ impl Both {
             call,
             archive: archive::has(call).then(Archive::default),
             turn: 0,
+            reached: Reached::new(call),
             model_original: Tally::default(),
             archive_model: Tally::default(),
             archive_original: Tally::default(),
         }
     }
 
+    /// With ample room, then with exactly enough, one too few and none.
     fn case(&mut self, bare: &[Arg]) {
+        let call = self.call;
         let args = lent(bare, ample(bare));
-        let said = outcome(self.call, &args);
-        let code = if self.call == "extent_write_data_ref_hash" { 0 } else { said.code };
-        *self.model_original.codes.entry(code).or_default() += 1;
-        let verdict = match inside(self.call, said.code) {
-            true => of_original(self.call, &args),
+        let said = outcome(call, &args);
+        self.turn += 1;
+        self.reached.note(&args, said.code, true);
+        let verdict = match inside(call, said.code) {
+            true => of_original(call, &args),
             false => Verdict::NotAsked,
         };
-        let call = self.call;
         let agreed = agreement(call, &verdict, &said);
         self.model_original.note(agreed, &args, || {
             let (asked, model) = (show::args(call, &args), show::outcome(&said));
             format!("       {asked}\n       original {verdict:?}\n       model    {model}")
         });
-        if self.archive.is_some() {
-            self.on_archive(bare, &args, &said, &verdict);
-        }
-    }
-
-    /// With ample room, then with exactly enough, one too few and none.
-    fn on_archive(&mut self, bare: &[Arg], args: &[Arg], said: &Outcome, verdict: &Verdict) {
-        let call = self.call;
-        self.turn += 1;
-        let given = self.one(args, said, self.turn % 2 == 0);
-        if let Some(given) = given {
-            let agreed = agreement(call, verdict, &given);
-            self.archive_original.note(agreed, args, || {
-                let (asked, archive) = (show::args(call, args), show::outcome(&given));
+        if let Some(given) = self.one(&args, &said, self.turn % 2 == 0) {
+            let agreed = agreement(call, &verdict, &given);
+            self.archive_original.note(agreed, &args, || {
+                let (asked, archive) = (show::args(call, &args), show::outcome(&given));
                 format!("       {asked}\n       original {verdict:?}\n       archive  {archive}")
             });
         }
-        let lends = args.iter().any(|a| matches!(a, Arg::Out(_) | Arg::Cuts(_)));
-        if !lends {
-            return;
+        if args.iter().any(|a| matches!(a, Arg::Out(_) | Arg::Cuts(_))) {
+            self.with_less_room(bare, &said);
         }
-        let length =
-            crate::verdict::written(call, said).numbers.first().copied().unwrap_or(0) as usize;
+    }
+
+    fn with_less_room(&mut self, bare: &[Arg], said: &Outcome) {
+        let length = written(self.call, said).numbers.first().copied().unwrap_or(0) as usize;
         let few = match said.code {
             0 => vec![length, length.saturating_sub(1), 0],
             _ => vec![self.turn % 3],
         };
         for room in few {
             let args = lent(bare, room);
-            self.one(&args, &outcome(call, &args), self.turn % 2 == 1);
+            let said = outcome(self.call, &args);
+            self.reached.note(&args, said.code, false);
+            self.one(&args, &said, self.turn % 2 == 1);
         }
     }
 
@@ -190,18 +180,17 @@ impl Both {
     }
 
     fn lines(&self) -> Vec<String> {
-        let mut lines = Vec::new();
+        let mut lines = vec![self.reached.line()];
         if ORIGINAL_HERE {
             lines.push(self.model_original.line(self.call, "original/model"));
         }
-        lines.extend(questions::line(self.call, &self.model_original.codes));
-        if self.archive.is_some() {
-            lines.push(self.archive_model.line(self.call, "archive/model"));
-            if ORIGINAL_HERE {
-                lines.push(self.archive_original.line(self.call, "archive/original"));
-            }
-        } else {
-            lines.push(format!("wait {}: not in the archive", self.call));
+        if self.archive.is_none() {
+            lines.push(format!("FAIL {}: not in the archive", self.call));
+            return lines;
+        }
+        lines.push(self.archive_model.line(self.call, "archive/model"));
+        if ORIGINAL_HERE {
+            lines.push(self.archive_original.line(self.call, "archive/original"));
         }
         lines
     }

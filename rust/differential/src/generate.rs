@@ -5,18 +5,23 @@ use crate::random::Random;
 use crate::sheets;
 use model::asked::le64;
 use model::body::{keyed_data_ref_body, Body, Reference, BLOCK, DATA, SHARED_BLOCK, SHARED_DATA};
-use model::calls::{Arg, PARAMETERS};
+use model::calls::Arg;
 use model::ledger::Name;
 use model::sheet::{space, unordered, Item};
+use model::table::{Call, CALLS};
 
 pub fn calls() -> impl Iterator<Item = &'static str> {
-    PARAMETERS.iter().map(|(call, _)| *call)
+    CALLS.iter().map(|call| call.name)
+}
+
+/// The table's row of a call.
+pub fn row(call: &str) -> &'static Call {
+    CALLS.iter().find(|row| row.name == call).expect("a call of the table")
 }
 
 /// The parameters of a call: (name, kind).
-pub fn parameters(call: &str) -> Vec<(&'static str, &'static str)> {
-    let (_, line) = PARAMETERS.iter().find(|(name, _)| *name == call).expect("a call");
-    line.split_whitespace().filter_map(|word| word.split_once(':')).collect()
+pub fn parameters(call: &str) -> &'static [(&'static str, &'static str)] {
+    row(call).parameters
 }
 
 /// What the parameters of one case are drawn from, so that they meet.
@@ -97,7 +102,7 @@ fn draw(
         focus: Reference::block(0),
     };
     d.prepare();
-    parameters(call).into_iter().map(|(name, kind)| d.arg(name, kind)).collect()
+    parameters(call).iter().map(|(name, kind)| d.arg(name, kind)).collect()
 }
 
 impl Draw<'_> {
@@ -316,10 +321,17 @@ impl Draw<'_> {
                 }
             }
             "set" => self.r.pick(&[0, 1, 2, 256, u64::MAX]),
-            "number" => match self.r.below(8) {
-                0 => self.r.pick(&[u64::MAX, 1 << 32, 1 << 63]),
-                _ => self.r.below(self.items.len() + 2) as u64,
-            },
+            "number" => {
+                let count = match self.call {
+                    "backref_inline_ref" => bodies::references(self.item_type, &self.body).len(),
+                    _ => self.items.len(),
+                };
+                match self.r.below(8) {
+                    0 => self.r.pick(&[u64::MAX, 1 << 32, 1 << 63]),
+                    1 => (count as u64).wrapping_sub(1),
+                    _ => self.r.below(count + 2) as u64,
+                }
+            }
             "change" => self.change,
             "a" if self.wanted().len() == 2 => {
                 if self.r.chance(1, 20) {

@@ -6,13 +6,19 @@ use crate::sheets;
 use model::calls::{outcome, Arg, Outcome};
 use model::ledger::{balanced, count, Name};
 use model::sheet::{bytes, read};
-use std::collections::BTreeMap;
+use std::collections::{BTreeMap, BTreeSet};
 use std::time::{Duration, Instant};
+
+/// Of each change, how often it was accepted and refused.
+type Answers = [[usize; 2]; 6];
 
 /// Opening, given and taken of one name.
 type Row = (i128, i128, i128);
 
 type Poster<'a> = &'a dyn Fn(&[Arg]) -> Option<Outcome>;
+
+/// So many lists whatever the time.
+const LEAST: usize = 200;
 
 /// By the model, and by the archive where it has the call.
 pub fn histories(time: Duration) -> Vec<String> {
@@ -23,30 +29,41 @@ pub fn histories(time: Duration) -> Vec<String> {
         let posted = |args: &[Arg]| archive.run("ledger_post", args, true).ok();
         lines.push(run("archive", &posted, time / 2));
     } else {
-        lines.push("wait histories: ledger_post is not in the archive".into());
+        lines.push("FAIL histories archive: ledger_post is not in the archive".into());
     }
     lines
 }
 
+/// One line that begins with `ok` or `FAIL`: each of the six changes was accepted and refused.
 fn run(what: &str, post: Poster, time: Duration) -> String {
     let begun = Instant::now();
     let mut r = Random::new(13);
-    let (mut lists, mut accepted) = (0, 0);
-    while begun.elapsed() < time && lists < 20_000 {
-        match history(&mut r, post) {
-            Ok(changes) => accepted += changes,
-            Err(text) => return format!("FAIL histories {what}: {text}"),
+    let mut lists = 0;
+    let mut answers = Answers::default();
+    while lists < LEAST || (begun.elapsed() < time && lists < 20_000) {
+        if let Err(text) = history(&mut r, post, &mut answers) {
+            return format!("FAIL histories {what}: {text}");
         }
         lists += 1;
     }
-    format!("ok   histories {what}: {lists} lists, {accepted} accepted changes")
+    for (change, [accepted, refused]) in (1..).zip(answers) {
+        if accepted == 0 || refused == 0 {
+            return format!(
+                "FAIL histories {what}: change {change} was accepted {accepted} times and refused {refused}"
+            );
+        }
+    }
+    let [accepted, refused] = [0, 1].map(|n| answers.iter().map(|a| a[n]).sum::<usize>());
+    format!("ok   histories {what}: {lists} lists, {accepted} accepted changes, {refused} refused")
 }
 
-fn history(r: &mut Random, post: Poster) -> Result<usize, String> {
+/// What an accepted change leaves: a balanced list, each name at opening plus given minus taken,
+/// and the old items of every extent that no accepted change named.
+fn history(r: &mut Random, post: Poster, answers: &mut Answers) -> Result<(), String> {
     let mut sheet = bytes(&sheets::balanced(r));
     let opening = read(&sheet).map_err(|_| "a list that does not read")?;
     let mut rows: BTreeMap<(u64, Name), Row> = BTreeMap::new();
-    let mut accepted = 0;
+    let mut named = BTreeSet::new();
     for _ in 0..40 {
         let change = 1 + r.below(6) as u64;
         let extent = sheets::extent(r);
@@ -66,10 +83,11 @@ fn history(r: &mut Random, post: Poster) -> Result<usize, String> {
         let row = rows
             .entry(name)
             .or_insert_with_key(|(extent, name)| (count(&opening, *extent, name) as i128, 0, 0));
+        answers[change as usize - 1][usize::from(said.code != 0)] += 1;
         if said.code != 0 {
             continue;
         }
-        accepted += 1;
+        named.insert(extent);
         match change {
             1 => row.1 += 1,
             2 | 3 => row.1 += i128::from(amount),
@@ -82,6 +100,13 @@ fn history(r: &mut Random, post: Poster) -> Result<usize, String> {
         if !balanced(&items) {
             return Err(format!("change {change} gave a sheet that is not balanced"));
         }
+        if !opening
+            .iter()
+            .filter(|i| !named.contains(&i.key.0))
+            .eq(items.iter().filter(|i| !named.contains(&i.key.0)))
+        {
+            return Err(format!("change {change} moved an item of an extent that it did not name"));
+        }
         for ((extent, name), (opening, given, taken)) in &rows {
             let stands = count(&items, *extent, name) as i128;
             if stands + taken != opening + given {
@@ -89,5 +114,47 @@ fn history(r: &mut Random, post: Poster) -> Result<usize, String> {
             }
         }
     }
-    Ok(accepted)
+    Ok(())
+}
+
+#[cfg(test)]
+mod tests {
+    use super::*;
+
+    fn line(post: Poster) -> String {
+        run("test", post, Duration::ZERO)
+    }
+
+    /// The model's answer to a posting, changed where it is accepted.
+    fn changed(args: &[Arg], change: impl Fn(&mut Outcome)) -> Option<Outcome> {
+        let mut said = outcome("ledger_post", args);
+        if said.code == 0 {
+            change(&mut said);
+        }
+        Some(said)
+    }
+
+    #[test]
+    fn histories_that_show_nothing_fail() {
+        assert!(line(&|args| changed(args, |_| {})).starts_with("ok"));
+        assert!(line(&|_| None).starts_with("FAIL"));
+        // A ledger that refuses each posting.
+        assert!(line(&|args| changed(args, |said| said.code = 5)).starts_with("FAIL"));
+        // One that refuses each drop of a shared reference.
+        let no_drop = |args: &[Arg]| {
+            changed(args, |said| said.code = if args[2] == Arg::Number(6) { 5 } else { 0 })
+        };
+        assert!(line(&no_drop).starts_with("FAIL"));
+        // One that hands the list back.
+        let back = |args: &[Arg]| {
+            let mut after = args.to_vec();
+            let Arg::Bytes(sheet) = &args[1] else { return None };
+            if let Arg::Out(out) = &mut after[8] {
+                out[..sheet.len()].copy_from_slice(sheet);
+            }
+            after[9] = Arg::Lent(sheet.len() as u64);
+            Some(Outcome { code: 0, args: after })
+        };
+        assert!(line(&back).starts_with("FAIL"));
+    }
 }

@@ -2,8 +2,8 @@
 //!
 //! `generate` makes the inputs, `archive` runs the linked call on guarded memory, `verdict`
 //! says what the original answers, `recorded` replays its answers where it is not here, and
-//! `compare` holds them together. A new call needs a line in `model::calls` (its parameters and
-//! its answer) and one in `original`; the inputs follow from the names of its parameters.
+//! `compare` holds them together. A new call of the table needs a line in `model::calls` and one
+//! in `original`; the inputs follow from the names of its parameters.
 pub mod archive;
 pub mod compare;
 pub mod dump_tree;
@@ -23,6 +23,8 @@ mod ledger_history;
 mod questions;
 mod sheets;
 mod swap;
+#[cfg(original_here)]
+mod swap_private;
 
 pub use differences::differences;
 pub use ledger_history::histories;

@@ -2,12 +2,12 @@
 use crate::verdict::Verdict::{self, Absent, Accepted, NotAsked, Refused, Remove};
 use model::calls::{Arg, Written};
 use model::hash::data_ref_hash;
-use original::backref::{self, Keyed};
+use original::backref::{self, InlineRef, Keyed};
 use original::chunk::DiskKey;
 use original::error::Result;
 use original::extent_write::{self, TreeBlockAllocation};
 use original::leaf_edit::{self, OwnedItem};
-use original::transaction::door;
+use original::transaction::public;
 
 /// Above this the original's loop over single adds takes too long to wait for.
 const ROUNDS: u32 = 2_000;
@@ -105,6 +105,18 @@ fn listed(result: Result<Vec<OwnedItem>>) -> Verdict {
     result.map_or(Refused, |items| bytes(sheet(&items)))
 }
 
+/// The references run to the end of the body, so they place themselves from there.
+fn positions(body: &[u8], refs: &[InlineRef]) -> Vec<u16> {
+    let mut at = body.len();
+    let mut positions = Vec::new();
+    for r in refs.iter().rev() {
+        at -= 1 + r.payload.len();
+        positions.push(at as u16);
+    }
+    positions.reverse();
+    positions
+}
+
 pub fn verdict(call: &str, args: &[Arg]) -> Verdict {
     let mut g = Given(args.iter());
     match call {
@@ -123,7 +135,7 @@ pub fn verdict(call: &str, args: &[Arg]) -> Verdict {
             bytes(block.body().to_vec())
         }
         "extent_write_data_extent_body" => {
-            bytes(door::data_extent_body(g.u64(), g.u64(), g.u64(), g.u64()))
+            bytes(public::data_extent_body(g.u64(), g.u64(), g.u64(), g.u64()))
         }
 
         "backref_flags" => backref::flags(g.bytes()).map_or(Refused, |flags| numbers(&[flags])),
@@ -132,14 +144,18 @@ pub fn verdict(call: &str, args: &[Arg]) -> Verdict {
             let Ok(refs) = backref::inline_refs(item_type, body) else {
                 return Refused;
             };
-            // The references run to the end of the body, so they place themselves from there.
-            let mut at = body.len();
-            let mut positions = Vec::new();
-            for r in refs.iter().rev() {
-                at -= 1 + r.payload.len();
-                positions.insert(0, at as u16);
-            }
-            cuts(positions)
+            cuts(positions(body, &refs))
+        }
+        "backref_inline_ref" => {
+            let (item_type, body, number) = (g.u8(), g.bytes(), g.u64());
+            let Ok(refs) = backref::inline_refs(item_type, body) else {
+                return Refused;
+            };
+            let Some(at) = usize::try_from(number).ok().filter(|&at| at < refs.len()) else {
+                return Refused;
+            };
+            let (r, start) = (&refs[at], u64::from(positions(body, &refs)[at]) + 1);
+            numbers(&[u64::from(r.kind), r.offset(), start, r.payload.len() as u64])
         }
         "backref_take_inline_shared" => {
             match backref::take_inline_shared(g.u8(), g.bytes(), g.u8(), g.u64()) {
@@ -193,21 +209,28 @@ pub fn verdict(call: &str, args: &[Arg]) -> Verdict {
         "backref_with_flags" => edited(backref::with_flags(g.bytes(), g.u64())),
 
         "transaction_held_only_by" => {
-            numbers(&[u64::from(door::held_only_by(g.bytes(), g.u64(), g.u64(), g.words()))])
+            numbers(&[u64::from(public::held_only_by(g.bytes(), g.u64(), g.u64(), g.words()))])
         }
-        "transaction_keyed_data_ref_names" => {
-            numbers(&[u64::from(door::keyed_data_ref_names(g.bytes(), g.u64(), g.u64(), g.u64()))])
+        "transaction_keyed_data_ref_names" => numbers(&[u64::from(public::keyed_data_ref_names(
+            g.bytes(),
+            g.u64(),
+            g.u64(),
+            g.u64(),
+        ))]),
+        "transaction_shared_add_item" => bytes(public::shared_add_item(0, g.u8(), 0, g.u32()).data),
+        "transaction_shared_add_key" => {
+            let key = public::shared_add_item(g.u64(), g.u8(), g.u64(), 1).key;
+            numbers(&[key.objectid, u64::from(key.key_type), key.offset])
         }
-        "transaction_shared_add_item" => bytes(door::shared_add_item(0, g.u8(), 0, g.u32()).data),
         "transaction_shared_add_inline_size" => {
-            numbers(&[door::shared_add_inline_size(g.u8()) as u64])
+            numbers(&[public::shared_add_inline_size(g.u8()) as u64])
         }
         "transaction_max_inline_extent_item" => {
-            numbers(&[door::max_inline_extent_item(g.u32()) as u64])
+            numbers(&[public::max_inline_extent_item(g.u32()) as u64])
         }
         "transaction_record_of" => {
             let items = g.items();
-            match door::record_of(&items, g.u64()) {
+            match public::record_of(&items, g.u64()) {
                 Some(record) => {
                     let at = items.iter().position(|i| std::ptr::eq(i, record)).unwrap();
                     numbers(&[at as u64])
@@ -218,7 +241,7 @@ pub fn verdict(call: &str, args: &[Arg]) -> Verdict {
         "transaction_apply_keyed_add_block" => {
             let (size, items, bytenr) = (g.u32(), g.items(), g.u64());
             let keyed = Keyed::Block { tree: g.u64() };
-            listed(door::apply_keyed_add(size, items, bytenr, keyed, g.u32(), g.bool()))
+            listed(public::apply_keyed_add(size, items, bytenr, keyed, g.u32(), g.bool()))
         }
         "transaction_apply_keyed_add_data" => {
             let (size, items, bytenr) = (g.u32(), g.items(), g.u64());
@@ -227,19 +250,27 @@ pub fn verdict(call: &str, args: &[Arg]) -> Verdict {
             if count > ROUNDS && !as_item {
                 return NotAsked;
             }
-            listed(door::apply_keyed_add(size, items, bytenr, keyed, count, as_item))
+            listed(public::apply_keyed_add(size, items, bytenr, keyed, count, as_item))
         }
         "transaction_apply_shared_add" => {
             let (size, items) = (g.u32(), g.items());
-            listed(door::apply_shared_add(size, items, g.u64(), g.u8(), g.u64(), g.u32(), g.bool()))
+            listed(public::apply_shared_add(
+                size,
+                items,
+                g.u64(),
+                g.u8(),
+                g.u64(),
+                g.u32(),
+                g.bool(),
+            ))
         }
         "transaction_apply_shared_drop" => {
             let items = g.items();
-            listed(door::apply_shared_drop(items, g.u64(), g.u8(), g.u64(), g.u32(), g.bool()))
+            listed(public::apply_shared_drop(items, g.u64(), g.u8(), g.u64(), g.u32(), g.bool()))
         }
         "transaction_drop_kept_tree_ref" => {
             let (items, bytenr, level) = (g.items(), g.u64(), g.u8());
-            listed(door::drop_kept_tree_ref(items, bytenr, g.u64(), level, g.bool()))
+            listed(public::drop_kept_tree_ref(items, bytenr, g.u64(), level, g.bool()))
         }
 
         "leaf_edit_insert" => {
@@ -303,7 +334,7 @@ pub fn verdict(call: &str, args: &[Arg]) -> Verdict {
 
 /// A posting to a balanced sheet, put together from the original's functions as document 01
 /// says. What only the books ask (9 for an item of its own, 10 for an amount of 0) stands here.
-fn post(
+pub fn post(
     size: u32,
     items: Vec<OwnedItem>,
     change: u64,
@@ -314,12 +345,12 @@ fn post(
     let no = || original::error::Error::UnsupportedFeature("the books refuse".into());
     let key = |key_type, offset| DiskKey { objectid: extent, key_type, offset };
     let at = |key: DiskKey| items.iter().find(|i| i.key == key).cloned();
-    let record = door::record_of(&items, extent).cloned().ok_or_else(no)?;
+    let record = public::record_of(&items, extent).cloned().ok_or_else(no)?;
     let kind = record.key.key_type;
     let data_item = at(key(178, data_ref_hash(a, b, c)));
     let own = match change {
         1 => at(key(176, a)).is_some(),
-        2 => data_item.as_ref().is_some_and(|i| door::keyed_data_ref_names(&i.data, a, b, c)),
+        2 => data_item.as_ref().is_some_and(|i| public::keyed_data_ref_names(&i.data, a, b, c)),
         3 => at(key(a as u8, b)).is_some(),
         _ => false,
     };
@@ -333,12 +364,12 @@ fn post(
         items
     };
     match change {
-        1 => door::apply_keyed_add(size, items, extent, Keyed::Block { tree: a }, 1, false),
+        1 => public::apply_keyed_add(size, items, extent, Keyed::Block { tree: a }, 1, false),
         2 => {
             let keyed = Keyed::Data { tree: a, objectid: b, offset: c };
-            door::apply_keyed_add(size, items, extent, keyed, amount, false)
+            public::apply_keyed_add(size, items, extent, keyed, amount, false)
         }
-        3 => door::apply_shared_add(size, items, extent, a as u8, b, amount, false),
+        3 => public::apply_shared_add(size, items, extent, a as u8, b, amount, false),
         4 => match backref::drop_inline_tree_ref(kind, &record.data, a)? {
             Some(body) => Ok(with(&items, body)),
             None => {

@@ -1,57 +1,193 @@
-//! Which codes each call can give: document 01's questions as shared/calls.md lists them.
-//! With ample room 21 only stands for the limits, so it is left out where no result can pass one.
-use std::collections::BTreeMap;
+//! What each call answers, held to the table of calls: every code that it lists comes up, under
+//! each of its conditions, and no other does.
+use crate::generate::row;
+use model::calls::Arg;
+use model::table::Call;
+use std::collections::BTreeSet;
 
-const CODES: &[(&str, &str)] = &[
-    ("extent_write_", ""),
-    ("backref_flags", "3 6"),
-    ("backref_inline_refs", "3 6 7 8"),
-    ("backref_take_inline_shared", "3 6 7 8 100"),
-    ("backref_add_inline_keyed_block", "3 6 7 8 9 21"),
-    ("backref_add_inline_keyed_data", "3 6 7 8 10 11 21"),
-    ("backref_drop_inline_data_ref", "3 6 7 8 100 13"),
-    ("backref_drop_keyed_data_ref", "3 15 16 101"),
-    ("backref_lower_total", "3 6 13"),
-    ("backref_reduce_total", "3 6 14"),
-    ("backref_raise_total", "3 6 12"),
-    ("backref_holds_inline_data_ref", "3 6 7 8"),
-    ("backref_add_inline_data_ref", "3 6 7 8 11 12 21"),
-    ("backref_add_inline_tree_ref", "3 6 7 8 9 12 21"),
-    ("backref_keyed_data_ref_body", ""),
-    ("backref_add_inline_shared", "3 6 7 8 9 10 11 12 21"),
-    ("backref_drop_inline_tree_ref", "3 6 7 8 100 13"),
-    ("backref_with_flags", "3 6"),
-    ("transaction_held_only_by", "3"),
-    ("transaction_keyed_data_ref_names", "3"),
-    ("transaction_shared_add", "3"),
-    ("transaction_max_inline_extent_item", "3"),
-    ("transaction_record_of", "1 2 5"),
-    ("transaction_apply_keyed_add_block", "1 2 3 5 6 7 8 9 12 17 21"),
-    ("transaction_apply_keyed_add_data", "1 2 3 5 6 7 8 11 12 17 21"),
-    ("transaction_apply_shared_add", "1 2 3 5 6 7 8 9 10 11 12 17 21"),
-    ("transaction_apply_shared_drop", "1 2 3 5 6 7 8 14"),
-    ("transaction_drop_kept_tree_ref", "1 2 5 6 7 8 13"),
-    // A leaf holds neither 4,096 items nor 262,144 bytes, so 18 comes before the limits.
-    ("leaf_edit_insert_unbounded", "1 2 3 9 21"),
-    ("leaf_edit_insert", "1 2 3 9 18"),
-    ("leaf_edit_delete", "1 2 5"),
-    ("leaf_edit_fit", "1 2 3"),
-    ("leaf_edit_split_to_fit", "1 2 3 18 19"),
-    ("leaf_edit_split", "1 2 19"),
-    ("leaf_edit_item", "1 2 5"),
-    ("ledger_post", "1 2 3 4 5 9 10 11 13 15 17 21"),
-];
+/// The codes that came up for one call.
+pub struct Reached {
+    call: &'static Call,
+    /// For each line of questions: with whatever room, and with ample room.
+    seen: Vec<[BTreeSet<u64>; 2]>,
+}
 
-/// A failure where a code came up that the call cannot give; a note on codes not reached.
-pub fn line(call: &str, seen: &BTreeMap<u64, usize>) -> Option<String> {
-    let (_, codes) = CODES.iter().find(|(name, _)| call.starts_with(name))?;
-    let mut codes: Vec<u64> = codes.split_whitespace().filter_map(|c| c.parse().ok()).collect();
-    codes.push(0);
-    let strange: Vec<_> = seen.keys().filter(|c| !codes.contains(c)).collect();
-    if !strange.is_empty() {
-        return Some(format!("FAIL {call}: the model gives {strange:?}, which this call cannot"));
+/// What a line of questions says of a code.
+#[derive(Clone, Copy, PartialEq, Eq)]
+enum Says {
+    Never,
+    Comes,
+    /// It comes up where the room is short, and with ample room never.
+    WithShortRoom,
+    /// It comes up with ample room too.
+    WithAmpleRoom,
+}
+
+fn says(questions: &str, code: u64) -> Says {
+    let mut accepted = true;
+    for mark in questions.split_whitespace() {
+        accepted &= !mark.ends_with('!');
+        let (listed, says) = match mark {
+            "absent" => (100, Says::Comes),
+            "remove" => (101, Says::Comes),
+            "21" => (21, Says::WithShortRoom),
+            "21+" => (21, Says::WithAmpleRoom),
+            _ if mark.starts_with('(') => continue,
+            _ => {
+                let digits = mark.trim_end_matches(['n', 'h', '*', '!']);
+                (digits.parse().expect("a question's number"), Says::Comes)
+            }
+        };
+        if listed == code {
+            return says;
+        }
     }
-    codes.retain(|c| !seen.contains_key(c));
-    (!codes.is_empty())
-        .then(|| format!("note {call}: codes {codes:?} were not reached in this time"))
+    match code {
+        0 if accepted => Says::Comes,
+        _ => Says::Never,
+    }
+}
+
+/// Whether the parameters are as a condition has them.
+fn holds(call: &Call, condition: &str, args: &[Arg]) -> bool {
+    condition.split_whitespace().all(|word| {
+        let (name, value) = word.split_once('=').expect("name=value");
+        let at = call.parameters.iter().position(|p| p.0 == name).expect("a parameter");
+        args[at] == Arg::Number(value.parse().expect("a number"))
+    })
+}
+
+impl Reached {
+    pub fn new(call: &str) -> Self {
+        let call = row(call);
+        Reached { call, seen: call.asks.iter().map(|_| Default::default()).collect() }
+    }
+
+    pub fn note(&mut self, args: &[Arg], code: u64, ample: bool) {
+        let code = if self.call.result == "u32" { code } else { 0 };
+        let asks = self.call.asks.iter();
+        let line = asks.clone().position(|(condition, _)| holds(self.call, condition, args));
+        let seen = &mut self.seen[line.expect("a line without a condition")];
+        seen[0].insert(code);
+        if ample {
+            seen[1].insert(code);
+        }
+    }
+
+    /// What is wrong with the codes that came up: with all, those that did not come up, too.
+    fn faults(&self, all: bool) -> Vec<String> {
+        let mut faults = Vec::new();
+        for ((condition, questions), [any, ample]) in self.call.asks.iter().zip(&self.seen) {
+            let mut fault = |code: u64, text: &str| {
+                let which =
+                    if condition.is_empty() { String::new() } else { format!("{condition}: ") };
+                faults.push(format!("{which}{code} {text}"));
+            };
+            for code in (0..=21).chain([100, 101]) {
+                let said = says(questions, code);
+                if any.contains(&code) && said == Says::Never {
+                    fault(code, "comes up, which the table does not list");
+                }
+                if ample.contains(&code) && said == Says::WithShortRoom {
+                    fault(code, "comes up with ample room");
+                }
+                if all && !any.contains(&code) && said != Says::Never {
+                    fault(code, "was not reached");
+                } else if all && !ample.contains(&code) && said == Says::WithAmpleRoom {
+                    fault(code, "was not reached with ample room");
+                }
+            }
+        }
+        faults
+    }
+
+    /// Whether every code came up that the table lists.
+    pub fn whole(&self) -> bool {
+        self.faults(true).len() == self.faults(false).len()
+    }
+
+    /// One line that begins with `ok` or `FAIL`.
+    pub fn line(&self) -> String {
+        let faults = self.faults(true);
+        let count: usize = self.seen.iter().map(|[any, _]| any.len()).sum();
+        match faults.is_empty() {
+            true => {
+                format!("ok   {} codes: the {count} of the table, each reached", self.call.name)
+            }
+            false => format!("FAIL {} codes: {}", self.call.name, faults.join("; ")),
+        }
+    }
+}
+
+#[cfg(test)]
+mod tests {
+    use super::*;
+
+    fn line(call: &str, seen: &[(u64, u64, bool)]) -> String {
+        let mut reached = Reached::new(call);
+        let count = reached.call.parameters.len();
+        for &(first, code, ample) in seen {
+            reached.note(&vec![Arg::Number(first); count], code, ample);
+        }
+        reached.line()
+    }
+
+    #[test]
+    fn a_code_that_is_not_reached_fails() {
+        let all = [(0, 0, true), (0, 3, true), (0, 6, true)];
+        assert!(line("backref_flags", &all).starts_with("ok"));
+        for left_out in 0..3 {
+            let mut seen = all.to_vec();
+            seen.remove(left_out);
+            assert!(line("backref_flags", &seen).starts_with("FAIL"));
+        }
+        assert!(line("backref_flags", &[]).starts_with("FAIL"));
+    }
+
+    #[test]
+    fn a_code_that_is_not_listed_fails() {
+        let seen = [(0, 0, true), (0, 3, true), (0, 6, true), (0, 7, true)];
+        assert!(line("backref_flags", &seen).starts_with("FAIL"));
+    }
+
+    #[test]
+    fn question_21_tells_the_room_from_the_limits() {
+        let body = |ample| [(0, 0, true), (0, 21, ample)];
+        assert!(line("backref_keyed_data_ref_body", &body(false)).starts_with("ok"));
+        assert!(line("backref_keyed_data_ref_body", &body(true)).starts_with("FAIL"));
+        let add = |ample| {
+            let mut seen = [0, 3, 6, 7, 8, 9].map(|code| (0, code, true)).to_vec();
+            seen.push((0, 21, ample));
+            seen
+        };
+        assert!(line("backref_add_inline_keyed_block", &add(true)).starts_with("ok"));
+        assert!(line("backref_add_inline_keyed_block", &add(false)).starts_with("FAIL"));
+    }
+
+    #[test]
+    fn each_condition_has_its_codes() {
+        // Every argument is the number of the change here.
+        let mut seen = Vec::new();
+        for (change, codes) in [
+            (1, &[0, 1, 2, 3, 4, 5, 9, 17, 21][..]),
+            (2, &[0, 1, 2, 3, 4, 5, 9, 10, 11, 17, 21]),
+            (3, &[0, 1, 2, 3, 4, 5, 9, 10, 11, 17, 21]),
+            (4, &[0, 1, 2, 3, 4, 5, 13]),
+            (5, &[0, 1, 2, 3, 4, 5, 13, 15]),
+            (6, &[0, 1, 2, 3, 4, 5]),
+            (7, &[1, 2, 3]),
+        ] {
+            seen.extend(codes.iter().map(|&code| (change, code, true)));
+        }
+        seen.extend([4, 5, 6].map(|change| (change, 21, false)));
+        assert!(line("ledger_post", &seen).starts_with("ok"), "{}", line("ledger_post", &seen));
+        // No other change is accepted, and 12 cannot come.
+        for (change, code) in [(7, 0), (2, 12), (6, 13)] {
+            seen.push((change, code, true));
+            assert!(line("ledger_post", &seen).starts_with("FAIL"));
+            seen.pop();
+        }
+        seen.retain(|s| *s != (5, 15, true));
+        assert!(line("ledger_post", &seen).contains("change=5: 15 was not reached"));
+    }
 }

@@ -13,8 +13,10 @@ use std::path::PathBuf;
 const SEED: u64 = 7;
 const CASES: usize = 500;
 
+/// recorded/answers.txt, or what EXTENT_REFS_RECORDED names.
 pub fn path() -> PathBuf {
-    PathBuf::from(env!("CARGO_MANIFEST_DIR")).join("recorded/answers.txt")
+    let here = || PathBuf::from(env!("CARGO_MANIFEST_DIR")).join("recorded/answers.txt");
+    std::env::var("EXTENT_REFS_RECORDED").map_or_else(|_| here(), PathBuf::from)
 }
 
 fn digest(start: u64, bytes: impl IntoIterator<Item = u8>) -> u64 {
@@ -88,52 +90,104 @@ pub fn made() -> String {
     calls().map(|call| line(call) + "\n").collect()
 }
 
+fn text() -> Result<String, String> {
+    std::fs::read_to_string(path())
+        .map_err(|_| "FAIL recorded: the list is missing, make it with --record".into())
+}
+
+/// Whether the list is what the original here answers; nothing where the original is not here.
+pub fn current() -> Option<String> {
+    if !ORIGINAL_HERE {
+        return None;
+    }
+    Some(match text() {
+        Ok(text) if made() == text => "ok   recorded: the list is current".into(),
+        Ok(_) => "FAIL recorded: the list is not current, make it with --record".into(),
+        Err(line) => line,
+    })
+}
+
 /// Holds model and archive to the recorded list; lines that begin with `ok` or `FAIL`.
 pub fn replay() -> Vec<String> {
-    let Ok(text) = std::fs::read_to_string(path()) else {
-        return vec!["FAIL recorded: the list is missing, make it with --record".into()];
-    };
-    if ORIGINAL_HERE {
-        return vec![match made() == text {
-            true => "ok   recorded: the list is current".into(),
-            false => "FAIL recorded: the list is not current, make it with --record".into(),
-        }];
+    match text() {
+        Ok(text) => calls().flat_map(|call| held(&text, call)).collect(),
+        Err(line) => vec![line],
+    }
+}
+
+fn held(text: &str, call: &'static str) -> Vec<String> {
+    let words: Vec<&str> = text
+        .lines()
+        .map(|line| line.split(' ').collect::<Vec<_>>())
+        .find(|words| words[0] == call)
+        .unwrap_or_default();
+    let (all, list) = cases(call);
+    if words.len() != 2 + CASES {
+        let count = words.len().saturating_sub(2);
+        return vec![format!("FAIL {call} recorded: {count} answers of {CASES}")];
+    }
+    if words[1] != format!("{all:016x}") {
+        return vec![format!("FAIL {call} recorded: the inputs are others, make it with --record")];
     }
     let archive = Archive::default();
     let mut lines = Vec::new();
-    for call in calls() {
-        let Some(line) = text.lines().find(|l| l.split(' ').next() == Some(call)) else {
-            lines.push(format!("FAIL {call} recorded: no line for it, make it with --record"));
-            continue;
-        };
-        let words: Vec<&str> = line.split(' ').collect();
-        let (all, list) = cases(call);
-        if words[1] != format!("{all:016x}") {
-            lines.push(format!(
-                "FAIL {call} recorded: the inputs are others, make it with --record"
-            ));
-            continue;
-        }
-        let mut held = |what: &str, answer: &dyn Fn(&[Arg]) -> Option<Outcome>| {
-            let mut different = 0;
-            let mut same = 0;
-            for (args, word) in list.iter().zip(&words[2..]) {
-                match (*word, answer(args)) {
-                    ("n", _) => {}
-                    ("p", Some(said)) if [11, 12].contains(&said.code) => same += 1,
-                    (word, Some(said)) if word_of(call, &said) == word => same += 1,
-                    _ => different += 1,
+    let mut held = |what: &str, answer: &dyn Fn(&[Arg]) -> Option<Outcome>| {
+        let (mut same, mut results, mut different) = (0, 0, 0);
+        for (args, word) in list.iter().zip(&words[2..]) {
+            match (*word, answer(args)) {
+                ("n", _) => {}
+                ("p", Some(said)) if [11, 12].contains(&said.code) => same += 1,
+                (word, Some(said)) if word_of(call, &said) == word => {
+                    same += 1;
+                    results += usize::from(word.len() == 8);
                 }
+                _ => different += 1,
             }
-            let mark = if different == 0 { "ok  " } else { "FAIL" };
-            lines.push(format!(
-                "{mark} {call} recorded/{what}: {same} the same, {different} differ"
-            ));
-        };
-        held("model", &|args| Some(outcome(call, args)));
-        if archive::has(call) {
-            held("archive", &|args| archive.run(call, args, true).ok());
         }
+        // Answers that are all refusals would not show what an accepted call gives.
+        let mark = if different == 0 && results > 0 { "ok  " } else { "FAIL" };
+        lines.push(format!(
+            "{mark} {call} recorded/{what}: {same} the same, of these {results} results, {different} differ"
+        ));
+    };
+    held("model", &|args| Some(outcome(call, args)));
+    if archive::has(call) {
+        held("archive", &|args| archive.run(call, args, true).ok());
     }
     lines
+}
+
+#[cfg(test)]
+mod tests {
+    use super::*;
+
+    fn line(call: &'static str, change: impl Fn(&mut Vec<String>)) -> String {
+        let text = text().expect("the recorded list");
+        let line = text.lines().find(|l| l.split(' ').next() == Some(call)).expect("its line");
+        let mut words: Vec<String> = line.split(' ').map(str::to_string).collect();
+        change(&mut words);
+        held(&words.join(" "), call).swap_remove(0)
+    }
+
+    #[test]
+    fn a_list_that_is_cut_short_fails() {
+        let call = "backref_add_inline_tree_ref";
+        assert!(line(call, |_| {}).starts_with("ok"));
+        for left in [0, 1, 2, 3, 2 + CASES / 2, 1 + CASES] {
+            let cut = line(call, |words| words.truncate(left));
+            assert!(cut.starts_with("FAIL"), "{left}: {cut}");
+        }
+        assert!(line(call, |words| words.push("r".into())).starts_with("FAIL"));
+        assert!(held("", call)[0].starts_with("FAIL"));
+    }
+
+    #[test]
+    fn answers_that_compare_nothing_fail() {
+        let call = "backref_add_inline_tree_ref";
+        for word in ["n", "r", "a", "00000000"] {
+            let all = line(call, |words| words[2..].fill(word.into()));
+            assert!(all.starts_with("FAIL"), "{word}: {all}");
+        }
+        assert!(line(call, |words| words[1] = "0".into()).starts_with("FAIL"));
+    }
 }

@@ -10,7 +10,7 @@ fn hex(bytes: &[u8]) -> String {
 
 /// Name and value of each argument; lent outputs by their length.
 pub fn args(call: &str, args: &[Arg]) -> String {
-    let named = crate::generate::parameters(call).into_iter().zip(args);
+    let named = crate::generate::parameters(call).iter().zip(args);
     let words: Vec<String> = named
         .map(|((name, _), arg)| match arg {
             Arg::Number(n) => format!("{name}={n}"),

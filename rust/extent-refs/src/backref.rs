@@ -1,5 +1,5 @@
 //! Inline references of an extent item, with the signatures of the driver's `backref`.
-use crate::answer::{accepted, cuts, edited, number, written};
+use crate::answer::{accepted, edited, number, written};
 use crate::error::Result;
 use crate::lent;
 
@@ -13,17 +13,18 @@ pub const SHARED_DATA_REF: u8 = 184;
 /// The longest inline reference: a data reference with its type byte.
 const LONGEST: usize = 29;
 
-/// One inline reference: its type byte and the payload after it.
-#[derive(Debug, Clone, PartialEq, Eq)]
-pub struct InlineRef {
+/// One inline reference: its type byte and the payload after it, a part of the caller's body.
+#[derive(Debug, Clone, Copy, PartialEq, Eq)]
+pub struct InlineRef<'a> {
     pub kind: u8,
-    pub payload: Vec<u8>,
+    pub payload: &'a [u8],
+    offset: u64,
 }
 
-impl InlineRef {
-    /// The first eight payload bytes.
+impl InlineRef<'_> {
+    /// The first eight payload bytes: the tree, or the parent.
     pub fn offset(&self) -> u64 {
-        u64::from_le_bytes(self.payload[..8].try_into().expect("every payload has 8 bytes"))
+        self.offset
     }
 }
 
@@ -38,21 +39,34 @@ pub fn flags(body: &[u8]) -> Option<u64> {
     number(|value| lent::backref_flags(body, value)).ok()
 }
 
-pub fn inline_refs(item_type: u8, body: &[u8]) -> Result<Vec<InlineRef>> {
-    // No reference is shorter than 9 bytes.
-    let room = body.len() / 9 + 1;
-    let starts = cuts(room, |positions, count| {
-        lent::backref_inline_refs(item_type, body, positions, count)
-    })?;
-    let ends = starts.iter().skip(1).map(|&at| usize::from(at)).chain([body.len()]);
-    Ok(starts
-        .iter()
-        .zip(ends)
-        .map(|(&at, end)| InlineRef {
-            kind: body[usize::from(at)],
-            payload: body[usize::from(at) + 1..end].to_vec(),
-        })
-        .collect())
+/// Each reference is one call, which reads the body from its start.
+pub fn inline_refs(item_type: u8, body: &[u8]) -> Result<Vec<InlineRef<'_>>> {
+    let mut refs = Vec::new();
+    while let Some(next) = inline_ref(item_type, body, refs.len() as u64)? {
+        refs.push(next);
+    }
+    Ok(refs)
+}
+
+/// Reference number `number` of a body, from 0; `None` past the last.
+pub fn inline_ref(item_type: u8, body: &[u8], number: u64) -> Result<Option<InlineRef<'_>>> {
+    let (mut kind, mut offset, mut start, mut len) = (0, 0, 0, 0);
+    let code = lent::backref_inline_ref(
+        item_type,
+        body,
+        number,
+        &mut kind,
+        &mut offset,
+        &mut start,
+        &mut len,
+    );
+    // Of a body that reads, 5 says that there is no such reference.
+    if code == 5 {
+        return Ok(None);
+    }
+    accepted(code)?;
+    let payload = &body[start as usize..][..len as usize];
+    Ok(Some(InlineRef { kind: kind as u8, payload, offset }))
 }
 
 pub fn take_inline_shared(

@@ -1,11 +1,57 @@
-//! Written by tools/declarations from crates/extent_refs/src: do not edit.
+//! Written by tools/declarations from include/calls.txt: do not edit.
 //!
 //! The plain form, which allocates nothing: the caller lends the output. A call returns 0 where
 //! it is accepted, else the number of the question that refused it, 100 for absent and 101 for
 //! remove. On anything but 0 every lent number is 0 and every other lent byte keeps its value;
-//! past an accepted result too.
+//! past an accepted result too. include/extent_refs.h says what each call asks and gives.
 #![allow(clippy::too_many_arguments)]
 use crate::raw;
+
+pub fn extent_write_data_ref_hash(tree: u64, objectid: u64, offset: u64) -> u64 {
+    unsafe { raw::extent_write_data_ref_hash(tree, objectid, offset) }
+}
+
+pub fn extent_write_tree_block_key(
+    bytenr: u64,
+    level: u8,
+    objectid: &mut u64,
+    kind: &mut u64,
+    offset: &mut u64,
+) -> u32 {
+    unsafe { raw::extent_write_tree_block_key(bytenr, level, objectid, kind, offset) }
+}
+
+pub fn extent_write_tree_block_body(
+    generation: u64,
+    owner: u64,
+    out: &mut [u8],
+    len: &mut u64,
+) -> u32 {
+    unsafe {
+        raw::extent_write_tree_block_body(generation, owner, out.as_mut_ptr(), out.len(), len)
+    }
+}
+
+pub fn extent_write_data_extent_body(
+    generation: u64,
+    root: u64,
+    ino: u64,
+    offset: u64,
+    out: &mut [u8],
+    len: &mut u64,
+) -> u32 {
+    unsafe {
+        raw::extent_write_data_extent_body(
+            generation,
+            root,
+            ino,
+            offset,
+            out.as_mut_ptr(),
+            out.len(),
+            len,
+        )
+    }
+}
 
 pub fn backref_flags(body: &[u8], value: &mut u64) -> u32 {
     unsafe { raw::backref_flags(body.as_ptr(), body.len(), value) }
@@ -25,6 +71,29 @@ pub fn backref_inline_refs(
             positions.as_mut_ptr(),
             positions.len(),
             count,
+        )
+    }
+}
+
+pub fn backref_inline_ref(
+    item_type: u8,
+    body: &[u8],
+    number: u64,
+    kind: &mut u64,
+    offset: &mut u64,
+    start: &mut u64,
+    len: &mut u64,
+) -> u32 {
+    unsafe {
+        raw::backref_inline_ref(
+            item_type,
+            body.as_ptr(),
+            body.len(),
+            number,
+            kind,
+            offset,
+            start,
+            len,
         )
     }
 }
@@ -336,45 +405,199 @@ pub fn backref_with_flags(body: &[u8], set: u64, out: &mut [u8], len: &mut u64) 
     }
 }
 
-pub fn extent_write_data_ref_hash(tree: u64, objectid: u64, offset: u64) -> u64 {
-    unsafe { raw::extent_write_data_ref_hash(tree, objectid, offset) }
-}
-
-pub fn extent_write_tree_block_key(
-    bytenr: u64,
-    level: u8,
-    objectid: &mut u64,
-    kind: &mut u64,
-    offset: &mut u64,
-) -> u32 {
-    unsafe { raw::extent_write_tree_block_key(bytenr, level, objectid, kind, offset) }
-}
-
-pub fn extent_write_tree_block_body(
-    generation: u64,
-    owner: u64,
-    out: &mut [u8],
-    len: &mut u64,
+pub fn transaction_held_only_by(
+    body: &[u8],
+    root: u64,
+    ino: u64,
+    offsets: &[u64],
+    holds: &mut u64,
 ) -> u32 {
     unsafe {
-        raw::extent_write_tree_block_body(generation, owner, out.as_mut_ptr(), out.len(), len)
+        raw::transaction_held_only_by(
+            body.as_ptr(),
+            body.len(),
+            root,
+            ino,
+            offsets.as_ptr(),
+            offsets.len(),
+            holds,
+        )
     }
 }
 
-pub fn extent_write_data_extent_body(
-    generation: u64,
-    root: u64,
-    ino: u64,
+pub fn transaction_keyed_data_ref_names(
+    item: &[u8],
+    tree: u64,
+    objectid: u64,
     offset: u64,
+    names: &mut u64,
+) -> u32 {
+    unsafe {
+        raw::transaction_keyed_data_ref_names(
+            item.as_ptr(),
+            item.len(),
+            tree,
+            objectid,
+            offset,
+            names,
+        )
+    }
+}
+
+pub fn transaction_shared_add_item(kind: u8, count: u32, out: &mut [u8], len: &mut u64) -> u32 {
+    unsafe { raw::transaction_shared_add_item(kind, count, out.as_mut_ptr(), out.len(), len) }
+}
+
+pub fn transaction_shared_add_key(
+    bytenr: u64,
+    kind: u8,
+    parent: u64,
+    objectid: &mut u64,
+    key_kind: &mut u64,
+    offset: &mut u64,
+) -> u32 {
+    unsafe { raw::transaction_shared_add_key(bytenr, kind, parent, objectid, key_kind, offset) }
+}
+
+pub fn transaction_shared_add_inline_size(kind: u8, size: &mut u64) -> u32 {
+    unsafe { raw::transaction_shared_add_inline_size(kind, size) }
+}
+
+pub fn transaction_max_inline_extent_item(nodesize: u32, limit: &mut u64) -> u32 {
+    unsafe { raw::transaction_max_inline_extent_item(nodesize, limit) }
+}
+
+pub fn transaction_record_of(sheet: &[u8], bytenr: u64, number: &mut u64) -> u32 {
+    unsafe { raw::transaction_record_of(sheet.as_ptr(), sheet.len(), bytenr, number) }
+}
+
+pub fn transaction_apply_keyed_add_block(
+    nodesize: u32,
+    sheet: &[u8],
+    bytenr: u64,
+    tree: u64,
+    count: u32,
+    as_item: bool,
     out: &mut [u8],
     len: &mut u64,
 ) -> u32 {
     unsafe {
-        raw::extent_write_data_extent_body(
-            generation,
-            root,
-            ino,
+        raw::transaction_apply_keyed_add_block(
+            nodesize,
+            sheet.as_ptr(),
+            sheet.len(),
+            bytenr,
+            tree,
+            count,
+            as_item,
+            out.as_mut_ptr(),
+            out.len(),
+            len,
+        )
+    }
+}
+
+pub fn transaction_apply_keyed_add_data(
+    nodesize: u32,
+    sheet: &[u8],
+    bytenr: u64,
+    tree: u64,
+    objectid: u64,
+    offset: u64,
+    count: u32,
+    as_item: bool,
+    out: &mut [u8],
+    len: &mut u64,
+) -> u32 {
+    unsafe {
+        raw::transaction_apply_keyed_add_data(
+            nodesize,
+            sheet.as_ptr(),
+            sheet.len(),
+            bytenr,
+            tree,
+            objectid,
             offset,
+            count,
+            as_item,
+            out.as_mut_ptr(),
+            out.len(),
+            len,
+        )
+    }
+}
+
+pub fn transaction_apply_shared_add(
+    nodesize: u32,
+    sheet: &[u8],
+    bytenr: u64,
+    kind: u8,
+    parent: u64,
+    count: u32,
+    as_item: bool,
+    out: &mut [u8],
+    len: &mut u64,
+) -> u32 {
+    unsafe {
+        raw::transaction_apply_shared_add(
+            nodesize,
+            sheet.as_ptr(),
+            sheet.len(),
+            bytenr,
+            kind,
+            parent,
+            count,
+            as_item,
+            out.as_mut_ptr(),
+            out.len(),
+            len,
+        )
+    }
+}
+
+pub fn transaction_apply_shared_drop(
+    sheet: &[u8],
+    bytenr: u64,
+    kind: u8,
+    parent: u64,
+    count: u32,
+    as_item: bool,
+    out: &mut [u8],
+    len: &mut u64,
+) -> u32 {
+    unsafe {
+        raw::transaction_apply_shared_drop(
+            sheet.as_ptr(),
+            sheet.len(),
+            bytenr,
+            kind,
+            parent,
+            count,
+            as_item,
+            out.as_mut_ptr(),
+            out.len(),
+            len,
+        )
+    }
+}
+
+pub fn transaction_drop_kept_tree_ref(
+    sheet: &[u8],
+    bytenr: u64,
+    level: u8,
+    tree: u64,
+    own: bool,
+    out: &mut [u8],
+    len: &mut u64,
+) -> u32 {
+    unsafe {
+        raw::transaction_drop_kept_tree_ref(
+            sheet.as_ptr(),
+            sheet.len(),
+            bytenr,
+            level,
+            tree,
+            own,
             out.as_mut_ptr(),
             out.len(),
             len,
@@ -517,195 +740,6 @@ pub fn ledger_post(
             b,
             c,
             amount,
-            out.as_mut_ptr(),
-            out.len(),
-            len,
-        )
-    }
-}
-
-pub fn transaction_held_only_by(
-    body: &[u8],
-    root: u64,
-    ino: u64,
-    offsets: &[u64],
-    holds: &mut u64,
-) -> u32 {
-    unsafe {
-        raw::transaction_held_only_by(
-            body.as_ptr(),
-            body.len(),
-            root,
-            ino,
-            offsets.as_ptr(),
-            offsets.len(),
-            holds,
-        )
-    }
-}
-
-pub fn transaction_keyed_data_ref_names(
-    item: &[u8],
-    tree: u64,
-    objectid: u64,
-    offset: u64,
-    names: &mut u64,
-) -> u32 {
-    unsafe {
-        raw::transaction_keyed_data_ref_names(
-            item.as_ptr(),
-            item.len(),
-            tree,
-            objectid,
-            offset,
-            names,
-        )
-    }
-}
-
-pub fn transaction_shared_add_item(kind: u8, count: u32, out: &mut [u8], len: &mut u64) -> u32 {
-    unsafe { raw::transaction_shared_add_item(kind, count, out.as_mut_ptr(), out.len(), len) }
-}
-
-pub fn transaction_shared_add_inline_size(kind: u8, size: &mut u64) -> u32 {
-    unsafe { raw::transaction_shared_add_inline_size(kind, size) }
-}
-
-pub fn transaction_max_inline_extent_item(nodesize: u32, limit: &mut u64) -> u32 {
-    unsafe { raw::transaction_max_inline_extent_item(nodesize, limit) }
-}
-
-pub fn transaction_record_of(sheet: &[u8], bytenr: u64, number: &mut u64) -> u32 {
-    unsafe { raw::transaction_record_of(sheet.as_ptr(), sheet.len(), bytenr, number) }
-}
-
-pub fn transaction_apply_keyed_add_block(
-    nodesize: u32,
-    sheet: &[u8],
-    bytenr: u64,
-    tree: u64,
-    count: u32,
-    as_item: bool,
-    out: &mut [u8],
-    len: &mut u64,
-) -> u32 {
-    unsafe {
-        raw::transaction_apply_keyed_add_block(
-            nodesize,
-            sheet.as_ptr(),
-            sheet.len(),
-            bytenr,
-            tree,
-            count,
-            as_item,
-            out.as_mut_ptr(),
-            out.len(),
-            len,
-        )
-    }
-}
-
-pub fn transaction_apply_keyed_add_data(
-    nodesize: u32,
-    sheet: &[u8],
-    bytenr: u64,
-    tree: u64,
-    objectid: u64,
-    offset: u64,
-    count: u32,
-    as_item: bool,
-    out: &mut [u8],
-    len: &mut u64,
-) -> u32 {
-    unsafe {
-        raw::transaction_apply_keyed_add_data(
-            nodesize,
-            sheet.as_ptr(),
-            sheet.len(),
-            bytenr,
-            tree,
-            objectid,
-            offset,
-            count,
-            as_item,
-            out.as_mut_ptr(),
-            out.len(),
-            len,
-        )
-    }
-}
-
-pub fn transaction_apply_shared_add(
-    nodesize: u32,
-    sheet: &[u8],
-    bytenr: u64,
-    kind: u8,
-    parent: u64,
-    count: u32,
-    as_item: bool,
-    out: &mut [u8],
-    len: &mut u64,
-) -> u32 {
-    unsafe {
-        raw::transaction_apply_shared_add(
-            nodesize,
-            sheet.as_ptr(),
-            sheet.len(),
-            bytenr,
-            kind,
-            parent,
-            count,
-            as_item,
-            out.as_mut_ptr(),
-            out.len(),
-            len,
-        )
-    }
-}
-
-pub fn transaction_apply_shared_drop(
-    sheet: &[u8],
-    bytenr: u64,
-    kind: u8,
-    parent: u64,
-    count: u32,
-    as_item: bool,
-    out: &mut [u8],
-    len: &mut u64,
-) -> u32 {
-    unsafe {
-        raw::transaction_apply_shared_drop(
-            sheet.as_ptr(),
-            sheet.len(),
-            bytenr,
-            kind,
-            parent,
-            count,
-            as_item,
-            out.as_mut_ptr(),
-            out.len(),
-            len,
-        )
-    }
-}
-
-pub fn transaction_drop_kept_tree_ref(
-    sheet: &[u8],
-    bytenr: u64,
-    level: u8,
-    tree: u64,
-    own: bool,
-    out: &mut [u8],
-    len: &mut u64,
-) -> u32 {
-    unsafe {
-        raw::transaction_drop_kept_tree_ref(
-            sheet.as_ptr(),
-            sheet.len(),
-            bytenr,
-            level,
-            tree,
-            own,
             out.as_mut_ptr(),
             out.len(),
             len,

@@ -25,10 +25,10 @@ pub mod tree_write;
 
 mod answer;
 
-pub use missing::{LINKED, LOST, MISSING};
+pub use missing::{LINKED, MISSING};
 
-/// `MISSING`: the declared calls that the linked archive does not define. `LOST`: those of them
-/// that the source exports, so that the archive is an old one. `LINKED`: whether there is one.
+/// `MISSING`: the declared calls that the linked archive does not define. `LINKED`: whether there
+/// is an archive.
 mod missing {
     #[allow(unused_imports)]
     use super::not_there;

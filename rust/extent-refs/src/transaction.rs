@@ -1,5 +1,5 @@
 //! The functions of the driver's `transaction` that keep an extent's record in step.
-use crate::answer::{number, written};
+use crate::answer::{accepted, number, written};
 use crate::backref::Keyed;
 use crate::chunk::DiskKey;
 use crate::error::Result;
@@ -59,15 +59,30 @@ pub struct SharedAdd {
 }
 
 impl SharedAdd {
+    /// The key of the item it is filed as.
+    ///
+    /// # Panics
+    ///
+    /// For a kind that is neither 182 nor 184: the driver's signature has no error here.
     pub fn item_key(&self) -> DiskKey {
-        DiskKey { objectid: self.bytenr, key_type: self.kind, offset: self.parent }
+        let (mut objectid, mut key_kind, mut offset) = (0, 0, 0);
+        accepted(lent::transaction_shared_add_key(
+            self.bytenr,
+            self.kind,
+            self.parent,
+            &mut objectid,
+            &mut key_kind,
+            &mut offset,
+        ))
+        .expect("a shared kind");
+        DiskKey { objectid, key_type: key_kind as u8, offset }
     }
 
     /// The item it is filed as.
     ///
     /// # Panics
     ///
-    /// For a kind that is neither 182 nor 184: the driver's signature has no error here.
+    /// As [`SharedAdd::item_key`].
     pub fn item(&self) -> OwnedItem {
         let data = written(4, |out, len| {
             lent::transaction_shared_add_item(self.kind, self.count, out, len)
@@ -80,7 +95,7 @@ impl SharedAdd {
     ///
     /// # Panics
     ///
-    /// As [`SharedAdd::item`].
+    /// As [`SharedAdd::item_key`].
     pub fn inline_size(&self) -> usize {
         number(|size| lent::transaction_shared_add_inline_size(self.kind, size))
             .expect("a shared kind") as usize

@@ -1,7 +1,7 @@
 //! The functions of the original's transaction.rs that document 01 names.
 use crate::asked::{ask, want, Asked, Stop};
 use crate::body::{shared_kind, total_edit, Body, BLOCK, SHARED_DATA};
-use crate::sheet::{held, nodesize, read, remove, Item};
+use crate::sheet::{held, nodesize, read, remove, Item, Key};
 
 pub fn max_inline_extent_item(size: u32) -> Asked<u64> {
     nodesize(size)?;
@@ -26,6 +26,11 @@ pub fn record_of(sheet: &[u8], bytenr: u64) -> Asked<u64> {
 pub fn shared_add_item(kind: u8, count: u32) -> Asked<Vec<u8>> {
     shared_kind(kind)?;
     Ok(if kind == SHARED_DATA { count.to_le_bytes().to_vec() } else { vec![] })
+}
+
+pub fn shared_add_key(bytenr: u64, kind: u8, parent: u64) -> Asked<Key> {
+    shared_kind(kind)?;
+    Ok((bytenr, kind, parent))
 }
 
 pub fn shared_add_inline_size(kind: u8) -> Asked<u64> {

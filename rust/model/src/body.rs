@@ -293,6 +293,21 @@ pub fn inline_refs(item_type: u8, body: &[u8]) -> Asked<Vec<u16>> {
     Ok(positions)
 }
 
+/// Reference number `number`: its kind, its first field, and where its payload starts and how
+/// long it is.
+pub fn inline_ref(item_type: u8, body: &[u8], number: u64) -> Asked<[u64; 4]> {
+    let read = opened(item_type, body)?;
+    let mut start = read.start() + 1;
+    for (at, r) in read.references.iter().enumerate() {
+        let length = r.payload().len();
+        if at as u64 == number {
+            return Ok([u64::from(r.kind), r.fields[0], start as u64, length as u64]);
+        }
+        start += length + 1;
+    }
+    Err(Stop::Refused(5))
+}
+
 pub fn take_inline_shared(
     item_type: u8,
     body: &[u8],

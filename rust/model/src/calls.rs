@@ -112,6 +112,7 @@ pub fn answer(call: &str, args: &[Arg]) -> Asked<Written> {
 
         "backref_flags" => numbers(&[body::flags(g.bytes())?]),
         "backref_inline_refs" => cuts(body::inline_refs(g.u8(), g.bytes())?),
+        "backref_inline_ref" => numbers(&body::inline_ref(g.u8(), g.bytes(), g.u64())?),
         "backref_take_inline_shared" => {
             let (left, count) = body::take_inline_shared(g.u8(), g.bytes(), g.u8(), g.u64())?;
             let mut written = bytes(left);
@@ -165,6 +166,10 @@ pub fn answer(call: &str, args: &[Arg]) -> Asked<Written> {
             truth(body::keyed_data_ref_names(g.bytes(), g.triple())?)
         }
         "transaction_shared_add_item" => bytes(apply::shared_add_item(g.u8(), g.u32())?),
+        "transaction_shared_add_key" => {
+            let (objectid, kind, offset) = apply::shared_add_key(g.u64(), g.u8(), g.u64())?;
+            numbers(&[objectid, u64::from(kind), offset])
+        }
         "transaction_shared_add_inline_size" => numbers(&[apply::shared_add_inline_size(g.u8())?]),
         "transaction_max_inline_extent_item" => numbers(&[apply::max_inline_extent_item(g.u32())?]),
         "transaction_record_of" => numbers(&[apply::record_of(g.bytes(), g.u64())?]),
@@ -270,48 +275,3 @@ pub fn outcome(call: &str, args: &[Arg]) -> Outcome {
     }
     Outcome { code, args: after }
 }
-
-/// The parameters of each call, name and kind, as shared/calls.txt writes them.
-pub const PARAMETERS: &[(&str, &str)] = &[
-    ("extent_write_data_ref_hash", "tree:u64 objectid:u64 offset:u64"),
-    ("extent_write_tree_block_key", "bytenr:u64 level:u8 objectid:lent kind:lent offset:lent"),
-    ("extent_write_tree_block_body", "generation:u64 owner:u64 out:out len:lent"),
-    ("extent_write_data_extent_body", "generation:u64 root:u64 ino:u64 offset:u64 out:out len:lent"),
-    ("backref_flags", "body:bytes value:lent"),
-    ("backref_inline_refs", "item_type:u8 body:bytes positions:cuts count:lent"),
-    ("backref_take_inline_shared", "item_type:u8 body:bytes kind:u8 parent:u64 out:out len:lent count:lent"),
-    ("backref_add_inline_keyed_block", "item_type:u8 body:bytes tree:u64 count:u32 out:out len:lent"),
-    ("backref_add_inline_keyed_data", "item_type:u8 body:bytes tree:u64 objectid:u64 offset:u64 count:u32 out:out len:lent"),
-    ("backref_drop_inline_data_ref", "item_type:u8 body:bytes tree:u64 objectid:u64 offset:u64 out:out len:lent"),
-    ("backref_drop_keyed_data_ref", "item:bytes tree:u64 objectid:u64 offset:u64 out:out len:lent"),
-    ("backref_lower_total", "item_type:u8 body:bytes out:out len:lent"),
-    ("backref_reduce_total", "item_type:u8 body:bytes total_count:u64 out:out len:lent"),
-    ("backref_raise_total", "item_type:u8 body:bytes total_count:u64 out:out len:lent"),
-    ("backref_holds_inline_data_ref", "item_type:u8 body:bytes tree:u64 objectid:u64 offset:u64 holds:lent"),
-    ("backref_add_inline_data_ref", "item_type:u8 body:bytes tree:u64 objectid:u64 offset:u64 out:out len:lent"),
-    ("backref_add_inline_tree_ref", "item_type:u8 body:bytes tree:u64 out:out len:lent"),
-    ("backref_keyed_data_ref_body", "tree:u64 objectid:u64 offset:u64 count:u32 out:out len:lent"),
-    ("backref_add_inline_shared", "item_type:u8 body:bytes kind:u8 parent:u64 count:u32 out:out len:lent"),
-    ("backref_drop_inline_tree_ref", "item_type:u8 body:bytes tree:u64 out:out len:lent"),
-    ("backref_with_flags", "body:bytes set:u64 out:out len:lent"),
-    ("transaction_held_only_by", "body:bytes root:u64 ino:u64 offsets:words holds:lent"),
-    ("transaction_keyed_data_ref_names", "item:bytes tree:u64 objectid:u64 offset:u64 names:lent"),
-    ("transaction_shared_add_item", "kind:u8 count:u32 out:out len:lent"),
-    ("transaction_shared_add_inline_size", "kind:u8 size:lent"),
-    ("transaction_max_inline_extent_item", "nodesize:u32 limit:lent"),
-    ("transaction_record_of", "sheet:bytes bytenr:u64 number:lent"),
-    ("transaction_apply_keyed_add_block", "nodesize:u32 sheet:bytes bytenr:u64 tree:u64 count:u32 as_item:bool out:out len:lent"),
-    ("transaction_apply_keyed_add_data", "nodesize:u32 sheet:bytes bytenr:u64 tree:u64 objectid:u64 offset:u64 count:u32 as_item:bool out:out len:lent"),
-    ("transaction_apply_shared_add", "nodesize:u32 sheet:bytes bytenr:u64 kind:u8 parent:u64 count:u32 as_item:bool out:out len:lent"),
-    ("transaction_apply_shared_drop", "sheet:bytes bytenr:u64 kind:u8 parent:u64 count:u32 as_item:bool out:out len:lent"),
-    ("transaction_drop_kept_tree_ref", "sheet:bytes bytenr:u64 level:u8 tree:u64 own:bool out:out len:lent"),
-    ("leaf_edit_insert", "nodesize:u32 sheet:bytes objectid:u64 kind:u8 offset:u64 data:bytes out:out len:lent"),
-    ("leaf_edit_insert_unbounded", "sheet:bytes objectid:u64 kind:u8 offset:u64 data:bytes out:out len:lent"),
-    ("leaf_edit_delete", "sheet:bytes objectid:u64 kind:u8 offset:u64 out:out len:lent"),
-    ("leaf_edit_fit", "nodesize:u32 sheet:bytes fits:lent"),
-    ("leaf_edit_fits", "nodesize:u32 sheet:bytes data:bytes fits:lent"),
-    ("leaf_edit_split", "sheet:bytes cuts:cuts count:lent"),
-    ("leaf_edit_split_to_fit", "nodesize:u32 sheet:bytes cuts:cuts count:lent"),
-    ("leaf_edit_item", "sheet:bytes number:u64 start:lent len:lent"),
-    ("ledger_post", "nodesize:u32 sheet:bytes change:u8 extent:u64 a:u64 b:u64 c:u64 amount:u32 out:out len:lent"),
-];

@@ -10,6 +10,8 @@ pub mod leaf;
 pub mod ledger;
 pub mod lister;
 pub mod sheet;
+#[rustfmt::skip]
+pub mod table;
 
 #[cfg(test)]
 mod marked;

@@ -1,4 +1,4 @@
-//! The door to the private functions of the original's transaction.rs: calls only, no logic.
+//! Public functions over the private ones of the original's transaction.rs: calls only, no logic.
 use super::*;
 use crate::backref::Keyed;
 use crate::leaf_edit::OwnedItem;
