@@ -21,7 +21,7 @@ pub fn in_order(references: &mut [Reference]) {
         DATA => data_ref_hash(r.fields[0], r.fields[1], r.fields[2]),
         _ => r.fields[0],
     };
-    references.sort_by_key(|r| (r.kind, std::cmp::Reverse(place(r))));
+    references.sort_by_cached_key(|r| (r.kind, std::cmp::Reverse(place(r))));
 }
 
 /// The fixed bytes after the total: generation, flags, and 18 more where they belong.
@@ -47,6 +47,9 @@ pub fn flags(r: &mut Random) -> u64 {
 pub fn body(r: &mut Random, item_type: u8) -> Vec<u8> {
     if r.chance(1, 400) {
         return long(r, item_type);
+    }
+    if r.chance(1, 20) {
+        return middle(r, item_type, 4096);
     }
     let mut references: Vec<_> = (0..r.below(7)).map(|_| reference(r)).collect();
     if r.chance(1, 8) {
@@ -78,6 +81,49 @@ pub fn body(r: &mut Random, item_type: u8) -> Vec<u8> {
     } else {
         bytes
     }
+}
+
+/// Of 344 bytes up to `most`, short ones as often as long ones: tens to thousands of references,
+/// of one kind or of several, well ordered or not, now and then with a name that stands twice.
+pub fn middle(r: &mut Random, item_type: u8, most: usize) -> Vec<u8> {
+    let mut highest = 688;
+    while highest < most && r.chance(3, 4) {
+        highest *= 2;
+    }
+    let highest = highest.min(most);
+    let target = highest / 2 + r.below(highest / 2 + 1);
+    let kinds: Vec<u8> = (0..1 + r.below(4)).map(|_| r.pick(&KINDS)).collect();
+    let flags = flags(r);
+    let mut body = Body { total: 0, fixed: fixed(r, item_type, flags), references: vec![] };
+    let mut length = body.bytes().len();
+    while length + 29 <= target {
+        let mut next = reference(r);
+        while !kinds.contains(&next.kind) {
+            next = reference(r);
+        }
+        // Few names are the same.
+        next.fields[0] = r.below(target) as u64;
+        length += next.bytes().len();
+        body.references.push(next);
+    }
+    if r.chance(3, 4) {
+        in_order(&mut body.references);
+    }
+    body.total = match r.below(3) {
+        0 => r.total(),
+        _ => body.references.iter().fold(0, |n, x| n.wrapping_add(x.weight())),
+    };
+    let mut bytes = body.bytes();
+    // Torn, or of another type, in one place of many.
+    match r.below(12) {
+        0 => bytes.truncate(24 + r.below(bytes.len() - 24)),
+        1 => {
+            let at = r.below(bytes.len());
+            bytes[at] ^= 1 << r.below(8);
+        }
+        _ => {}
+    }
+    bytes
 }
 
 /// Close to the largest length of question 3, on both sides of it.
@@ -165,4 +211,16 @@ pub fn short() -> Vec<(u8, Vec<u8>)> {
         }
     }
     list
+}
+
+#[test]
+fn middle_bodies_have_every_length() {
+    let mut r = Random::new(1);
+    let lengths: Vec<usize> = (0..400).map(|_| middle(&mut r, 169, 65_400).len()).collect();
+    for (low, high) in
+        [(300, 700), (700, 3_000), (3_000, 20_000), (20_000, 50_000), (50_000, 65_401)]
+    {
+        assert!(lengths.iter().any(|n| (low..high).contains(n)), "{low} to {high}");
+    }
+    assert!(lengths.iter().all(|&n| n <= 65_400));
 }

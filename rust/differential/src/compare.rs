@@ -125,7 +125,7 @@ impl Both {
         let args = lent(bare, ample(bare));
         let said = outcome(call, &args);
         self.turn += 1;
-        self.reached.note(&args, said.code, true);
+        self.reached.note(&said.args, said.code, true);
         let verdict = match inside(call, said.code) {
             true => of_original(call, &args),
             false => Verdict::NotAsked,
@@ -156,7 +156,7 @@ impl Both {
         for room in few {
             let args = lent(bare, room);
             let said = outcome(self.call, &args);
-            self.reached.note(&args, said.code, false);
+            self.reached.note(&said.args, said.code, false);
             self.one(&args, &said, self.turn % 2 == 1);
         }
     }

@@ -2,7 +2,11 @@
 use model::sheet::Item;
 use std::path::{Path, PathBuf};
 
-/// The leaves in ../shared/leaves beside the repository, or where EXTENT_REFS_LEAVES says.
+pub const LEFT_OUT: &str =
+    "left out: the folder of real leaves is missing (EXTENT_REFS_LEAVES), so none was read";
+
+/// The leaves in ../shared/leaves beside the repository, or where EXTENT_REFS_LEAVES says; `None`
+/// where there is no such folder.
 pub fn leaves() -> Option<Vec<PathBuf>> {
     let folder = std::env::var("EXTENT_REFS_LEAVES").map(PathBuf::from).unwrap_or_else(|_| {
         PathBuf::from(env!("CARGO_MANIFEST_DIR")).join("../../../shared/leaves")

@@ -45,39 +45,59 @@ struct Draw<'a> {
 pub fn random(call: &'static str, r: &mut Random) -> Vec<Arg> {
     let item_type = r.pick(&[168, 168, 168, 169, 169, 0, 178]);
     let body = bodies::body(r, item_type);
-    draw(call, r, item_type, body, None)
+    let mut d = drawn(call, r, item_type, body, None);
+    if call == "transaction_held_only_by" && d.r.chance(4, 5) {
+        let count = match d.r.below(60) {
+            0 => 100 + d.r.below(500),
+            1..=4 => 5 + d.r.below(60),
+            _ => d.r.below(5),
+        };
+        d.held(count);
+    }
+    d.args()
 }
 
-/// Every short body or sheet of a few forms, and some of the longest.
+/// Every short body or sheet of a few forms, bodies of every length, and some of the longest.
 pub fn edges(call: &'static str, r: &mut Random) -> Vec<Vec<Arg>> {
     let names: Vec<&str> = parameters(call).iter().map(|p| p.0).collect();
     let mut cases = Vec::new();
     if names.contains(&"body") {
-        for _ in 0..40 {
+        for number in 0..100 {
             let item_type = r.pick(&[168, 169]);
-            let body = bodies::long(r, item_type);
-            cases.push(draw(call, r, item_type, body, None));
+            let body = match number % 5 {
+                0 | 1 => bodies::long(r, item_type),
+                _ => bodies::middle(r, item_type, 65_400),
+            };
+            cases.push(drawn(call, r, item_type, body, None).args());
         }
-        cases.extend(bodies::short().into_iter().map(|(t, body)| draw(call, r, t, body, None)));
+        let short = bodies::short().into_iter();
+        cases.extend(short.map(|(t, body)| drawn(call, r, t, body, None).args()));
+    }
+    if names.contains(&"offsets") {
+        for number in 1..=20 {
+            let mut d = drawn(call, r, 168, vec![], None);
+            d.held(110 * number);
+            cases.push(d.args());
+        }
     }
     if names.contains(&"sheet") {
         for number in 0..60 {
             let sheet = if number % 4 == 0 { sheets::large(r) } else { sheets::nearly_full(r) };
-            cases.push(draw(call, r, 168, vec![], Some(sheet)));
+            cases.push(drawn(call, r, 168, vec![], Some(sheet)).args());
         }
         let short = sheets::short().into_iter();
-        cases.extend(short.map(|sheet| draw(call, r, 168, vec![], Some(sheet))));
+        cases.extend(short.map(|sheet| drawn(call, r, 168, vec![], Some(sheet)).args()));
     }
     cases
 }
 
-fn draw(
+fn drawn<'a>(
     call: &'static str,
-    r: &mut Random,
+    r: &'a mut Random,
     item_type: u8,
     body: Vec<u8>,
     sheet: Option<Vec<u8>>,
-) -> Vec<Arg> {
+) -> Draw<'a> {
     let on_sheet = parameters(call).iter().any(|p| p.0 == "sheet");
     let sheet = match sheet {
         Some(sheet) => sheet,
@@ -102,7 +122,7 @@ fn draw(
         focus: Reference::block(0),
     };
     d.prepare();
-    parameters(call).iter().map(|(name, kind)| d.arg(name, kind)).collect()
+    d
 }
 
 impl Draw<'_> {
@@ -143,9 +163,11 @@ impl Draw<'_> {
         };
         self.data = vec![self.r.next() as u8; length];
         self.keyed_item();
-        if self.call == "transaction_held_only_by" && self.r.chance(4, 5) {
-            self.held();
-        }
+    }
+
+    fn args(mut self) -> Vec<Arg> {
+        let parameters = parameters(self.call).iter();
+        parameters.map(|(name, kind)| self.arg(name, kind)).collect()
     }
 
     /// The kinds that the call's name parameters can mean.
@@ -217,22 +239,26 @@ impl Draw<'_> {
         }
     }
 
-    /// A body held only by the lent offsets, or nearly so.
-    fn held(&mut self) {
+    /// A body held only by the lent offsets, of `count` references, or nearly so.
+    fn held(&mut self, count: usize) {
         let (root, ino) = (self.r.field(), self.r.field());
         let mut references = Vec::new();
-        for _ in 0..self.r.below(5) {
-            let (offset, times) = (self.r.field(), self.r.below(4));
+        for number in 0..count {
+            // Hundreds of offsets are told apart; of few some meet.
+            let offset = if count > 60 { 4096 * number as u64 } else { self.r.field() };
+            let most = (4_000 / count).clamp(1, 3);
+            let times = if count > 60 { 1 + self.r.below(most) } else { self.r.below(4) };
             self.offsets.extend(vec![offset; times]);
             if times > 0 || self.r.chance(1, 8) {
                 references.push(Reference::data(root, ino, offset, times as u32));
             }
         }
-        if self.r.chance(1, 200) {
+        if count < 60 && self.r.chance(1, 200) {
             let more = 4_096 - self.offsets.len() + self.r.below(2);
             self.offsets.extend(vec![7; more]);
             references.push(Reference::data(root, ino, 7, more as u32));
         }
+        self.r.shuffle(&mut references);
         self.r.shuffle(&mut self.offsets);
         let mut total = self.offsets.len() as u64;
         let mut flags = 1;
@@ -246,6 +272,14 @@ impl Draw<'_> {
             4 if !references.is_empty() => {
                 let at = self.r.below(references.len());
                 references[at].fields[self.r.below(3)] ^= 1;
+            }
+            5 if !references.is_empty() => {
+                // One of them twice, or with another count.
+                let at = self.r.below(references.len());
+                match self.r.chance(1, 2) {
+                    true => references.push(references[at].clone()),
+                    false => references[at].count = Some(self.r.count()),
+                }
             }
             _ => {}
         }
@@ -395,4 +429,19 @@ pub fn name_of(change: u64, a: u64, b: u64, c: u64) -> Name {
         2 | 5 => (DATA, vec![a, b, c]),
         _ => (a as u8, vec![b]),
     }
+}
+
+#[test]
+fn hundreds_of_references_are_held_or_not() {
+    let call = "transaction_held_only_by";
+    let mut said = [0, 0];
+    for args in edges(call, &mut Random::new(1)) {
+        let many =
+            matches!(&args[0], Arg::Bytes(body) if bodies::references(168, body).len() > 200);
+        let outcome = model::calls::outcome(call, &args);
+        if let (true, 0, Arg::Lent(holds)) = (many, outcome.code, &outcome.args[4]) {
+            said[*holds as usize] += 1;
+        }
+    }
+    assert!(said.iter().all(|&cases| cases > 2), "{said:?}");
 }

@@ -10,7 +10,12 @@ pub struct Reached {
     call: &'static Call,
     /// For each line of questions: with whatever room, and with ample room.
     seen: Vec<[BTreeSet<u64>; 2]>,
+    /// What a call that says yes or no said.
+    truths: BTreeSet<u64>,
 }
+
+/// The lent numbers that are 0 or 1.
+const TRUTHS: [&str; 3] = ["holds", "names", "fits"];
 
 /// What a line of questions says of a code.
 #[derive(Clone, Copy, PartialEq, Eq)]
@@ -60,10 +65,15 @@ fn holds(call: &Call, condition: &str, args: &[Arg]) -> bool {
 impl Reached {
     pub fn new(call: &str) -> Self {
         let call = row(call);
-        Reached { call, seen: call.asks.iter().map(|_| Default::default()).collect() }
+        let seen = call.asks.iter().map(|_| Default::default()).collect();
+        Reached { call, seen, truths: BTreeSet::new() }
     }
 
+    /// The arguments after the call, and its code.
     pub fn note(&mut self, args: &[Arg], code: u64, ample: bool) {
+        if let Some(Arg::Lent(truth)) = self.truth().map(|at| &args[at]).filter(|_| code == 0) {
+            self.truths.insert(*truth);
+        }
         let code = if self.call.result == "u32" { code } else { 0 };
         let asks = self.call.asks.iter();
         let line = asks.clone().position(|(condition, _)| holds(self.call, condition, args));
@@ -74,9 +84,17 @@ impl Reached {
         }
     }
 
+    /// Which argument is a yes or no.
+    fn truth(&self) -> Option<usize> {
+        self.call.parameters.iter().position(|(name, _)| TRUTHS.contains(name))
+    }
+
     /// What is wrong with the codes that came up: with all, those that did not come up, too.
     fn faults(&self, all: bool) -> Vec<String> {
         let mut faults = Vec::new();
+        if all && self.truth().is_some() && self.truths != BTreeSet::from([0, 1]) {
+            faults.push(format!("it says {:?}, and not both 0 and 1", self.truths));
+        }
         for ((condition, questions), [any, ample]) in self.call.asks.iter().zip(&self.seen) {
             let mut fault = |code: u64, text: &str| {
                 let which =

@@ -158,12 +158,14 @@ fn given(r: &mut Random) -> Given {
 }
 
 /// How often the uses of one kind were compared, and how often each gave a result.
+#[cfg_attr(not(original_here), allow(dead_code))]
 #[derive(Default)]
 struct Uses {
     compared: usize,
     gave: Vec<usize>,
 }
 
+#[cfg_attr(not(original_here), allow(dead_code))]
 impl Uses {
     /// The first use in which the two differ.
     fn note(&mut self, original: &[String], archive: &[String]) -> Result<(), String> {

@@ -16,7 +16,7 @@ use std::process::ExitCode;
 
 fn main() -> ExitCode {
     let Some(paths) = dump_tree::leaves() else {
-        println!("the leaves' folder is missing (EXTENT_REFS_LEAVES): skipped");
+        println!("{}", dump_tree::LEFT_OUT);
         println!("0 passed, 0 failed");
         return ExitCode::SUCCESS;
     };
@@ -27,22 +27,21 @@ fn main() -> ExitCode {
             run.faults.push(format!("{name}: {fault}"));
         }
     }
+    let passed = paths.len() - run.faults.len().min(paths.len());
+    run.leaves = paths.len();
+    run.faults.extend(run.nothing());
     for fault in run.faults.iter().take(10) {
         println!("FAIL {fault}");
     }
     println!(
         "{} leaves: {} records with {} inline references and {} reference items as dump-tree lists them",
-        paths.len(), run.records, run.inline, run.own
+        run.leaves, run.records, run.inline, run.own
     );
     println!(
         "{} leaves balance alone; {} extents balance by themselves, {} do not or have no record; {} postings, {} accepted",
         run.leaves_balanced, run.extents, run.unbalanced, run.posted, run.accepted
     );
-    match run.archived {
-        0 => println!("no call of these is in the archive yet"),
-        n => println!("{n} calls put to the archive too"),
-    }
-    let passed = paths.len() - run.faults.len().min(paths.len());
+    println!("{} calls put to the archive too", run.archived);
     println!("{passed} passed, {} failed", run.faults.len());
     if run.faults.is_empty() {
         ExitCode::SUCCESS
@@ -55,6 +54,7 @@ fn main() -> ExitCode {
 struct Run {
     archive: Archive,
     faults: Vec<String>,
+    leaves: usize,
     records: usize,
     inline: usize,
     own: usize,
@@ -69,6 +69,22 @@ struct Run {
 type Fault<T> = Result<T, String>;
 
 impl Run {
+    /// What was not compared at all: each is a fault.
+    fn nothing(&self) -> Vec<String> {
+        let counts = [
+            (self.leaves, "leaf"),
+            (self.records, "record"),
+            (self.inline, "inline reference"),
+            (self.own, "reference item"),
+            (self.extents, "extent that balances"),
+            (self.unbalanced, "extent that does not balance"),
+            (self.accepted, "accepted posting"),
+            (self.archived, "call put to the archive"),
+        ];
+        let none = counts.iter().filter(|(count, _)| *count == 0);
+        none.map(|(_, what)| format!("not one {what}")).collect()
+    }
+
     fn leaf(&mut self, path: &Path) -> Fault<()> {
         let Leaf { items, texts, nodesize } = Leaf::read(path)?;
         read(&bytes(&items)).map_err(|stop| format!("the sheet is refused: {stop:?}"))?;
@@ -272,4 +288,22 @@ fn kind_name(kind: u8) -> &'static str {
         192 => "BLOCK_GROUP_ITEM",
         _ => "UNKNOWN",
     }
+}
+
+#[test]
+fn an_empty_folder_fails() {
+    assert_eq!(Run::default().nothing().len(), 8);
+    let whole = Run {
+        leaves: 1,
+        records: 1,
+        inline: 1,
+        own: 1,
+        extents: 1,
+        unbalanced: 1,
+        accepted: 1,
+        archived: 1,
+        ..Run::default()
+    };
+    assert!(whole.nothing().is_empty());
+    assert_eq!(Run { accepted: 0, ..whole }.nothing(), ["not one accepted posting"]);
 }

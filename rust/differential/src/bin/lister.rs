@@ -4,6 +4,8 @@
 //!
 //! The program is target/bin/lister in the repository, which `rt check lister` makes, or what
 //! EXTENT_REFS_LISTER names.
+//!
+//!     lister [MOST]    no more than that many generated bodies
 use differential::dump_tree::{self, Leaf};
 use differential::generate::{edges, random};
 use differential::random::Random;
@@ -12,11 +14,21 @@ use model::lister::listed;
 use model::sheet::Item;
 use std::collections::BTreeSet;
 use std::io::{ErrorKind, Read, Write};
+use std::os::fd::OwnedFd;
+use std::os::unix::net::UnixStream;
 use std::path::PathBuf;
 use std::process::{Command, ExitCode, Stdio};
 use std::time::Duration;
 
 fn main() -> ExitCode {
+    let most = match std::env::args().nth(1).map(|word| word.parse()) {
+        None => usize::MAX,
+        Some(Ok(most)) => most,
+        Some(Err(_)) => {
+            println!("usage: lister [MOST]");
+            return ExitCode::from(2);
+        }
+    };
     let path = std::env::var("EXTENT_REFS_LISTER").map(PathBuf::from).unwrap_or_else(|_| {
         PathBuf::from(env!("CARGO_MANIFEST_DIR")).join("../../target/bin/lister")
     });
@@ -32,8 +44,15 @@ fn main() -> ExitCode {
     // What arrives in parts is read to its end.
     let parts = run.prints(&[&e()[..20], &e()[20..]], E_TEXT);
     run.count("E in two parts", parts);
-    run.all("generated bodies", &generated());
-    run.leaves();
+    let broken = run.fails_to_read();
+    run.count("a read error after 54 of 83 bytes", broken);
+    run.all("generated bodies", &generated(most));
+    let paths = dump_tree::leaves();
+    if let Some(paths) = &paths {
+        run.leaves(paths);
+    } else {
+        println!("{}", dump_tree::LEFT_OUT);
+    }
     println!("{} passed, {} failed", run.passed, run.failed);
     if run.failed == 0 {
         ExitCode::SUCCESS
@@ -49,9 +68,12 @@ struct Run {
 }
 
 impl Run {
-    /// Counts as one: each input, and the text that has to be printed for it.
+    /// Counts as one: each input, and the text that has to be printed for it. None is a fault.
     fn all(&mut self, name: &str, cases: &[(Vec<u8>, String)]) {
-        let said = cases.iter().try_for_each(|(input, text)| self.prints(&[input], text));
+        let said = match cases {
+            [] => Err("nothing was compared".into()),
+            _ => cases.iter().try_for_each(|(input, text)| self.prints(&[input], text)),
+        };
         self.count(name, said);
     }
 
@@ -98,37 +120,66 @@ impl Run {
         Ok(printed)
     }
 
-    /// Every record of every leaf, a leaf at a time.
-    fn leaves(&mut self) {
-        let Some(paths) = dump_tree::leaves() else {
-            println!("the leaves' folder is missing (EXTENT_REFS_LEAVES): skipped");
-            return;
-        };
+    /// Every record of every leaf, a leaf at a time; a leaf may have none, all of them may not.
+    fn leaves(&mut self, paths: &[PathBuf]) {
         let mut records = 0;
-        for path in &paths {
+        for path in paths {
             let name = path.file_name().unwrap_or_default().to_string_lossy().into_owned();
-            match Leaf::read(path) {
-                Ok(leaf) => {
-                    let cases = records_of(&leaf);
+            match Leaf::read(path).map(|leaf| records_of(&leaf)) {
+                Ok(cases) if cases.is_empty() => {}
+                Ok(cases) => {
                     records += cases.len();
                     self.all(&name, &cases);
                 }
                 Err(fault) => self.count(&name, Err(fault)),
             }
         }
+        if records == 0 {
+            self.count("real leaves", Err("not one record was compared".into()));
+        }
         println!("{records} records of {} leaves as dump-tree lists them", paths.len());
+    }
+
+    /// A read error is no end of input: nothing on standard output, one line on standard error.
+    fn fails_to_read(&self) -> Result<(), String> {
+        let fault = |fault: std::io::Error| fault.to_string();
+        let (ours, theirs) = UnixStream::pair().map_err(fault)?;
+        let whole = input(168, 2, 1, &[&reference(178, &[5, 257, 0], Some(1)).repeat(2)]);
+        (&ours).write_all(&whole[..54]).map_err(fault)?;
+        // Closed with a byte unread, this end resets the other once its 54 bytes are read.
+        (&theirs).write_all(&[0]).map_err(fault)?;
+        drop(ours);
+        let child = Command::new(&self.path)
+            .stdin(Stdio::from(OwnedFd::from(theirs)))
+            .stdout(Stdio::piped())
+            .stderr(Stdio::piped())
+            .spawn()
+            .map_err(fault)?;
+        let said = child.wait_with_output().map_err(fault)?;
+        let told = String::from_utf8_lossy(&said.stderr).into_owned();
+        match (said.stdout.is_empty(), told.lines().count()) {
+            (true, 1) => Ok(()),
+            _ => Err(format!(
+                "it prints {:?}, and on standard error {told:?}",
+                printed(&said.stdout)
+            )),
+        }
     }
 }
 
+fn printed(bytes: &[u8]) -> String {
+    String::from_utf8_lossy(bytes).into_owned()
+}
+
 /// The bodies that the differential run puts to inline_refs, each with the model's text.
-fn generated() -> Vec<(Vec<u8>, String)> {
+fn generated(most: usize) -> Vec<(Vec<u8>, String)> {
     let call = "backref_inline_refs";
     let r = &mut Random::named("lister", 1);
     let mut cases = edges(call, r);
     cases.extend((0..1500).map(|_| random(call, r)));
     let inputs: BTreeSet<Vec<u8>> = cases.iter().filter_map(|args| input_of(args)).collect();
-    println!("{} generated bodies", inputs.len());
-    inputs.into_iter().map(|input| (input.clone(), listed(&input))).collect()
+    println!("{} generated bodies", inputs.len().min(most));
+    inputs.into_iter().take(most).map(|input| (input.clone(), listed(&input))).collect()
 }
 
 fn input_of(args: &[Arg]) -> Option<Vec<u8>> {
@@ -298,4 +349,16 @@ fn kind(byte: u8) -> (Vec<u8>, String) {
         _ => refused(7),
     };
     (input(169, 3, 0, &[&reference(byte, &[0], None)]), text)
+}
+
+#[test]
+fn nothing_compared_fails() {
+    let mut run = Run { path: PathBuf::new(), passed: 0, failed: 0 };
+    run.all("no inputs", &[]);
+    assert_eq!((run.passed, run.failed), (0, 1));
+    run.leaves(&[]);
+    assert_eq!((run.passed, run.failed), (0, 2));
+    // Nor does a program that is not there pass.
+    run.all("E", &[(e(), E_TEXT.into())]);
+    assert_eq!((run.passed, run.failed), (0, 3));
 }
