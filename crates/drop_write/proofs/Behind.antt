@@ -25,8 +25,9 @@ use Rattle.item_list.specs.declared.Sought.the-variants.{Present, Absent}
 use Rattle.item_list.specs.Steps.{itemsOf, Listed}
 use Rattle.item_list.specs.Seeks.{seekIn}
 use Rattle.item_list.proofs.Places.{Sits, sits, no-cut, Inside, inside}
-use Rattle.drop_write.specs.Stands.{Stands}
+use Rattle.record_edit.specs.declared.RecordAt.{RecordAt}
 use Rattle.drop_write.specs.Edits.{behindOf}
+use Rattle.drop_write.proofs.Stands.{Stands}
 
 -- ---- as code tests it
 
@@ -105,7 +106,7 @@ pub record BehindAt (s : List ℕ) (c : Cut Item) (end : ℕ) (key : Key) (from 
   pub stands : Inside s (item .front) (item .hit) from to
   pub after : end ≤ from
 
-module _ {s : List ℕ} {c : Cut Item} {start end n : ℕ} (st : Stands s c start end n) where
+module _ {s : List ℕ} {c : Cut Item} {target : RecordAt} (st : Stands s c target) where
   pub rises : T (rising (itemsOf s))
   rises = sheet-out s (itemsOf s) (st .reads) .3
 
@@ -133,7 +134,7 @@ module _ {s : List ℕ} {c : Cut Item} {start end n : ℕ} (st : Stands s c star
         (ap (cut (hasKey key)) (sym (st .same)) ∙ e)
 
     -- the bytes of the record stand before those of the item
-    follows : (k : Cut Item) → Beyond (c .front) (c .hit) (c .back) k → end ≤ length (sheetBytes (k .front))
+    follows : (k : Cut Item) → Beyond (c .front) (c .hit) (c .back) k → (target .end) ≤ length (sheetBytes (k .front))
     follows k t =
         let l₁ = ap (λ (l : List Item). length (sheetBytes l)) (t .front-is) ∙ ap length (sheet-join (c .front) (c .hit) (t .mid)) in
         let l₂ = length-append (sheetBytes (c .front)) (itemBytes (c .hit) ++ itemsBytes (t .mid)) in
@@ -142,7 +143,7 @@ module _ {s : List ℕ} {c : Cut Item} {start end n : ℕ} (st : Stands s c star
         let l₅ = st .ends in
         omega arith
 
-    pub stands-at : (from to : ℕ) → seekIn key 1 (itemsOf s) ≡ Present from to → BehindAt s c end key from to
+    pub stands-at : (from to : ℕ) → seekIn key 1 (itemsOf s) ≡ Present from to → BehindAt s c (target .end) key from to
     stands-at from to e =
         let t : Sits key (itemsOf s) 1 from to = sits key 1 (itemsOf s) from to e in
         let k : Cut Item = t .at-cut in
@@ -156,18 +157,18 @@ module _ {s : List ℕ} {c : Cut Item} {start end n : ℕ} (st : Stands s c star
           same = f .same;
           parts = parts;
           stands = i;
-          after = subst (λ (m : ℕ). end ≤ m) (i .starts) (follows k parts);
+          after = subst (λ (m : ℕ). (target .end) ≤ m) (i .starts) (follows k parts);
         }
 
-    pub behind-at : (from to : ℕ) → behindOf end (seekIn key 1 (itemsOf s)) ≡ Present from to → BehindAt s c end key from to
-    behind-at from to e = stands-at from to (behind-out end (seekIn key 1 (itemsOf s)) from to e .0)
+    pub behind-at : (from to : ℕ) → behindOf (target .end) (seekIn key 1 (itemsOf s)) ≡ Present from to → BehindAt s c (target .end) key from to
+    behind-at from to e = stands-at from to (behind-out (target .end) (seekIn key 1 (itemsOf s)) from to e .0)
 
-    pub behind-none : (at : ℕ) → behindOf end (seekIn key 1 (itemsOf s)) ≡ Absent at → cut (hasKey key) (itemsOf s) ≡ none
+    pub behind-none : (at : ℕ) → behindOf (target .end) (seekIn key 1 (itemsOf s)) ≡ Absent at → cut (hasKey key) (itemsOf s) ≡ none
     behind-none at e = go (seekIn key 1 (itemsOf s)) refl
       where
         go : (f : Sought) → seekIn key 1 (itemsOf s) ≡ f → cut (hasKey key) (itemsOf s) ≡ none
         go (Absent m) h = no-cut key 1 (itemsOf s) m rises h
         go (Present from to) h =
-            let g : Present from to ≡ Absent at = stands-behind end (seekIn key 1 (itemsOf s)) from to h (stands-at from to h .after) ∙ e in
+            let g : Present from to ≡ Absent at = stands-behind (target .end) (seekIn key 1 (itemsOf s)) from to h (stands-at from to h .after) ∙ e in
             let z : _≡_ {A = ℕ} 0 1 = cc in
             absurd (omega arith)

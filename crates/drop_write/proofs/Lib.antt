@@ -1,3 +1,4 @@
+pub mod Stands
 pub mod Plans
 pub mod Turns
 pub mod Rewrites

@@ -1,20 +1,19 @@
 -- A planned body under no limit: question 17 is never answered "no". Assumes nothing.
-use mathlib.Core.Path.{_≡_, refl, ap, _∙_, subst}
+use mathlib.Core.Path.{_≡_, refl, subst}
 use mathlib.Core.List.{List}
 use Prim.Native.Nat.{ℕ, _≤_}
 use native.Mathlib.Omega.{arith}
 use lib.ListN.{length}
 use borrow.Author.Tests.{le-leb}
-use Rattle.format.specs.declared.Key.{Key}
 use Rattle.format.specs.declared.Edited.{Edited}
 use Rattle.format.specs.Questions.{Answer, ask, bind, Answered}
-use Rattle.item_list.specs.Steps.{itemAt}
 use Rattle.plan_write.specs.declared.plan.Outcome.{Outcome}
 use Rattle.plan_write.specs.declared.plan.Outcome.the-variants.{Edit, Absent, Remove, Refused}
 use Rattle.plan_write.specs.declared.plan.Plan.{Plan}
 use Rattle.plan_write.specs.Plans.{edited, planned, planAnswer, EditIn, PlanIn}
 use Rattle.plan_write.proofs.Outcomes.{plan-is, inside-edit, length-edited}
 use Rattle.record_edit.specs.declared.Behind.{Behind}
+use Rattle.record_edit.specs.declared.RecordAt.{RecordAt}
 use Rattle.record_edit.specs.Records.{dataOf, editedSheet, heldRecord, heldEdit}
 use Rattle.drop_write.specs.Edits.{heldPlan}
 
@@ -41,13 +40,9 @@ module _ (p : Plan) (body : List ℕ) (inside : PlanIn p body) (room count : ℕ
       go Remove e = rw (plan-is p body e)
       go (Refused n) e = rw (plan-is p body e)
 
-pub put-held : (s : List ℕ) (start end : ℕ) (key : Key) (p : Plan) (b : Behind) (room count : ℕ) (r : Edited) (old new : List ℕ)
-    → key ≡ itemAt s start .key
-    → PlanIn p (dataOf s start end)
-    → Answered (bind (planAnswer p (dataOf s start end)) (heldEdit room count 65564 (editedSheet s (record { key = key; start = start; end = end }) b))) r old new
-    → Answered (heldPlan room count s start end p b) r old new
-put-held s start end key p b room count r old new is inside w =
-    let d : List ℕ = dataOf s start end in
-    subst (λ (a : Answer (List ℕ)). Answered a r old new)
-    (ap (λ (k : Key). bind (planAnswer p d) (heldEdit room count 65564 (editedSheet s (record { key = k; start = start; end = end }) b))) is
-    ∙ no-limit p d inside room count (editedSheet s (record { key = itemAt s start .key; start = start; end = end }) b)) w
+pub put-held : (s : List ℕ) (target : RecordAt) (p : Plan) (b : Behind) (room count : ℕ) (r : Edited) (old new : List ℕ)
+    → PlanIn p (dataOf s (target .start) (target .end))
+    → Answered (bind (planAnswer p (dataOf s (target .start) (target .end))) (heldEdit room count 65564 (editedSheet s target b))) r old new
+    → Answered (heldPlan room count s target p b) r old new
+put-held s target p b room count r old new inside w =
+    subst (λ (a : Answer (List ℕ)). Answered a r old new) (no-limit p (dataOf s (target .start) (target .end)) inside room count (editedSheet s target b)) w

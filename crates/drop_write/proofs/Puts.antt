@@ -25,15 +25,16 @@ use Rattle.plan_write.specs.declared.plan.Outcome.the-variants.{Absent}
 use Rattle.plan_write.specs.declared.plan.Plan.{Plan}
 use Rattle.plan_write.specs.Plans.{planAnswer}
 use Rattle.record_edit.specs.declared.Behind.{Behind}
+use Rattle.record_edit.specs.declared.RecordAt.{RecordAt}
 use Rattle.record_edit.specs.Records.{dataOf, editedSheet, heldRecord}
 use Rattle.record_edit.proofs.Held.{held-items, held-bind, all-but}
-use Rattle.drop_write.specs.Stands.{Stands}
-use Rattle.drop_write.specs.Edits.{recordAt, nothing, gone, counts, heldPlan}
+use Rattle.drop_write.specs.Edits.{nothing, gone, counts, heldPlan}
+use Rattle.drop_write.proofs.Stands.{Stands}
 use Rattle.drop_write.proofs.Turns.{not-absent, stays}
 use Rattle.drop_write.proofs.Rewrites.{sheet-part}
 use Rattle.drop_write.proofs.Behind.{BehindAt, rises}
 
-module _ {s : List ℕ} {c : Cut Item} {start end n : ℕ} (st : Stands s c start end n) where
+module _ {s : List ℕ} {c : Cut Item} {target : RecordAt} (st : Stands s c target) where
   -- ---- with other items behind the record
 
   -- the second edit turns what stands behind the record into these items, and makes a list of m
@@ -44,10 +45,10 @@ module _ {s : List ℕ} {c : Cut Item} {start end n : ℕ} (st : Stands s c star
 
   module _ {rest : List Item} {b : Behind} {m : ℕ} (second : Second rest b m) (room : ℕ) where
     pub held-second : (d : List ℕ)
-        → heldSheet room (accepted (c .front ++ withBytes (c .hit) d ∷ rest)) ≡ heldRecord room m (length d) (editedSheet s (recordAt s start end) b d)
+        → heldSheet room (accepted (c .front ++ withBytes (c .hit) d ∷ rest)) ≡ heldRecord room m (length d) (editedSheet s target b d)
     unfolding editedSheet dataFits
     held-second d =
-        held-items room m (length d) (c .front ++ withBytes (c .hit) d ∷ rest) (editedSheet s (recordAt s start end) b d)
+        held-items room m (length d) (c .front ++ withBytes (c .hit) d ∷ rest) (editedSheet s target b d)
         (sheet-replace (c .front ++ c .hit ∷ rest) (c .front) (c .hit) d rest refl
         ∙ (λ j. spliced (st .starts j) (st .ends j) (itemBytes (withBytes (st .hit-is j) d)) (second .inner j)))
         (length-append (c .front) (withBytes (c .hit) d ∷ rest) ∙ sym (length-append (c .front) (c .hit ∷ rest)) ∙ second .many)
@@ -55,17 +56,17 @@ module _ {s : List ℕ} {c : Cut Item} {start end n : ℕ} (st : Stands s c star
 
     pub put-answered : (p : Plan) (a : Answer (List ℕ)) (call : Answer (List Item)) (r : Edited) (old new : List ℕ)
         → call ≡ bind a (λ d. accepted (c .front ++ withBytes (c .hit) d ∷ rest))
-        → planAnswer p (dataOf s start end) ≡ a
-        → Answered (heldPlan room m s start end p b) r old new
+        → planAnswer p (dataOf s (target .start) (target .end)) ≡ a
+        → Answered (heldPlan room m s target p b) r old new
         → Answered (heldSheet room call) r old new
     put-answered p a call r old new is says w =
-        let put : List ℕ → Answer (List ℕ) = λ d. heldRecord room m (length d) (editedSheet s (recordAt s start end) b d) in
+        let put : List ℕ → Answer (List ℕ) = λ d. heldRecord room m (length d) (editedSheet s target b d) in
         let h : heldSheet room call ≡ bind a put = ap (heldSheet room) is ∙ held-bind room a _ put (λ d e. held-second d) in
         subst (λ (x : Answer (List ℕ)). Answered x r old new) (ap (λ (x : Answer (List ℕ)). bind x put) says ∙ sym h) w
 
   -- ---- nothing else changes
 
-  pub as-it-was : Second (c .back) (nothing (length s)) n
+  pub as-it-was : Second (c .back) (nothing (length s)) (target .«item_count»)
   as-it-was =
       let whole : spliced (length s) (length s) [] s ≡ s =
       ap (λ (l : List ℕ). l ++ drop (length s) s) (append-nil (take (length s) s)) ∙ take-append-drop (length s) s in
@@ -78,11 +79,11 @@ module _ {s : List ℕ} {c : Cut Item} {start end n : ℕ} (st : Stands s c star
 
   pub inline-answered : (p : Plan) (a : Answer (List ℕ)) (other : Answer (List Item)) (room : ℕ) (r : Edited) (old new : List ℕ)
       → (p .outcome ≡ Absent → ⊥)
-      → planAnswer p (dataOf s start end) ≡ a
-      → Answered (heldPlan room n s start end p (nothing (length s))) r old new
+      → planAnswer p (dataOf s (target .start) (target .end)) ≡ a
+      → Answered (heldPlan room (target .«item_count») s target p (nothing (length s))) r old new
       → Answered (heldSheet room (ifAbsent (bind a (λ d. accepted (putBack c d))) other)) r old new
   inline-answered p a other room r old new there says w =
-      put-answered as-it-was room p a _ r old new (stays a (putBack c) other (λ e. not-absent p (dataOf s start end) there (says ∙ e))) says w
+      put-answered as-it-was room p a _ r old new (stays a (putBack c) other (λ e. not-absent p (dataOf s (target .start) (target .end)) there (says ∙ e))) says w
 
   -- ---- another body under the record's key
 
@@ -94,7 +95,7 @@ module _ {s : List ℕ} {c : Cut Item} {start end n : ℕ} (st : Stands s c star
 
   -- ---- an item behind the record
 
-  module _ {key : Key} {from to : ℕ} (k : BehindAt s c end key from to) where
+  module _ {key : Key} {from to : ℕ} (k : BehindAt s c (target .end) key from to) where
     abbrev i : Cut Item
     i = k .item
 
@@ -117,7 +118,7 @@ module _ {s : List ℕ} {c : Cut Item} {start end n : ℕ} (st : Stands s c star
         sym (sheet-data (itemsOf s) (i .front) (i .hit) (i .back) (k .same)) ∙ (λ j. part (k .stands .starts j + 21) (size j) (st .bytes-are j))
 
     -- it goes
-    pub without-it : Second (k .parts .mid ++ i .back) (gone from to) (n - 1)
+    pub without-it : Second (k .parts .mid ++ i .back) (gone from to) (target .«item_count» - 1)
     without-it =
         let l₁ = sym (st .count) ∙ ap length (k .same) ∙ length-append (i .front) (i .hit ∷ i .back) in
         let l₂ = length-append (i .front) (i .back) in
@@ -166,7 +167,7 @@ module _ {s : List ℕ} {c : Cut Item} {start end n : ℕ} (st : Stands s c star
           let l = length-written at (leBytes 4 count) (i .hit .bytes) fits-it in
           subst (λ (n : ℕ). T (leb n 65535)) (sym l) (all-mid (λ i. leb (length (i .bytes)) 65535) (i .front) (i .hit) (i .back) fit-at)
 
-      pub counted-it : Second (k .parts .mid ++ with-count ∷ i .back) (counts to count) n
+      pub counted-it : Second (k .parts .mid ++ with-count ∷ i .back) (counts to count) (target .«item_count»)
       counted-it =
           let e = joined (with-count ∷ i .back) in
           record {

@@ -10,16 +10,11 @@ use Rattle.fields.specs.Parts.{part, written}
 use Rattle.format.specs.Questions.{Answer, refused, absent, remove, accepted, bind}
 use Rattle.item_list.specs.declared.Sought.{Sought}
 use Rattle.item_list.specs.declared.Sought.the-variants.{Present, Absent}
-use Rattle.item_list.specs.Steps.{itemAt}
 use Rattle.plan_write.specs.declared.plan.Plan.{Plan}
 use Rattle.plan_write.specs.Plans.{planAnswer}
 use Rattle.record_edit.specs.declared.Behind.{Behind}
-use Rattle.record_edit.specs.declared.Record.{Record}
+use Rattle.record_edit.specs.declared.RecordAt.{RecordAt}
 use Rattle.record_edit.specs.Records.{dataOf, editedSheet, heldRecord}
-
--- the record that stands from `start` up to `end`
-abbrev pub recordAt : List ℕ → ℕ → ℕ → Record
-recordAt s start end = record { key = itemAt s start .key; start = start; end = end }
 
 -- nothing changes behind it; an item goes; the last four bytes of an item are another count
 abbrev pub nothing : ℕ → Behind
@@ -32,9 +27,10 @@ abbrev pub counts : ℕ → ℕ → Behind
 counts to count = record { from = to - 4; to = to; new = leBytes 4 count; size = 4 }
 
 -- question 21 of the list with the planned body and the second edit
-abbrev pub heldPlan : ℕ → ℕ → List ℕ → ℕ → ℕ → Plan → Behind → Answer (List ℕ)
-heldPlan room count s start end plan b =
-    bind (planAnswer plan (dataOf s start end)) (λ body. heldRecord room count (length body) (editedSheet s (recordAt s start end) b body))
+abbrev pub heldPlan : ℕ → ℕ → List ℕ → RecordAt → Plan → Behind → Answer (List ℕ)
+heldPlan room count s target plan b =
+    bind (planAnswer plan (dataOf s (target .start) (target .end))) (λ body.
+    heldRecord room count (length body) (editedSheet s target b body))
 
 -- an item that stands before the end of the record is none of its extent's references
 unfoldable pub behindOf : ℕ → Sought → Sought
@@ -42,13 +38,13 @@ behindOf end (Present from to) = cond (ltb from end) (Absent from) (Present from
 behindOf end (Absent at) = Absent at
 
 -- the same by the answer of an item's own drop: the item goes, or counts one less
-unfoldable pub heldAt : ℕ → ℕ → List ℕ → ℕ → ℕ → ℕ → ℕ → Answer (List ℕ) → List ℕ → Answer (List ℕ)
-heldAt room items s start end from to (refused number) body = refused number
-heldAt room items s start end from to absent body = absent
-heldAt room items s start end from to remove body =
-    heldRecord room (items - 1) (length body) (editedSheet s (recordAt s start end) (gone from to) body)
-heldAt room items s start end from to (accepted item) body =
-    heldRecord room items (length body) (editedSheet s (recordAt s start end) (counts to (le (part (to - 4) 4 s) - 1)) body)
+unfoldable pub heldAt : ℕ → List ℕ → RecordAt → ℕ → ℕ → Answer (List ℕ) → List ℕ → Answer (List ℕ)
+heldAt room s target from to (refused number) body = refused number
+heldAt room s target from to absent body = absent
+heldAt room s target from to remove body =
+    heldRecord room (target .«item_count» - 1) (length body) (editedSheet s target (gone from to) body)
+heldAt room s target from to (accepted item) body =
+    heldRecord room (target .«item_count») (length body) (editedSheet s target (counts to (le (part (to - 4) 4 s) - 1)) body)
 
 -- the own-flag, 256, in the flags that stand at a position
 abbrev pub ownAt : ℕ → List ℕ → List ℕ

@@ -4,7 +4,7 @@ use format::Key;
 use item_list::Sought;
 use plan_write::Plan;
 use record_edit::Behind;
-use record_edit::Record;
+use record_edit::RecordAt;
 ghost use mathlib.Core.Path.{_≡_};
 ghost use Prim.Native.Nat.{_+_, _-_, _≤_};
 ghost use lib.ListN.{length};
@@ -36,38 +36,25 @@ pub fn item_behind(sheet: &[u8], end: usize, key: Key) -> Sought
 // No limit is asked: a planned body has at most 65,564 bytes.
 fn put(
     sheet: &[u8],
-    start: usize,
-    end: usize,
+    target: RecordAt,
     plan: Plan,
     behind: Behind,
     count: usize,
     out: &mut [u8],
 ) -> Edited
-    requires { ⌜ PlanIn plan (dataOf (now sheet) start end) ⌝ }
-    requires { ⌜ BehindIn behind end (now sheet) ⌝ }
-    requires { ⌜ (start + 21 ≤ end) × (length (now sheet) ≤ 262144) ⌝ }
-    ensures { λ r. ⌜ Answered (heldPlan (length (now (out .entry))) count (now (sheet .entry)) start end plan behind) r (now (out .entry)) (now (out .exit)) ⌝ }
+    requires { ⌜ PlanIn plan (dataOf (now sheet) (target .start) (target .end)) ⌝ }
+    requires { ⌜ BehindIn behind (target .end) (now sheet) ⌝ }
+    requires { ⌜ (target .start + 21 ≤ target .end) × (length (now sheet) ≤ 262144) ⌝ }
+    ensures { λ r. ⌜ Answered (heldPlan (length (now (out .entry))) count (now (sheet .entry)) target plan behind) r (now (out .entry)) (now (out .exit)) ⌝ }
 {
-    let stand = Record {
-        key: item_list::key_at(sheet, start),
-        start,
-        end,
-    };
-    record_edit::edit_record(sheet, stand, plan, behind, 65564, count, out)
+    record_edit::edit_record(sheet, target, plan, behind, 65564, count, out)
 }
 
 // The record alone changes.
-pub fn put_record(
-    sheet: &[u8],
-    start: usize,
-    end: usize,
-    plan: Plan,
-    items: usize,
-    out: &mut [u8],
-) -> Edited
-    requires { ⌜ PlanIn plan (dataOf (now sheet) start end) ⌝ }
-    requires { ⌜ (start + 21 ≤ end) × (end ≤ length (now sheet)) × (length (now sheet) ≤ 262144) ⌝ }
-    ensures { λ r. ⌜ Answered (heldPlan (length (now (out .entry))) items (now (sheet .entry)) start end plan (nothing (length (now (sheet .entry))))) r (now (out .entry)) (now (out .exit)) ⌝ }
+pub fn put_record(sheet: &[u8], target: RecordAt, plan: Plan, out: &mut [u8]) -> Edited
+    requires { ⌜ PlanIn plan (dataOf (now sheet) (target .start) (target .end)) ⌝ }
+    requires { ⌜ (target .start + 21 ≤ target .end) × (target .end ≤ length (now sheet)) × (length (now sheet) ≤ 262144) ⌝ }
+    ensures { λ r. ⌜ Answered (heldPlan (length (now (out .entry))) (target .«item_count») (now (sheet .entry)) target plan (nothing (length (now (sheet .entry))))) r (now (out .entry)) (now (out .exit)) ⌝ }
 {
     let n = sheet.len();
     let behind = Behind {
@@ -76,7 +63,7 @@ pub fn put_record(
         new: [0; 4],
         size: 0,
     };
-    put(sheet, start, end, plan, behind, items, out)
+    put(sheet, target, plan, behind, target.item_count, out)
 }
 
 fn one_less(items: usize) -> usize
@@ -91,17 +78,15 @@ fn one_less(items: usize) -> usize
 // With it goes the item that stands from `from` up to `to`.
 pub fn put_without(
     sheet: &[u8],
-    start: usize,
-    end: usize,
+    target: RecordAt,
     plan: Plan,
     from: usize,
     to: usize,
-    items: usize,
     out: &mut [u8],
 ) -> Edited
-    requires { ⌜ PlanIn plan (dataOf (now sheet) start end) ⌝ }
-    requires { ⌜ (start + 21 ≤ end) × (end ≤ from) × (from ≤ to) × (to ≤ length (now sheet)) × (length (now sheet) ≤ 262144) ⌝ }
-    ensures { λ r. ⌜ Answered (heldPlan (length (now (out .entry))) (items - 1) (now (sheet .entry)) start end plan (gone from to)) r (now (out .entry)) (now (out .exit)) ⌝ }
+    requires { ⌜ PlanIn plan (dataOf (now sheet) (target .start) (target .end)) ⌝ }
+    requires { ⌜ (target .start + 21 ≤ target .end) × (target .end ≤ from) × (from ≤ to) × (to ≤ length (now sheet)) × (length (now sheet) ≤ 262144) ⌝ }
+    ensures { λ r. ⌜ Answered (heldPlan (length (now (out .entry))) (target .«item_count» - 1) (now (sheet .entry)) target plan (gone from to)) r (now (out .entry)) (now (out .exit)) ⌝ }
 {
     let behind = Behind {
         from,
@@ -109,7 +94,14 @@ pub fn put_without(
         new: [0; 4],
         size: 0,
     };
-    put(sheet, start, end, plan, behind, one_less(items), out)
+    put(
+        sheet,
+        target,
+        plan,
+        behind,
+        one_less(target.item_count),
+        out,
+    )
 }
 
 // A number of four bytes.
@@ -124,17 +116,15 @@ fn count_bytes(count: u32) -> [u8; 4]
 // With it the item that ends at `to` gets another count in its last four bytes.
 pub fn put_count(
     sheet: &[u8],
-    start: usize,
-    end: usize,
+    target: RecordAt,
     plan: Plan,
     to: usize,
     count: u32,
-    items: usize,
     out: &mut [u8],
 ) -> Edited
-    requires { ⌜ PlanIn plan (dataOf (now sheet) start end) ⌝ }
-    requires { ⌜ (start + 21 ≤ end) × (end + 4 ≤ to) × (to ≤ length (now sheet)) × (length (now sheet) ≤ 262144) ⌝ }
-    ensures { λ r. ⌜ Answered (heldPlan (length (now (out .entry))) items (now (sheet .entry)) start end plan (counts to count)) r (now (out .entry)) (now (out .exit)) ⌝ }
+    requires { ⌜ PlanIn plan (dataOf (now sheet) (target .start) (target .end)) ⌝ }
+    requires { ⌜ (target .start + 21 ≤ target .end) × (target .end + 4 ≤ to) × (to ≤ length (now sheet)) × (length (now sheet) ≤ 262144) ⌝ }
+    ensures { λ r. ⌜ Answered (heldPlan (length (now (out .entry))) (target .«item_count») (now (sheet .entry)) target plan (counts to count)) r (now (out .entry)) (now (out .exit)) ⌝ }
 {
     let behind = Behind {
         from: to - 4,
@@ -142,5 +132,5 @@ pub fn put_count(
         new: count_bytes(count),
         size: 4,
     };
-    put(sheet, start, end, plan, behind, items, out)
+    put(sheet, target, plan, behind, target.item_count, out)
 }

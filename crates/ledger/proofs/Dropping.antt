@@ -1,41 +1,56 @@
 -- A reference dropped, from the record's place to the change. Assumes nothing.
-use mathlib.Core.Path.{sym, subst}
+use mathlib.Core.Path.{_≡_, sym, ap, ap₂, _∙_, subst}
 use mathlib.Core.Bool.{true}
+use mathlib.Core.Option.{Option, some}
 use mathlib.Core.List.{List}
-use Prim.Native.Nat.{ℕ}
-use lib.Dec.{eqb}
+use Prim.Native.Nat.{ℕ, _+_}
+use native.Mathlib.Omega.{arith}
+use lib.Dec.{T, eqb}
+use lib.ListN.{length}
 use mir.Facts.{and-yes}
-use Rattle.fields.specs.Lists.{Cut}
+use Rattle.fields.specs.Lists.{Cut, cut}
 use Rattle.fields.proofs.Lists.{cut-some}
+use Rattle.format.specs.declared.Key.{Key}
 use Rattle.format.specs.declared.Edited.{Edited}
-use Rattle.format.specs.Questions.{Answer, Answered}
-use Rattle.format.specs.Items.{Item, heldSheet}
+use Rattle.format.specs.Questions.{Answer, bind, needed, Answered}
+use Rattle.format.specs.Items.{Item, rising, heldSheet}
+use Rattle.format.specs.Sheets.{hasKey}
 use Rattle.format.specs.Apply.{isRecord, recordOf, onRecord}
-use Rattle.item_list.specs.Steps.{itemsOf}
+use Rattle.format.proofs.Items.{sheet-out}
+use Rattle.format.proofs.Keys.{cut-at-key}
+use Rattle.item_list.specs.Steps.{itemsOf, itemAt}
 use Rattle.transaction.proofs.Spots.{Standing}
-use Rattle.drop_write.specs.Stands.{Stands}
-use Rattle.ledger_adds.proofs.Standings.{on-record}
+use Rattle.record_edit.specs.declared.RecordAt.{RecordAt}
+use Rattle.drop_write.specs.Stands.{onKey}
+use Rattle.drop_write.proofs.Stands.{on-key}
+use Rattle.ledger.specs.Dropping.{StandsFor}
 
 module _ {s : List ℕ} {extent number start end n : ℕ} (st : Standing s extent true number start end n) where
-  pub at-record : Stands s (st .at-cut) start end n
-  at-record =
+  pub stands-for : (key : Key) → key ≡ itemAt s start .key → StandsFor s extent (record { key = key; start = start; end = end; «item_count» = n })
+  stands-for key is =
       let c : Cut Item = st .at-cut in
+      let rises : T (rising (itemsOf s)) = sheet-out s (itemsOf s) (st .reads) .3 in
+      let key-is : c .hit .key ≡ key = ap (λ (i : Item). i .key) (st .hit-is) ∙ sym is in
+      let e₁ = st .starts in
+      let e₂ = st .ends in
       record {
-        reads = st .reads;
-        same = st .same;
-        is-record = and-yes (isRecord (c .hit)) (eqb (c .hit .key .objectid) extent) (cut-some (recordOf extent) (itemsOf s) (st .finds) .hit) .0;
-        hit-is = st .hit-is;
-        ordered = st .ordered;
-        within = st .within;
-        small = st .small;
-        count = st .count;
-        bytes-are = st .bytes-are;
-        starts = st .starts;
-        ends = st .ends;
-        fit = st .fit;
+        stands = record {
+          reads = st .reads;
+          many = st .count;
+          at-cut = c;
+          finds = ap₂ (λ (k : Key) (l : List Item). cut (hasKey k) l) (sym key-is) (st .same)
+              ∙ cut-at-key (c .front) (c .hit) (c .back) (subst (λ (l : List Item). T (rising l)) (st .same) rises);
+          is-record = and-yes (isRecord (c .hit)) (eqb (c .hit .key .objectid) extent) (cut-some (recordOf extent) (itemsOf s) (st .finds) .hit) .0;
+          starts = e₁;
+          ends = omega arith;
+        };
+        first = st .finds;
       }
 
+module _ {s : List ℕ} {extent : ℕ} {target : RecordAt} (h : StandsFor s extent target) where
   pub drop-answered : (call : Cut Item → Answer (List Item)) (room : ℕ) (r : Edited) (old new : List ℕ)
-      → Answered (heldSheet room (call (st .at-cut))) r old new → Answered (heldSheet room (onRecord extent (itemsOf s) call)) r old new
-  drop-answered call room r old new h =
-      subst (λ (a : Answer (List Item)). Answered (heldSheet room a) r old new) (sym (on-record st call)) h
+      → Answered (heldSheet room (onKey (target .key) (itemsOf s) call)) r old new → Answered (heldSheet room (onRecord extent (itemsOf s) call)) r old new
+  unfolding onRecord bind needed
+  drop-answered call room r old new w =
+      subst (λ (a : Answer (List Item)). Answered (heldSheet room a) r old new)
+      (on-key (h .stands) call ∙ sym (ap (λ (o : Option (Cut Item)). bind (needed 5 o) call) (h .first))) w

@@ -32,7 +32,7 @@ use Rattle.item_list.specs.Seeks.{placeIn, recorded, passing}
 use Rattle.item_list.proofs.Reading.{listed, sheet-refused}
 use Rattle.item_list.proofs.Places.{record-missing}
 use Rattle.item_write.proofs.Writes.{answered-no}
-use Rattle.ledger_adds.specs.Known.{BalancedList, RecordAt}
+use Rattle.ledger_adds.specs.Known.{BalancedList, HasRecord}
 use Rattle.ledger_adds.specs.Adding.{sharedRef, addChange}
 use Rattle.ledger.specs.Posting.{beforeFive, SharedWanted}
 
@@ -69,9 +69,9 @@ pub as-change : (nodesize room : ℕ) (items : List Item) {r : Edited} {old new 
 as-change nodesize room items {r} {old} {new} change other e h =
     subst (λ (x : Change). Answered (heldSheet room (changed nodesize x items)) r old new) (sym e) h
 
-pub entered-as : {s : List ℕ} {start end : ℕ} (change : Change) {other : Change} → change ≡ other → RecordAt s (nameOf change .extent) start end
-    → RecordAt s (nameOf other .extent) start end
-entered-as {s} {start} {end} change e h = subst (λ (x : Change). RecordAt s (nameOf x .extent) start end) e h
+pub entered-as : {s : List ℕ} {start end : ℕ} (change : Change) {other : Change} → change ≡ other → HasRecord s (nameOf change .extent) start end
+    → HasRecord s (nameOf other .extent) start end
+entered-as {s} {start} {end} change e h = subst (λ (x : Change). HasRecord s (nameOf x .extent) start end) e h
 
 pub fits-as : (change : Change) {other : Change} → change ≡ other → T (kindFits change) → T (kindFits other)
 fits-as change e h = subst (λ (x : Change). T (kindFits x)) e h
@@ -116,7 +116,7 @@ module _ (s : List ℕ) (extent : ℕ) (change : Change) (is : extent ≡ nameOf
       (subst (λ (x : ℕ). cut (recordOf x) (itemsOf s) ≡ none) is (record-missing extent (itemsOf s) e)))
 
   pub entered : (number start end : ℕ) → placeIn (passing (Record extent)) 0 1 (itemsOf s) ≡ At number start end
-      → RecordAt s (nameOf change .extent) start end
+      → HasRecord s (nameOf change .extent) start end
   unfolding passing
   entered number start end e =
       record { number = number; finds = subst (λ (x : ℕ). placeIn (recorded x) 0 1 (itemsOf s) ≡ At number start end) is e }

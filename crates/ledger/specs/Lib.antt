@@ -1,2 +1,3 @@
 pub mod Posting
+pub mod Dropping
 pub mod Calls

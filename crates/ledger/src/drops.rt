@@ -4,6 +4,7 @@ use format::DataRef;
 use format::Edited;
 use format::SharedRef;
 use ledger_adds::Stand;
+use record_edit::RecordAt;
 ghost use mathlib.Core.Bool.{false};
 ghost use lib.ListN.{length};
 ghost use Rattle.format.specs.Questions.{Answered};
@@ -11,22 +12,39 @@ ghost use Rattle.format.specs.Items.{heldSheet};
 ghost use Rattle.format.specs.Apply.{onRecord, dropTreeRef};
 ghost use Rattle.format.specs.Ledger.{dropDataRef, dropSharedRef};
 ghost use Rattle.item_list.specs.Steps.{itemsOf};
-ghost use Rattle.ledger_adds.specs.Known.{BalancedList, RecordAt};
+ghost use Rattle.ledger_adds.specs.Known.{BalancedList, HasRecord};
+ghost use Rattle.ledger.specs.Dropping.{StandsFor};
+
+// The record of an extent with its key, as the drops take it.
+fn record_at(sheet: &[u8], stand: Stand, extent: u64) -> RecordAt
+    requires { ⌜ BalancedList (now sheet) (stand .items) ⌝ }
+    requires { ⌜ HasRecord (now sheet) extent (stand .start) (stand .end) ⌝ }
+    ensures { λ r. ⌜ StandsFor (now (sheet .entry)) extent r ⌝ }
+{
+    RecordAt {
+        key: item_list::key_at(sheet, stand.start),
+        start: stand.start,
+        end: stand.end,
+        item_count: stand.items,
+    }
+}
 
 pub fn drop_block(sheet: &[u8], stand: Stand, extent: u64, name: BlockRef, out: &mut [u8]) -> Edited
     requires { ⌜ BalancedList (now sheet) (stand .items) ⌝ }
-    requires { ⌜ RecordAt (now sheet) extent (stand .start) (stand .end) ⌝ }
+    requires { ⌜ HasRecord (now sheet) extent (stand .start) (stand .end) ⌝ }
     ensures { λ r. ⌜ Answered (heldSheet (length (now (out .entry))) (onRecord extent (itemsOf (now (sheet .entry))) (dropTreeRef name false (itemsOf (now (sheet .entry)))))) r (now (out .entry)) (now (out .exit)) ⌝ }
 {
-    record_drop::drop_tree_ref(sheet, stand.start, stand.end, stand.items, name, out)
+    let target = record_at(sheet, stand, extent);
+    record_drop::drop_tree_ref(sheet, target, name, out)
 }
 
 pub fn drop_data(sheet: &[u8], stand: Stand, extent: u64, name: DataRef, out: &mut [u8]) -> Edited
     requires { ⌜ BalancedList (now sheet) (stand .items) ⌝ }
-    requires { ⌜ RecordAt (now sheet) extent (stand .start) (stand .end) ⌝ }
+    requires { ⌜ HasRecord (now sheet) extent (stand .start) (stand .end) ⌝ }
     ensures { λ r. ⌜ Answered (heldSheet (length (now (out .entry))) (onRecord extent (itemsOf (now (sheet .entry))) (dropDataRef name (itemsOf (now (sheet .entry)))))) r (now (out .entry)) (now (out .exit)) ⌝ }
 {
-    record_drop::drop_data_ref(sheet, stand.start, stand.end, stand.items, name, out)
+    let target = record_at(sheet, stand, extent);
+    record_drop::drop_data_ref(sheet, target, name, out)
 }
 
 pub fn drop_shared(
@@ -37,8 +55,9 @@ pub fn drop_shared(
     out: &mut [u8],
 ) -> Edited
     requires { ⌜ BalancedList (now sheet) (stand .items) ⌝ }
-    requires { ⌜ RecordAt (now sheet) extent (stand .start) (stand .end) ⌝ }
+    requires { ⌜ HasRecord (now sheet) extent (stand .start) (stand .end) ⌝ }
     ensures { λ r. ⌜ Answered (heldSheet (length (now (out .entry))) (onRecord extent (itemsOf (now (sheet .entry))) (dropSharedRef name (itemsOf (now (sheet .entry)))))) r (now (out .entry)) (now (out .exit)) ⌝ }
 {
-    record_drop::drop_shared_ref(sheet, stand.start, stand.end, stand.items, name, out)
+    let target = record_at(sheet, stand, extent);
+    record_drop::drop_shared_ref(sheet, target, name, out)
 }

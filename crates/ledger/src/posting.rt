@@ -16,7 +16,7 @@ ghost use Rattle.format.specs.Items.{nodesizeFits, heldSheet};
 ghost use Rattle.format.specs.Names.{balanced};
 ghost use Rattle.format.specs.Ledger.{nameOf, kindFits, changed};
 ghost use Rattle.item_list.specs.Steps.{Listed, itemsOf};
-ghost use Rattle.ledger_adds.specs.Known.{BalancedList, RecordAt};
+ghost use Rattle.ledger_adds.specs.Known.{BalancedList, HasRecord};
 ghost use Rattle.ledger.specs.Posting.{beforeFive, SharedWanted};
 ghost use Rattle.ledger.specs.Calls.{Kept};
 
@@ -85,7 +85,7 @@ fn shared_wanted(name: SharedRef) -> Wanted
 // The change to the record that stands there.
 fn change_at(sheet: &[u8], stand: Stand, nodesize: u32, change: Change, out: &mut [u8]) -> Edited
     requires { ⌜ BalancedList (now sheet) (stand .items) ⌝ }
-    requires { ⌜ RecordAt (now sheet) (nameOf change .extent) (stand .start) (stand .end) ⌝ }
+    requires { ⌜ HasRecord (now sheet) (nameOf change .extent) (stand .start) (stand .end) ⌝ }
     requires { ⌜ T (kindFits change) ⌝ }
     ensures { λ r. ⌜ Answered (heldSheet (length (now (out .entry))) (changed nodesize change (itemsOf (now (sheet .entry))))) r (now (out .entry)) (now (out .exit)) ⌝ }
 {

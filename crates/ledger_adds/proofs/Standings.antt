@@ -13,9 +13,9 @@ use Rattle.format.specs.Apply.{onRecord}
 use Rattle.item_list.specs.Steps.{itemsOf}
 use Rattle.item_list.proofs.Reading.{counted}
 use Rattle.transaction.proofs.Spots.{Standing, standing}
-use Rattle.ledger_adds.specs.Known.{BalancedList, RecordAt}
+use Rattle.ledger_adds.specs.Known.{BalancedList, HasRecord}
 
-pub stood : (s : List ℕ) (n extent start end : ℕ) → T (areBytes s) → BalancedList s n → (e : RecordAt s extent start end)
+pub stood : (s : List ℕ) (n extent start end : ℕ) → T (areBytes s) → BalancedList s n → (e : HasRecord s extent start end)
     → Standing s extent true (e .number) start end n
 stood s n extent start end t b e = standing s extent n (counted s n t (b .checked)) (e .number) start end (e .finds)
 

@@ -21,7 +21,7 @@ pub record BalancedList (s : List ℕ) (n : ℕ) : Type 0 where
   pub checked : checkedOf (readSheet s) ≡ Count n
   pub balance : T (balanced (itemsOf s))
 
-pub record RecordAt (s : List ℕ) (extent start end : ℕ) : Type 0 where
+pub record HasRecord (s : List ℕ) (extent start end : ℕ) : Type 0 where
   pub number : ℕ
   pub finds : placeIn (recorded extent) 0 1 (itemsOf s) ≡ At number start end
 

@@ -16,7 +16,7 @@ ghost use Rattle.format.specs.Ledger.{notItsOwn, changed};
 ghost use Rattle.inline_refs.specs.Scans.{kindOf};
 ghost use Rattle.item_list.specs.Steps.{itemsOf};
 ghost use Rattle.plan_write.specs.Plans.{Planned};
-ghost use Rattle.ledger_adds.specs.Known.{BalancedList, RecordAt, nameIn};
+ghost use Rattle.ledger_adds.specs.Known.{BalancedList, HasRecord, nameIn};
 ghost use Rattle.ledger_adds.specs.Asked.{AskedAdd};
 ghost use Rattle.ledger_adds.specs.Adding.{addChange, addedBody, grownOnly};
 
@@ -74,7 +74,7 @@ pub fn add(
     out: &mut [u8],
 ) -> Edited
     requires { ⌜ BalancedList (now sheet) (stand .items) ⌝ }
-    requires { ⌜ RecordAt (now sheet) extent (stand .start) (stand .end) ⌝ }
+    requires { ⌜ HasRecord (now sheet) extent (stand .start) (stand .end) ⌝ }
     requires { ⌜ (kindOf wanted ≡ 176 → amount ≡ 1) ⌝ }
     ensures { λ r. ⌜ Answered (heldSheet (length (now (out .entry))) (changed nodesize (addChange extent wanted amount) (itemsOf (now (sheet .entry))))) r (now (out .entry)) (now (out .exit)) ⌝ }
 {

@@ -37,10 +37,11 @@ use Rattle.plan_write.specs.declared.plan.Plan.{Plan}
 use Rattle.plan_write.specs.Plans.{edited, planned, planAnswer, Planned}
 use Rattle.plan_write.proofs.plan.Outcome.{the-type}
 use Rattle.plan_write.proofs.Outcomes.{plan-is}
+use Rattle.record_edit.specs.declared.RecordAt.{RecordAt}
 use Rattle.record_edit.specs.Records.{dataOf, editedSheet, heldRecord}
 use Rattle.record_edit.proofs.Held.{held-bind}
-use Rattle.drop_write.specs.Stands.{Stands}
-use Rattle.drop_write.specs.Edits.{recordAt, nothing, gone, counts, heldPlan, behindOf, heldAt}
+use Rattle.drop_write.specs.Edits.{nothing, gone, counts, heldPlan, behindOf, heldAt}
+use Rattle.drop_write.proofs.Stands.{Stands}
 use Rattle.drop_write.proofs.Turns.{is-absent, turns}
 use Rattle.drop_write.proofs.Rewrites.{last-four}
 use Rattle.drop_write.proofs.Behind.{BehindAt, behind-at, behind-none}
@@ -68,64 +69,64 @@ count-is : (s : List ℕ) (from to : ℕ) → from + 21 ≤ to → to ≤ length
 unfolding keyedCount
 count-is s from to a b l = ap le (last-four s from to a b l)
 
-module _ (s : List ℕ) (start end from to items : ℕ) (name : DataRef) (room : ℕ) (p q : Plan)
-    (total : Planned p (dataOf s start end) (lowerTotal (dataOf s start end)))
+module _ (s : List ℕ) (target : RecordAt) (from to : ℕ) (name : DataRef) (room : ℕ) (p q : Plan)
+    (total : Planned p (dataOf s (target .start) (target .end)) (lowerTotal (dataOf s (target .start) (target .end))))
     (item : Planned q (dataOf s from to) (dropKeyedDataRef (dataOf s from to) name)) where
   abbrev answer : Answer (List ℕ)
-  answer = bind (lowerTotal (dataOf s start end)) (heldAt room items s start end from to (dropKeyedDataRef (dataOf s from to) name))
+  answer = bind (lowerTotal (dataOf s (target .start) (target .end))) (heldAt room s target from to (dropKeyedDataRef (dataOf s from to) name))
 
   -- as the item's plan answers
-  by-plan : {o : Outcome} → q .outcome ≡ o → bind (planAnswer p (dataOf s start end)) (heldAt room items s start end from to (planned o q (dataOf s from to))) ≡ answer
+  by-plan : {o : Outcome} → q .outcome ≡ o → bind (planAnswer p (dataOf s (target .start) (target .end))) (heldAt room s target from to (planned o q (dataOf s from to))) ≡ answer
   by-plan e =
-      ap₂ (λ (a b : Answer (List ℕ)). bind a (heldAt room items s start end from to b)) (total .says) (sym (plan-is q (dataOf s from to) e) ∙ item .says)
+      ap₂ (λ (a b : Answer (List ℕ)). bind a (heldAt room s target from to b)) (total .says) (sym (plan-is q (dataOf s from to) e) ∙ item .says)
 
-  edits : p .outcome ≡ Edit → planAnswer p (dataOf s start end) ≡ accepted (edited p (dataOf s start end))
+  edits : p .outcome ≡ Edit → planAnswer p (dataOf s (target .start) (target .end)) ≡ accepted (edited p (dataOf s (target .start) (target .end)))
   unfolding planned
-  edits e = plan-is p (dataOf s start end) e
+  edits e = plan-is p (dataOf s (target .start) (target .end)) e
 
   pub item-refused : (k : ℕ) (old : List ℕ) → p .outcome ≡ Edit → q .outcome ≡ Refused k → Answered answer (Denied k) old old
   unfolding planned bind heldAt
   item-refused k old e f =
-      answered-refused old (sym (by-plan f) ∙ ap (λ (a : Answer (List ℕ)). bind a (heldAt room items s start end from to (refused k))) (edits e))
+      answered-refused old (sym (by-plan f) ∙ ap (λ (a : Answer (List ℕ)). bind a (heldAt room s target from to (refused k))) (edits e))
 
   pub item-absent : (old : List ℕ) → p .outcome ≡ Edit → q .outcome ≡ Absent → Answered answer NoMatch old old
   unfolding planned bind heldAt lent editedOf
   item-absent old e f =
       subst (λ (a : Answer (List ℕ)). Answered a NoMatch old old)
-      (ap (λ (a : Answer (List ℕ)). bind a (heldAt room items s start end from to absent)) (sym (edits e)) ∙ by-plan f)
+      (ap (λ (a : Answer (List ℕ)). bind a (heldAt room s target from to absent)) (sym (edits e)) ∙ by-plan f)
       (record { result = refl; output = refl })
 
-  pub item-goes : (r : Edited) (old new : List ℕ) → q .outcome ≡ Remove → Answered (heldPlan room (items - 1) s start end p (gone from to)) r old new
+  pub item-goes : (r : Edited) (old new : List ℕ) → q .outcome ≡ Remove → Answered (heldPlan room (target .«item_count» - 1) s target p (gone from to)) r old new
       → Answered answer r old new
   unfolding planned heldAt
   item-goes r old new f w = subst (λ (a : Answer (List ℕ)). Answered a r old new) (by-plan f) w
 
   pub item-counts : (count : ℕ) (r : Edited) (old new : List ℕ) → q .outcome ≡ Edit → count ≡ le (part (to - 4) 4 s)
-      → Answered (heldPlan room items s start end p (counts to (count - 1))) r old new
+      → Answered (heldPlan room (target .«item_count») s target p (counts to (count - 1))) r old new
       → Answered answer r old new
   unfolding planned heldAt
   item-counts count r old new f e w =
       subst (λ (a : Answer (List ℕ)). Answered a r old new)
-      (ap (λ (n : ℕ). heldPlan room items s start end p (counts to (n - 1))) e ∙ by-plan f) w
+      (ap (λ (n : ℕ). heldPlan room (target .«item_count») s target p (counts to (n - 1))) e ∙ by-plan f) w
 
 -- a total that is not lowered: the item is not read
-pub total-refused : (s : List ℕ) (start end items room : ℕ) (next : List ℕ → Answer (List ℕ)) (p : Plan) (r : Edited) (old new : List ℕ)
-    → Planned p (dataOf s start end) (lowerTotal (dataOf s start end))
+pub total-refused : (s : List ℕ) (target : RecordAt) (room : ℕ) (next : List ℕ → Answer (List ℕ)) (p : Plan) (r : Edited) (old new : List ℕ)
+    → Planned p (dataOf s (target .start) (target .end)) (lowerTotal (dataOf s (target .start) (target .end)))
     → (tagOf the-type (p .outcome) ≡ 1) ⊎ ((tagOf the-type (p .outcome) ≡ 2) ⊎ (tagOf the-type (p .outcome) ≡ 3))
-    → Answered (heldPlan room items s start end p (nothing (length s))) r old new
-    → Answered (bind (lowerTotal (dataOf s start end)) next) r old new
+    → Answered (heldPlan room (target .«item_count») s target p (nothing (length s))) r old new
+    → Answered (bind (lowerTotal (dataOf s (target .start) (target .end))) next) r old new
 unfolding bind planned
-total-refused s start end items room next p r old new total tag w =
+total-refused s target room next p r old new total tag w =
     subst (λ (a : Answer (List ℕ)). Answered a r old new) (go (p .outcome) refl tag ∙ ap (λ (a : Answer (List ℕ)). bind a next) (total .says)) w
   where
     go : (o : Outcome) → p .outcome ≡ o → (tagOf the-type o ≡ 1) ⊎ ((tagOf the-type o ≡ 2) ⊎ (tagOf the-type o ≡ 3))
-        → heldPlan room items s start end p (nothing (length s)) ≡ bind (planAnswer p (dataOf s start end)) next
+        → heldPlan room (target .«item_count») s target p (nothing (length s)) ≡ bind (planAnswer p (dataOf s (target .start) (target .end))) next
     go Edit e (inl z) = absurd (let y : _≡_ {A = ℕ} 0 1 = z in omega arith)
     go Edit e (inr (inl z)) = absurd (let y : _≡_ {A = ℕ} 0 2 = z in omega arith)
     go Edit e (inr (inr z)) = absurd (let y : _≡_ {A = ℕ} 0 3 = z in omega arith)
-    go Absent e h = rw (plan-is p (dataOf s start end) e)
-    go Remove e h = rw (plan-is p (dataOf s start end) e)
-    go (Refused k) e h = rw (plan-is p (dataOf s start end) e)
+    go Absent e h = rw (plan-is p (dataOf s (target .start) (target .end)) e)
+    go Remove e h = rw (plan-is p (dataOf s (target .start) (target .end)) e)
+    go (Refused k) e h = rw (plan-is p (dataOf s (target .start) (target .end)) e)
 
 -- what stands there counts at least one
 pub one-counted : (s : List ℕ) (from to count : ℕ) (name : DataRef) (q : Plan) → from + 21 ≤ to → to ≤ length s
@@ -139,13 +140,13 @@ one-counted s from to count name q a b h e is =
 
 -- ---- the call
 
-module _ (s : List ℕ) (start end n : ℕ) (name : DataRef) (key : Key) (key-is : key ≡ itemAt s start .key) (p : Plan)
-    (planned : Planned p (dataOf s start end) (dropInlineDataRef (key .kind) (dataOf s start end) name)) (room : ℕ)
-    (c : Cut Item) (st : Stands s c start end n) where
-  hit-is : record { key = key; bytes = dataOf s start end } ≡ c .hit
-  hit-is = (λ j. record { key = key-is j; bytes = dataOf s start end }) ∙ sym (st .hit-is)
+module _ (s : List ℕ) (target : RecordAt) (name : DataRef) (p : Plan)
+    (planned : Planned p (dataOf s (target .start) (target .end)) (dropInlineDataRef (target .key .kind) (dataOf s (target .start) (target .end)) name)) (room : ℕ)
+    (c : Cut Item) (st : Stands s c target) where
+  hit-is : record { key = target .key; bytes = dataOf s (target .start) (target .end) } ≡ c .hit
+  hit-is = sym (st .hit-is)
 
-  says : planAnswer p (dataOf s start end) ≡ dropInlineDataRef (c .hit .key .kind) (c .hit .bytes) name
+  says : planAnswer p (dataOf s (target .start) (target .end)) ≡ dropInlineDataRef (c .hit .key .kind) (c .hit .bytes) name
   says = planned .says ∙ ap (λ (i : Item). dropInlineDataRef (i .key .kind) (i .bytes) name) hit-is
 
   abbrev at-item : Cut Item → Answer (List Item)
@@ -157,7 +158,7 @@ module _ (s : List ℕ) (start end n : ℕ) (name : DataRef) (key : Key) (key-is
   other = bind (needed 5 (cut (hasKey (keyOf (c .hit .key .objectid) 178 (placeOf 178 (triple name)))) (itemsOf s))) at-item
 
   pub data-inline : (p .outcome ≡ Absent → ⊥) → (r : Edited) (old new : List ℕ)
-      → Answered (heldPlan room n s start end p (nothing (length s))) r old new
+      → Answered (heldPlan room (target .«item_count») s target p (nothing (length s))) r old new
       → Answered (heldSheet room (dropDataRef name (itemsOf s) c)) r old new
   unfolding dropDataRef
   data-inline there r old new w =
@@ -165,7 +166,7 @@ module _ (s : List ℕ) (start end n : ℕ) (name : DataRef) (key : Key) (key-is
 
   module _ (out : p .outcome ≡ Absent) (hash : ℕ) (hash-is : hash ≡ dataRefHash (name .tree) (name .objectid) (name .offset)) where
     abbrev item-key : Key
-    item-key = keyOf (key .objectid) 178 hash
+    item-key = keyOf (target .key .objectid) 178 hash
 
     extent : item-key .objectid ≡ c .hit .key .objectid
     extent = ap (λ (i : Item). i .key .objectid) hit-is
@@ -177,22 +178,22 @@ module _ (s : List ℕ) (start end n : ℕ) (name : DataRef) (key : Key) (key-is
     turned : (o : Option (Cut Item)) → cut (hasKey item-key) (itemsOf s) ≡ o → dropDataRef name (itemsOf s) c ≡ bind (needed 5 o) at-item
     unfolding dropDataRef
     turned o e =
-        turns (dropInlineDataRef (c .hit .key .kind) (c .hit .bytes) name) _ other (sym says ∙ is-absent p (dataOf s start end) out)
+        turns (dropInlineDataRef (c .hit .key .kind) (c .hit .bytes) name) _ other (sym says ∙ is-absent p (dataOf s (target .start) (target .end)) out)
         ∙ ap (λ (k : Key). bind (needed 5 (cut (hasKey k) (itemsOf s))) at-item) (sym key-same)
         ∙ ap (λ (x : Option (Cut Item)). bind (needed 5 x) at-item) e
 
     high : 170 ≤ 178
     high = omega arith
 
-    pub data-none : (at : ℕ) (old : List ℕ) → behindOf end (seekIn item-key 1 (itemsOf s)) ≡ Missing at
+    pub data-none : (at : ℕ) (old : List ℕ) → behindOf (target .end) (seekIn item-key 1 (itemsOf s)) ≡ Missing at
         → Answered (heldSheet room (dropDataRef name (itemsOf s) c)) (Denied 5) old old
     unfolding bind needed
     data-none at old e = answered-no _ room 5 old (turned none (behind-none st item-key extent high at e))
 
-    module _ {from to : ℕ} (k : BehindAt s c end item-key from to) where
+    module _ {from to : ℕ} (k : BehindAt s c (target .end) item-key from to) where
       -- by the answer of the item's own drop
       held-at : (a : Answer (List ℕ)) → dropKeyedDataRef (k .item .hit .bytes) name ≡ a → (body : List ℕ)
-          → heldSheet room (bind (droppedAt (k .item) a) (λ others. replaced (c .hit .key) body others)) ≡ heldAt room n s start end from to a body
+          → heldSheet room (bind (droppedAt (k .item) a) (λ others. replaced (c .hit .key) body others)) ≡ heldAt room s target from to a body
       unfolding droppedAt heldAt bind heldSheet held
       held-at (refused m) e body = refl
       held-at absent e body = refl
@@ -207,18 +208,18 @@ module _ (s : List ℕ) (start end n : ℕ) (name : DataRef) (key : Key) (key-is
           ap (λ (l : List ℕ). heldSheet room (replaced (c .hit .key) body (putBack i l))) (h .2)
           ∙ ap (heldSheet room) (replaced-counted st k 24 (sym (h .0)) count body)
           ∙ held-second st (counted-it st k 24 (sym (h .0)) count) room body
-          ∙ ap (λ (m : ℕ). heldRecord room n (length body) (editedSheet s (recordAt s start end) (counts to m) body)) same-count
+          ∙ ap (λ (m : ℕ). heldRecord room (target .«item_count») (length body) (editedSheet s target (counts to m) body)) same-count
 
-    pub data-item : (from to : ℕ) (r : Edited) (old new : List ℕ) → behindOf end (seekIn item-key 1 (itemsOf s)) ≡ Present from to
-        → Answered (bind (lowerTotal (dataOf s start end)) (heldAt room n s start end from to (dropKeyedDataRef (dataOf s from to) name))) r old new
+    pub data-item : (from to : ℕ) (r : Edited) (old new : List ℕ) → behindOf (target .end) (seekIn item-key 1 (itemsOf s)) ≡ Present from to
+        → Answered (bind (lowerTotal (dataOf s (target .start) (target .end))) (heldAt room s target from to (dropKeyedDataRef (dataOf s from to) name))) r old new
         → Answered (heldSheet room (dropDataRef name (itemsOf s) c)) r old new
     unfolding bind needed
     data-item from to r old new e w =
-        let k : BehindAt s c end item-key from to = behind-at st item-key extent high from to e in
-        let put : List ℕ → Answer (List ℕ) = heldAt room n s start end from to (dropKeyedDataRef (k .item .hit .bytes) name) in
+        let k : BehindAt s c (target .end) item-key from to = behind-at st item-key extent high from to e in
+        let put : List ℕ → Answer (List ℕ) = heldAt room s target from to (dropKeyedDataRef (k .item .hit .bytes) name) in
         let h : heldSheet room (dropDataRef name (itemsOf s) c) ≡ bind (lowerTotal (c .hit .bytes)) put =
         ap (heldSheet room) (turned (some (k .item)) (k .finds))
         ∙ held-bind room (lowerTotal (c .hit .bytes)) _ put (λ body f. held-at k (dropKeyedDataRef (k .item .hit .bytes) name) refl body) in
         subst (λ (a : Answer (List ℕ)). Answered a r old new)
-        (ap₂ (λ (x y : List ℕ). bind (lowerTotal x) (heldAt room n s start end from to (dropKeyedDataRef y name)))
+        (ap₂ (λ (x y : List ℕ). bind (lowerTotal x) (heldAt room s target from to (dropKeyedDataRef y name)))
         (ap (λ (i : Item). i .bytes) hit-is) (sym (item-bytes st k)) ∙ sym h) w

@@ -28,7 +28,9 @@ use Rattle.item_list.specs.declared.Sought.the-variants.{Present, Absent}
 use Rattle.item_list.specs.Steps.{itemsOf}
 use Rattle.item_list.specs.Seeks.{seekIn}
 use Rattle.item_list.proofs.Places.{no-cut}
-use Rattle.drop_write.specs.Stands.{Stands}
+use Rattle.record_edit.specs.declared.RecordAt.{RecordAt}
+use Rattle.drop_write.specs.Stands.{StandsAt, onKey}
+use Rattle.drop_write.proofs.Stands.{Stands, stands, on-key}
 use Rattle.drop_write.proofs.Turns.{accepted-absent, stays}
 use Rattle.drop_write.proofs.Behind.{BehindAt, rises, stands-at}
 use Rattle.drop_write.proofs.Puts.{replaced-without}
@@ -109,7 +111,7 @@ owned-by : {at : ℕ} {plain plain′ own own′ : Answer (List ℕ)} → plain 
 owned-by {at} {plain} {plain′} {own} {own′} e f o =
     subst (λ (p : Answer (List ℕ)). Owned at p own) (sym e) (subst (λ (w : Answer (List ℕ)). Owned at plain′ w) (sym f) o)
 
-module _ {s : List ℕ} {c : Cut Item} {start end n : ℕ} (st : Stands s c start end n) (bytes : T (areBytes s)) (name : BlockRef) (room : ℕ) where
+module _ {s : List ℕ} {c : Cut Item} {target : RecordAt} (st : Stands s c target) (bytes : T (areBytes s)) (name : BlockRef) (room : ℕ) where
   abbrev key : Key
   key = keyOf (c .hit .key .objectid) 176 (name .tree)
 
@@ -124,7 +126,7 @@ module _ {s : List ℕ} {c : Cut Item} {start end n : ℕ} (st : Stands s c star
   unfolding deleted bind needed
   other-none own e = ap (λ (o : Option (Cut Item)). bind (bind (needed 5 o) (λ k. accepted (without k))) (after own)) e
 
-  other-at : (own : Bool) {from to : ℕ} (k : BehindAt s c end key from to)
+  other-at : (own : Bool) {from to : ℕ} (k : BehindAt s c (target .end) key from to)
       → other own
       ≡ bind (lowerTotal (c .hit .bytes)) (λ rest.
       bind (flagged own rest) (λ d. accepted (c .front ++ withBytes (c .hit) d ∷ (k .parts .mid ++ k .item .back))))
@@ -133,31 +135,31 @@ module _ {s : List ℕ} {c : Cut Item} {start end n : ℕ} (st : Stands s c star
       ap (λ (o : Option (Cut Item)). bind (bind (needed 5 o) (λ k. accepted (without k))) (after own)) (k .finds)
       ∙ ap (bind (lowerTotal (c .hit .bytes))) (λ j rest. bind (flagged own rest) (λ d. replaced-without st k d j))
 
-  other-owned : Owned (start + 37) (heldSheet room (other false)) (heldSheet room (other true))
+  other-owned : Owned (target .start + 37) (heldSheet room (other false)) (heldSheet room (other true))
   unfolding flagged bind heldSheet held
   other-owned = go (seekIn key 1 (itemsOf s)) refl
     where
-      go : (f : Sought) → seekIn key 1 (itemsOf s) ≡ f → Owned (start + 37) (heldSheet room (other false)) (heldSheet room (other true))
+      go : (f : Sought) → seekIn key 1 (itemsOf s) ≡ f → Owned (target .start + 37) (heldSheet room (other false)) (heldSheet room (other true))
       go (Absent at) e =
           let gone : cut (hasKey key) (itemsOf s) ≡ none = no-cut key 1 (itemsOf s) at (rises st) e in
           owned-by (ap (heldSheet room) (other-none false gone)) (ap (heldSheet room) (other-none true gone))
           (record { same = refl; long = λ l f. refused-not f })
       go (Present from to) e =
-          let k : BehindAt s c end key from to = stands-at st key refl (omega arith) from to e in
+          let k : BehindAt s c (target .end) key from to = stands-at st key refl (omega arith) from to e in
           owned-by (ap (heldSheet room) (other-at false k)) (ap (heldSheet room) (other-at true k))
           (own-bind st (k .parts .mid ++ k .item .back) room (lowerTotal (c .hit .bytes)) (lower-headed (c .hit .bytes)))
 
   abbrev call : Bool → Answer (List ℕ) → Answer (List Item)
   call own a = ifAbsent (bind a (λ rest. bind (flagged own rest) (λ body. accepted (putBack c body)))) (other own)
 
-  pub drop-owned : Owned (start + 37) (heldSheet room (dropTreeRef name false (itemsOf s) c)) (heldSheet room (dropTreeRef name true (itemsOf s) c))
+  drop-owned : Owned (target .start + 37) (heldSheet room (dropTreeRef name false (itemsOf s) c)) (heldSheet room (dropTreeRef name true (itemsOf s) c))
   unfolding dropTreeRef ifAbsent bind flagged heldSheet held
   drop-owned =
       go (dropInlineTreeRef (c .hit .key .kind) (c .hit .bytes) name)
       (drop-headed (c .hit .key .kind) (c .hit .bytes) name
-      (subst (λ (i : Item). T (areBytes (i .bytes))) (sym (st .hit-is)) (areBytes-part (start + 21) (end - (start + 21)) s bytes)))
+      (subst (λ (i : Item). T (areBytes (i .bytes))) (sym (st .hit-is)) (areBytes-part (target .start + 21) (target .end - (target .start + 21)) s bytes)))
     where
-      go : (a : Answer (List ℕ)) → ((rest : List ℕ) → a ≡ accepted rest → Headed rest) → Owned (start + 37) (heldSheet room (call false a)) (heldSheet room (call true a))
+      go : (a : Answer (List ℕ)) → ((rest : List ℕ) → a ≡ accepted rest → Headed rest) → Owned (target .start + 37) (heldSheet room (call false a)) (heldSheet room (call true a))
       go (refused k) h = record { same = refl; long = λ l f. refused-not f }
       go absent h = other-owned
       go remove h = record { same = refl; long = λ l f. remove-not f }
@@ -165,3 +167,10 @@ module _ {s : List ℕ} {c : Cut Item} {start end n : ℕ} (st : Stands s c star
           owned-by refl
           (ap (heldSheet room) (stays (withFlags rest 256) (putBack c) (other true) (λ e. accepted-absent (sym (with-own rest (h rest refl)) ∙ e))))
           (own-bind st (c .back) room (accepted rest) h)
+
+-- at the record's key
+pub key-owned : {s : List ℕ} {target : RecordAt} → T (areBytes s) → StandsAt s target → (name : BlockRef) (room : ℕ)
+    → Owned (target .start + 37) (heldSheet room (onKey (target .key) (itemsOf s) (dropTreeRef name false (itemsOf s))))
+    (heldSheet room (onKey (target .key) (itemsOf s) (dropTreeRef name true (itemsOf s))))
+key-owned bytes h name room =
+    owned-by (ap (heldSheet room) (on-key h _)) (ap (heldSheet room) (on-key h _)) (drop-owned (stands bytes h) bytes name room)

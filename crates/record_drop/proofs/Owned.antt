@@ -22,8 +22,9 @@ use Rattle.format.specs.Items.{Item, itemBytes, itemsBytes, sheetBytes, dataFit
 use Rattle.format.proofs.Answers.{ask-yes, accepted-inj, refused-not, absent-not, remove-not}
 use Rattle.format.proofs.Items.{length-itemBytes}
 use Rattle.format.proofs.Splices.{sheet-join, sheet-data}
-use Rattle.drop_write.specs.Stands.{Stands}
+use Rattle.record_edit.specs.declared.RecordAt.{RecordAt}
 use Rattle.drop_write.specs.Edits.{ownAt}
+use Rattle.drop_write.proofs.Stands.{Stands}
 use Rattle.drop_write.proofs.Rewrites.{sheet-part, part-inside}
 
 -- ---- from the answer without the flag to that with it, in a lent output
@@ -121,11 +122,11 @@ all-swap : (p : Item → Bool) (a : List Item) (x y : Item) (b : List Item) → 
 all-swap p [] x y b e = ap (λ (t : Bool). t && all p b) e
 all-swap p (w ∷ a) x y b e = ap (λ (t : Bool). p w && t) (all-swap p a x y b e)
 
-module _ {s : List ℕ} {c : Cut Item} {start end n : ℕ} (st : Stands s c start end n) (more : List Item) where
+module _ {s : List ℕ} {c : Cut Item} {target : RecordAt} (st : Stands s c target) (more : List Item) where
   abbrev put : List ℕ → List Item
   put d = c .front ++ withBytes (c .hit) d ∷ more
 
-  put-long : (rest : List ℕ) → start + 21 + length rest ≤ length (sheetBytes (put rest))
+  put-long : (rest : List ℕ) → target .start + 21 + length rest ≤ length (sheetBytes (put rest))
   put-long rest =
       let i : Item = withBytes (c .hit) rest in
       let l₁ = ap length (sheet-join (c .front) i more) ∙ length-append (sheetBytes (c .front)) (itemBytes i ++ itemsBytes more) in
@@ -142,7 +143,7 @@ module _ {s : List ℕ} {c : Cut Item} {start end n : ℕ} (st : Stands s c star
     inside = let n = length-leBytes 8 (bitOr (flagsOf rest) 256) in let l = whole .0 in omega arith
 
     -- the bytes of the list
-    put-own : sheetBytes (put (marked rest)) ≡ ownAt (start + 37) (sheetBytes (put rest))
+    put-own : sheetBytes (put (marked rest)) ≡ ownAt (target .start + 37) (sheetBytes (put rest))
     unfolding flagsOf
     put-own =
         let i : Item = withBytes (c .hit) rest in
@@ -152,10 +153,10 @@ module _ {s : List ℕ} {c : Cut Item} {start end n : ℕ} (st : Stands s c star
         let a = st .starts in
         let l = put-long rest in
         let w = whole .0 in
-        let at : p + 16 ≡ start + 37 = omega arith in
+        let at : p + 16 ≡ target .start + 37 = omega arith in
         let room : p + 16 ≤ length all = omega arith in
         let fits : 16 + 8 ≤ length rest = omega arith in
-        let read : part 16 8 rest ≡ part (start + 37) 8 all =
+        let read : part 16 8 rest ≡ part (target .start + 37) 8 all =
         ap (part 16 8) (sym is) ∙ part-inside p (length rest) 16 8 all fits room ∙ ap (λ (k : ℕ). part k 8 all) at in
         sheet-part (put rest) (c .front) i 16 flags more refl inside
         ∙ (λ j. written (at j) (leBytes 8 (bitOr (le (read j)) 256)) all)
@@ -164,7 +165,7 @@ module _ {s : List ℕ} {c : Cut Item} {start end n : ℕ} (st : Stands s c star
     length-own-put =
         let l = put-long rest in
         let w = whole .0 in
-        ap length put-own ∙ length-own (start + 37) (sheetBytes (put rest)) (omega arith)
+        ap length put-own ∙ length-own (target .start + 37) (sheetBytes (put rest)) (omega arith)
 
     holds-own : (room : ℕ) → sheetHolds room (put (marked rest)) ≡ sheetHolds room (put rest)
     unfolding sheetHolds dataFits
@@ -176,7 +177,7 @@ module _ {s : List ℕ} {c : Cut Item} {start end n : ℕ} (st : Stands s c star
         (ap (λ (k : ℕ). leb k 65535) (length-written 16 flags rest inside)) in
         λ j. leb (length-own-put j) room && leb (length-own-put j) 262144 && leb (many j) 4096 && fits j
 
-    own-held : (room : ℕ) → Owned (start + 37) (heldSheet room (accepted (put rest))) (heldSheet room (accepted (put (marked rest))))
+    own-held : (room : ℕ) → Owned (target .start + 37) (heldSheet room (accepted (put rest))) (heldSheet room (accepted (put (marked rest))))
     unfolding heldSheet held bind ask
     own-held room =
         record {
@@ -187,22 +188,22 @@ module _ {s : List ℕ} {c : Cut Item} {start end n : ℕ} (st : Stands s c star
       where
         go : (b : Bool)
             → bind (ask b 21 (accepted (put (marked rest)))) (λ items. accepted (sheetBytes items))
-            ≡ bind (bind (ask b 21 (accepted (put rest))) (λ items. accepted (sheetBytes items))) (λ bytes. accepted (ownAt (start + 37) bytes))
+            ≡ bind (bind (ask b 21 (accepted (put rest))) (λ items. accepted (sheetBytes items))) (λ bytes. accepted (ownAt (target .start + 37) bytes))
         go true = ap accepted put-own
         go false = refl
 
         inside-of : (b : Bool) (bytes : List ℕ) → bind (ask b 21 (accepted (put rest))) (λ items. accepted (sheetBytes items)) ≡ accepted bytes
-            → start + 37 + 8 ≤ length bytes
+            → target .start + 37 + 8 ≤ length bytes
         inside-of true bytes e = let l = put-long rest in let w = whole .0 in let f : length (sheetBytes (put rest)) ≡ length bytes = ap length (accepted-inj e) in omega arith
         inside-of false bytes e = refused-not e
 
   -- after the body's answer
   pub own-bind : (room : ℕ) (a : Answer (List ℕ)) → ((rest : List ℕ) → a ≡ accepted rest → Headed rest)
-      → Owned (start + 37) (heldSheet room (bind a (λ rest. accepted (put rest)))) (heldSheet room (bind a (λ rest. bind (withFlags rest 256) (λ d. accepted (put d)))))
+      → Owned (target .start + 37) (heldSheet room (bind a (λ rest. accepted (put rest)))) (heldSheet room (bind a (λ rest. bind (withFlags rest 256) (λ d. accepted (put d)))))
   unfolding heldSheet held bind
   own-bind room (refused k) h = record { same = refl; long = λ bytes e. refused-not e }
   own-bind room absent h = record { same = refl; long = λ bytes e. absent-not e }
   own-bind room remove h = record { same = refl; long = λ bytes e. remove-not e }
   own-bind room (accepted rest) h =
-      subst (λ (a : Answer (List ℕ)). Owned (start + 37) (heldSheet room (accepted (put rest))) (heldSheet room (bind a (λ d. accepted (put d)))))
+      subst (λ (a : Answer (List ℕ)). Owned (target .start + 37) (heldSheet room (accepted (put rest))) (heldSheet room (bind a (λ d. accepted (put d)))))
       (sym (with-own rest (h rest refl))) (own-held rest (h rest refl) room)

@@ -37,9 +37,10 @@ use Rattle.plan_write.specs.declared.plan.Plan.{Plan}
 use Rattle.plan_write.specs.Plans.{planAnswer, planTaken, Planned, PlannedTaken}
 use Rattle.plan_write.specs.Steps.{Reduces}
 use Rattle.backref.proofs.Takings.{taken-whole}
+use Rattle.record_edit.specs.declared.RecordAt.{RecordAt}
 use Rattle.record_edit.specs.Records.{dataOf}
-use Rattle.drop_write.specs.Stands.{Stands}
 use Rattle.drop_write.specs.Edits.{nothing, gone, heldPlan, behindOf}
+use Rattle.drop_write.proofs.Stands.{Stands}
 use Rattle.drop_write.proofs.Turns.{accepted-absent, ask-absent, bind-absent, is-absent, turns}
 use Rattle.drop_write.proofs.Behind.{BehindAt, behind-at, behind-none}
 use Rattle.drop_write.proofs.Puts.{put-answered, inline-answered, item-bytes, without-it, replaced-without}
@@ -110,13 +111,13 @@ count-one kind b e = rw (ne-eqb kind 184 e)
 
 -- ---- the call
 
-module _ (s : List ℕ) (start end n : ℕ) (name : SharedRef) (key : Key) (key-is : key ≡ itemAt s start .key) (p : Plan)
-    (planned : Planned p (dataOf s start end) (dropped (key .kind) (dataOf s start end) name)) (room : ℕ)
-    (c : Cut Item) (st : Stands s c start end n) where
-  hit-is : record { key = key; bytes = dataOf s start end } ≡ c .hit
-  hit-is = (λ j. record { key = key-is j; bytes = dataOf s start end }) ∙ sym (st .hit-is)
+module _ (s : List ℕ) (target : RecordAt) (name : SharedRef) (p : Plan)
+    (planned : Planned p (dataOf s (target .start) (target .end)) (dropped (target .key .kind) (dataOf s (target .start) (target .end)) name)) (room : ℕ)
+    (c : Cut Item) (st : Stands s c target) where
+  hit-is : record { key = target .key; bytes = dataOf s (target .start) (target .end) } ≡ c .hit
+  hit-is = sym (st .hit-is)
 
-  says : planAnswer p (dataOf s start end) ≡ dropped (c .hit .key .kind) (c .hit .bytes) name
+  says : planAnswer p (dataOf s (target .start) (target .end)) ≡ dropped (c .hit .key .kind) (c .hit .bytes) name
   says = planned .says ∙ ap (λ (i : Item). dropped (i .key .kind) (i .bytes) name) hit-is
 
   abbrev at-item : Cut Item → Answer (List Item)
@@ -132,7 +133,7 @@ module _ (s : List ℕ) (start end n : ℕ) (name : SharedRef) (key : Key) (key-
       (bind-next (takeInlineShared (c .hit .key .kind) (c .hit .bytes) name) (λ out. reduceTotal (out .bytes) (out .count)) (λ body. accepted (putBack c body)))
 
   pub shared-inline : (p .outcome ≡ Absent → ⊥) → (r : Edited) (old new : List ℕ)
-      → Answered (heldPlan room n s start end p (nothing (length s))) r old new
+      → Answered (heldPlan room (target .«item_count») s target p (nothing (length s))) r old new
       → Answered (heldSheet room (dropSharedRef name (itemsOf s) c)) r old new
   shared-inline there r old new w =
       subst (λ (a : Answer (List Item)). Answered (heldSheet room a) r old new) (sym call-is)
@@ -140,13 +141,13 @@ module _ (s : List ℕ) (start end n : ℕ) (name : SharedRef) (key : Key) (key-
 
   module _ (out : p .outcome ≡ Absent) where
     abbrev item-key : Key
-    item-key = keyOf (key .objectid) (name .kind) (name .parent)
+    item-key = keyOf (target .key .objectid) (name .kind) (name .parent)
 
     extent : item-key .objectid ≡ c .hit .key .objectid
     extent = ap (λ (i : Item). i .key .objectid) hit-is
 
     none-inline : dropped (c .hit .key .kind) (c .hit .bytes) name ≡ absent
-    none-inline = sym says ∙ is-absent p (dataOf s start end) out
+    none-inline = sym says ∙ is-absent p (dataOf s (target .start) (target .end)) out
 
     high : 170 ≤ name .kind
     unfolding takeInlineShared
@@ -158,13 +159,13 @@ module _ (s : List ℕ) (start end n : ℕ) (name : SharedRef) (key : Key) (key-
         ∙ ap (λ (x : ℕ). bind (needed 5 (cut (hasKey (keyOf x (name .kind) (name .parent))) (itemsOf s))) at-item) (sym extent)
         ∙ ap (λ (x : Option (Cut Item)). bind (needed 5 x) at-item) e
 
-    pub shared-none : (at : ℕ) (old : List ℕ) → behindOf end (seekIn item-key 1 (itemsOf s)) ≡ Missing at
+    pub shared-none : (at : ℕ) (old : List ℕ) → behindOf (target .end) (seekIn item-key 1 (itemsOf s)) ≡ Missing at
         → Answered (heldSheet room (dropSharedRef name (itemsOf s) c)) (Denied 5) old old
     unfolding bind needed
     shared-none at old e = answered-no _ room 5 old (turned none (behind-none st item-key extent high at e))
 
     -- as code reads it
-    count-is : {from to : ℕ} (k : BehindAt s c end item-key from to) → T (all good (itemsOf s))
+    count-is : {from to : ℕ} (k : BehindAt s c (target .end) item-key from to) → T (all good (itemsOf s))
         → cond (eqb (name .kind) 184) (le (part (to - 4) 4 s)) 1 ≡ sharedCount (k .item .hit)
     unfolding sharedCount
     count-is {from} {to} k goods =
@@ -189,14 +190,14 @@ module _ (s : List ℕ) (start end n : ℕ) (name : SharedRef) (key : Key) (key-
             ap le ((λ j. part (place j) (size j) s) ∙ sym (item-bytes st k))
 
     pub shared-item : (from to count : ℕ) (q : Plan) (r : Edited) (old new : List ℕ) → T (all good (itemsOf s))
-        → behindOf end (seekIn item-key 1 (itemsOf s)) ≡ Present from to
+        → behindOf (target .end) (seekIn item-key 1 (itemsOf s)) ≡ Present from to
         → count ≡ cond (eqb (name .kind) 184) (le (part (to - 4) 4 s)) 1
-        → Planned q (dataOf s start end) (reduceTotal (dataOf s start end) count)
-        → Answered (heldPlan room (n - 1) s start end q (gone from to)) r old new
+        → Planned q (dataOf s (target .start) (target .end)) (reduceTotal (dataOf s (target .start) (target .end)) count)
+        → Answered (heldPlan room (target .«item_count» - 1) s target q (gone from to)) r old new
         → Answered (heldSheet room (dropSharedRef name (itemsOf s) c)) r old new
     unfolding bind needed
     shared-item from to count q r old new goods e counts h w =
-        let k : BehindAt s c end item-key from to = behind-at st item-key extent high from to e in
+        let k : BehindAt s c (target .end) item-key from to = behind-at st item-key extent high from to e in
         let weight : count ≡ sharedCount (k .item .hit) = counts ∙ count-is k goods in
         put-answered st (without-it st k) room q (reduceTotal (c .hit .bytes) (sharedCount (k .item .hit))) _ r old new
         (turned (some (k .item)) (k .finds) ∙ ap (bind (reduceTotal (c .hit .bytes) (sharedCount (k .item .hit)))) (λ j d. replaced-without st k d j))

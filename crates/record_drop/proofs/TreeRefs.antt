@@ -23,20 +23,21 @@ use Rattle.item_write.proofs.Writes.{answered-no}
 use Rattle.plan_write.specs.declared.plan.Outcome.the-variants.{Absent}
 use Rattle.plan_write.specs.declared.plan.Plan.{Plan}
 use Rattle.plan_write.specs.Plans.{planAnswer, Planned}
+use Rattle.record_edit.specs.declared.RecordAt.{RecordAt}
 use Rattle.record_edit.specs.Records.{dataOf}
-use Rattle.drop_write.specs.Stands.{Stands}
 use Rattle.drop_write.specs.Edits.{nothing, gone, heldPlan, behindOf}
+use Rattle.drop_write.proofs.Stands.{Stands}
 use Rattle.drop_write.proofs.Behind.{BehindAt, behind-at, behind-none}
 use Rattle.drop_write.proofs.Puts.{put-answered, inline-answered, without-it, replaced-without}
 use Rattle.drop_write.proofs.Turns.{is-absent, turns}
 
-module _ (s : List ℕ) (start end n : ℕ) (name : BlockRef) (key : Key) (key-is : key ≡ itemAt s start .key) (p : Plan)
-    (planned : Planned p (dataOf s start end) (dropInlineTreeRef (key .kind) (dataOf s start end) name)) (room : ℕ) where
-  module _ (c : Cut Item) (st : Stands s c start end n) where
-    hit-is : record { key = key; bytes = dataOf s start end } ≡ c .hit
-    hit-is = (λ j. record { key = key-is j; bytes = dataOf s start end }) ∙ sym (st .hit-is)
+module _ (s : List ℕ) (target : RecordAt) (name : BlockRef) (p : Plan)
+    (planned : Planned p (dataOf s (target .start) (target .end)) (dropInlineTreeRef (target .key .kind) (dataOf s (target .start) (target .end)) name)) (room : ℕ) where
+  module _ (c : Cut Item) (st : Stands s c target) where
+    hit-is : record { key = target .key; bytes = dataOf s (target .start) (target .end) } ≡ c .hit
+    hit-is = sym (st .hit-is)
 
-    says : planAnswer p (dataOf s start end) ≡ dropInlineTreeRef (c .hit .key .kind) (c .hit .bytes) name
+    says : planAnswer p (dataOf s (target .start) (target .end)) ≡ dropInlineTreeRef (c .hit .key .kind) (c .hit .bytes) name
     says = planned .says ∙ ap (λ (i : Item). dropInlineTreeRef (i .key .kind) (i .bytes) name) hit-is
 
     abbrev other : Answer (List Item)
@@ -46,7 +47,7 @@ module _ (s : List ℕ) (start end n : ℕ) (name : BlockRef) (key : Key) (key-i
         bind (flagged false rest) (λ body. replaced (c .hit .key) body others)))
 
     pub tree-inline : (p .outcome ≡ Absent → ⊥) → (r : Edited) (old new : List ℕ)
-        → Answered (heldPlan room n s start end p (nothing (length s))) r old new
+        → Answered (heldPlan room (target .«item_count») s target p (nothing (length s))) r old new
         → Answered (heldSheet room (dropTreeRef name false (itemsOf s) c)) r old new
     unfolding dropTreeRef flagged bind
     tree-inline there r old new w =
@@ -55,10 +56,10 @@ module _ (s : List ℕ) (start end n : ℕ) (name : BlockRef) (key : Key) (key-i
     module _ (out : p .outcome ≡ Absent) where
       turned : dropTreeRef name false (itemsOf s) c ≡ other
       unfolding dropTreeRef
-      turned = turns (dropInlineTreeRef (c .hit .key .kind) (c .hit .bytes) name) _ other (sym says ∙ is-absent p (dataOf s start end) out)
+      turned = turns (dropInlineTreeRef (c .hit .key .kind) (c .hit .bytes) name) _ other (sym says ∙ is-absent p (dataOf s (target .start) (target .end)) out)
 
       abbrev item-key : Key
-      item-key = keyOf (key .objectid) 176 (name .tree)
+      item-key = keyOf (target .key .objectid) 176 (name .tree)
 
       key-same : item-key ≡ keyOf (c .hit .key .objectid) 176 (name .tree)
       key-same = ap (λ (i : Item). keyOf (i .key .objectid) 176 (name .tree)) hit-is
@@ -69,7 +70,7 @@ module _ (s : List ℕ) (start end n : ℕ) (name : BlockRef) (key : Key) (key-i
       deleted-is o e =
           ap (λ (k : Key). deleted k (itemsOf s)) (sym key-same) ∙ ap (λ (o : Option (Cut Item)). bind (needed 5 o) (λ k. accepted (without k))) e
 
-      pub tree-none : (at : ℕ) (old : List ℕ) → behindOf end (seekIn item-key 1 (itemsOf s)) ≡ Missing at
+      pub tree-none : (at : ℕ) (old : List ℕ) → behindOf (target .end) (seekIn item-key 1 (itemsOf s)) ≡ Missing at
           → Answered (heldSheet room (dropTreeRef name false (itemsOf s) c)) (Denied 5) old old
       unfolding bind needed
       tree-none at old e =
@@ -78,14 +79,14 @@ module _ (s : List ℕ) (start end n : ℕ) (name : BlockRef) (key : Key) (key-i
           (turned ∙ ap (λ (a : Answer (List Item)). bind a (λ others. bind (lowerTotal (c .hit .bytes)) (λ rest. bind (flagged false rest) (λ body. replaced (c .hit .key) body others))))
           (deleted-is none (behind-none st item-key (ap (λ (i : Item). i .key .objectid) hit-is) high at e)))
 
-      pub tree-item : (from to : ℕ) (q : Plan) (r : Edited) (old new : List ℕ) → behindOf end (seekIn item-key 1 (itemsOf s)) ≡ Present from to
-          → Planned q (dataOf s start end) (lowerTotal (dataOf s start end))
-          → Answered (heldPlan room (n - 1) s start end q (gone from to)) r old new
+      pub tree-item : (from to : ℕ) (q : Plan) (r : Edited) (old new : List ℕ) → behindOf (target .end) (seekIn item-key 1 (itemsOf s)) ≡ Present from to
+          → Planned q (dataOf s (target .start) (target .end)) (lowerTotal (dataOf s (target .start) (target .end)))
+          → Answered (heldPlan room (target .«item_count» - 1) s target q (gone from to)) r old new
           → Answered (heldSheet room (dropTreeRef name false (itemsOf s) c)) r old new
       unfolding bind needed flagged
       tree-item from to q r old new e h w =
           let high : 170 ≤ 176 = omega arith in
-          let k : BehindAt s c end item-key from to = behind-at st item-key (ap (λ (i : Item). i .key .objectid) hit-is) high from to e in
+          let k : BehindAt s c (target .end) item-key from to = behind-at st item-key (ap (λ (i : Item). i .key .objectid) hit-is) high from to e in
           put-answered st (without-it st k) room q (lowerTotal (c .hit .bytes)) _ r old new
           (turned ∙ ap (λ (a : Answer (List Item)). bind a (λ others. bind (lowerTotal (c .hit .bytes)) (λ rest. bind (flagged false rest) (λ body. replaced (c .hit .key) body others))))
           (deleted-is (some (k .item)) (k .finds))

@@ -5,6 +5,7 @@ use format::Edited;
 use format::Key;
 use item_list::Listing;
 use item_list::Wanted;
+use record_edit::RecordAt;
 ghost use mathlib.Core.Path.{_≡_};
 ghost use mathlib.Core.Bool.{true};
 ghost use Prim.Native.Nat.{_+_, _≤_};
@@ -12,7 +13,8 @@ ghost use lib.ListN.{length};
 ghost use Rattle.format.specs.Questions.{Answered};
 ghost use Rattle.format.specs.Items.{heldSheet};
 ghost use Rattle.format.specs.Apply.{dropTreeRef, dropKeptTreeRefFrom};
-ghost use Rattle.drop_write.specs.Stands.{Stood, Dropped};
+ghost use Rattle.item_list.specs.Steps.{itemsOf};
+ghost use Rattle.drop_write.specs.Stands.{StandsAt, onKey};
 ghost use Rattle.drop_write.specs.Edits.{ownAt};
 
 // The own-flag set in the flags that stand at `at`.
@@ -20,30 +22,23 @@ fn set_own(out: &mut [u8], at: usize)
     requires { ⌜ at + 8 ≤ length (now out) ⌝ }
     ensures { λ _. ⌜ now (out .exit) ≡ ownAt at (now (out .entry)) ⌝ }
 {
-    let flags = fields::get_u64_le(out, at) | 256;
-    fields::put_u64_le(out, at, flags);
+    let with_own = fields::get_u64_le(out, at) | 256;
+    fields::put_u64_le(out, at, with_own);
 }
 
 // The drop with the own-flag: no byte moves for it, so it is set in the list that was written.
-fn drop_owned(
-    sheet: &[u8],
-    start: usize,
-    end: usize,
-    items: usize,
-    name: BlockRef,
-    out: &mut [u8],
-) -> Edited
-    requires { ⌜ Stood (now sheet) start end items ⌝ }
-    ensures { λ r. ⌜ Dropped (dropTreeRef name true) (now (sheet .entry)) start end items r (now (out .entry)) (now (out .exit)) ⌝ }
+fn drop_owned(sheet: &[u8], target: RecordAt, name: BlockRef, out: &mut [u8]) -> Edited
+    requires { ⌜ StandsAt (now sheet) target ⌝ }
+    ensures { λ r. ⌜ Answered (heldSheet (length (now (out .entry))) (onKey (target .key) (itemsOf (now (sheet .entry))) (dropTreeRef name true (itemsOf (now (sheet .entry)))))) r (now (out .entry)) (now (out .exit)) ⌝ }
 {
-    let edited = drops::drop_tree_ref(sheet, start, end, items, name, out);
+    let edited = drops::drop_tree_ref(sheet, target, name, out);
     match edited {
         Edited::Absent => return Edited::Absent,
         Edited::Remove => return Edited::Remove,
         Edited::Refused(number) => return Edited::Refused(number),
-        Edited::Written(length) => {
-            set_own(out, start + 37);
-            return Edited::Written(length);
+        Edited::Written(size) => {
+            set_own(out, target.start + 37);
+            return Edited::Written(size);
         }
     }
 }
@@ -77,10 +72,16 @@ pub fn drop_kept_tree_ref(
             if item_list::is_past(sheet, start, key) {
                 return Edited::Refused(5);
             }
+            let target = RecordAt {
+                key,
+                start,
+                end,
+                item_count: count,
+            };
             if own {
-                return drop_owned(sheet, start, end, count, name, out);
+                return drop_owned(sheet, target, name, out);
             }
-            return drops::drop_tree_ref(sheet, start, end, count, name, out);
+            return drops::drop_tree_ref(sheet, target, name, out);
         }
     }
 }

@@ -5,18 +5,23 @@ use format::SharedRef;
 use item_list::Sought;
 use plan_write::Outcome;
 use plan_write::Plan;
+use record_edit::RecordAt;
 ghost use mathlib.Core.Path.{_≡_};
 ghost use mathlib.Core.Bool.{cond};
 ghost use Prim.Native.Nat.{_+_, _-_, _≤_};
-ghost use lib.Dec.{eqb};
+ghost use lib.Dec.{T, eqb};
 ghost use lib.ListN.{length};
+ghost use Rattle.fields.specs.Lists.{all};
 ghost use Rattle.fields.specs.Numbers.{le};
 ghost use Rattle.fields.specs.Parts.{part};
 ghost use Rattle.format.specs.Bodies.{reduceTotal, takeInlineShared};
-ghost use Rattle.format.specs.Questions.{bind};
-ghost use Rattle.item_list.specs.Steps.{Listed};
+ghost use Rattle.format.specs.Questions.{Answered, bind};
+ghost use Rattle.format.specs.Items.{heldSheet};
+ghost use Rattle.format.specs.Names.{good};
+ghost use Rattle.format.specs.Ledger.{dropSharedRef};
+ghost use Rattle.item_list.specs.Steps.{itemsOf};
 ghost use Rattle.plan_write.specs.Plans.{Planned};
-ghost use Rattle.drop_write.specs.Stands.{DroppedShared};
+ghost use Rattle.drop_write.specs.Stands.{StandsAt, onKey};
 
 // The reference out of the body, and its own count off the total.
 fn plan_shared(item_type: u8, body: &[u8], name: SharedRef) -> Plan
@@ -38,27 +43,22 @@ fn item_count(sheet: &[u8], to: usize, kind: u8) -> u32
     1
 }
 
-// A shared reference, with all its count off the total.
-pub fn drop_shared_ref(
-    sheet: &[u8],
-    start: usize,
-    end: usize,
-    items: usize,
-    name: SharedRef,
-    out: &mut [u8],
-) -> Edited
-    requires { ⌜ Listed (now sheet) ⌝ }
-    requires { ⌜ (start + 21 ≤ end) × (end ≤ length (now sheet)) × (length (now sheet) ≤ 262144) ⌝ }
-    ensures { λ r. ⌜ DroppedShared name (now (sheet .entry)) start end items r (now (out .entry)) (now (out .exit)) ⌝ }
+// A shared reference, with all its count off the total. Its own item is in its form, as in a balanced list: a 184 item has four bytes.
+pub fn drop_shared_ref(sheet: &[u8], target: RecordAt, name: SharedRef, out: &mut [u8]) -> Edited
+    requires { ⌜ StandsAt (now sheet) target ⌝ }
+    requires { ⌜ T (all good (itemsOf (now sheet))) ⌝ }
+    ensures { λ r. ⌜ Answered (heldSheet (length (now (out .entry))) (onKey (target .key) (itemsOf (now (sheet .entry))) (dropSharedRef name (itemsOf (now (sheet .entry)))))) r (now (out .entry)) (now (out .exit)) ⌝ }
 {
-    let key = item_list::key_at(sheet, start);
-    let plan = plan_shared(key.kind, &sheet[start + 21..end], name);
+    let start = target.start;
+    let end = target.end;
+    let body = &sheet[start + 21..end];
+    let plan = plan_shared(target.key.kind, body, name);
     let outcome = plan.outcome;
     let Outcome::Absent = outcome else {
-        return drop_write::put_record(sheet, start, end, plan, items, out);
+        return drop_write::put_record(sheet, target, plan, out);
     };
     let item = Key {
-        objectid: key.objectid,
+        objectid: target.key.objectid,
         kind: name.kind,
         offset: name.parent,
     };
@@ -71,6 +71,6 @@ pub fn drop_shared_ref(
         return Edited::Refused(5);
     };
     let count = item_count(sheet, to, name.kind);
-    let rest = backref_totals::plan_reduce_total(&sheet[start + 21..end], count as u64);
-    drop_write::put_without(sheet, start, end, rest, from, to, items, out)
+    let rest = backref_totals::plan_reduce_total(body, count as u64);
+    drop_write::put_without(sheet, target, rest, from, to, out)
 }

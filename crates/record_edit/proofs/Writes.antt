@@ -25,7 +25,7 @@ use Rattle.plan_write.specs.Plans.{edited, planned, planAnswer, EditIn}
 use Rattle.plan_write.proofs.Writes.{front-of, written-then}
 use Rattle.plan_write.proofs.Outcomes.{plan-is, length-edited}
 use Rattle.record_edit.specs.declared.Behind.{Behind}
-use Rattle.record_edit.specs.declared.Record.{Record}
+use Rattle.record_edit.specs.declared.RecordAt.{RecordAt}
 use Rattle.record_edit.specs.Records.{dataOf, editLength, BehindIn, restOf, restLength, sheetLength, editedSheet, heldRecord, heldEdit}
 
 -- ---- a planned body
@@ -134,7 +134,7 @@ module _ (b : Behind) (end : ℕ) (s : List ℕ) (h : BehindIn b end s) where
 
 -- ---- the whole list
 
-module _ (s : List ℕ) (r : Record) (p : Plan) (b : Behind) (h : BehindIn b (r .end) s) (k : r .start + 21 ≤ r .end) where
+module _ (s : List ℕ) (r : RecordAt) (p : Plan) (b : Behind) (h : BehindIn b (r .end) s) (k : r .start + 21 ≤ r .end) where
   abbrev body : List ℕ
   body = dataOf s (r .start) (r .end)
 

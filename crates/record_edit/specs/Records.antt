@@ -11,7 +11,7 @@ use Rattle.format.specs.Items.{itemBytes}
 use Rattle.item_write.specs.Writes.{roomFor}
 use Rattle.plan_write.specs.declared.plan.Plan.{Plan}
 use Rattle.record_edit.specs.declared.Behind.{Behind}
-use Rattle.record_edit.specs.declared.Record.{Record}
+use Rattle.record_edit.specs.declared.RecordAt.{RecordAt}
 
 -- the data of the item that stands from `start` up to `end`
 abbrev pub dataOf : List ℕ → ℕ → ℕ → List ℕ
@@ -36,11 +36,11 @@ restOf b end s = (part end (b .from - end) s ++ take (b .size) (b .new)) ++ drop
 abbrev pub restLength : Behind → ℕ → ℕ → ℕ
 restLength b end size = b .from - end + b .size + (size - b .to)
 
-abbrev pub sheetLength : Record → Plan → Behind → ℕ → ℕ
+abbrev pub sheetLength : RecordAt → Plan → Behind → ℕ → ℕ
 sheetLength r p b size = r .start + 21 + editLength p (r .end - (r .start + 21)) + restLength b (r .end) size
 
 -- two splices: the second edit, and before it the record with another body
-unfoldable pub editedSheet : List ℕ → Record → Behind → List ℕ → List ℕ
+unfoldable pub editedSheet : List ℕ → RecordAt → Behind → List ℕ → List ℕ
 editedSheet s r b body =
     spliced (r .start) (r .end) (itemBytes (record { key = r .key; bytes = body })) (spliced (b .from) (b .to) (take (b .size) (b .new)) s)
 

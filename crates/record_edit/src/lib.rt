@@ -6,11 +6,12 @@ mod write;
 
 pub use write::edit_record;
 
-// Where a record stands: its key, its first byte and the position past it.
-pub struct Record {
+// Where an extent's record stands: its key, its first byte, the position past it, and how many items its list has.
+pub struct RecordAt {
     pub key: Key,
     pub start: usize,
     pub end: usize,
+    pub item_count: usize,
 }
 
 // A second edit, behind the record: the bytes from `from` up to `to` give way to the first `size` of `new`.

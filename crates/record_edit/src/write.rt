@@ -1,6 +1,6 @@
 // Question 17 where it is asked, question 21, and then the bytes from left to right, once.
 use super::Behind;
-use super::Record;
+use super::RecordAt;
 use format::Edited;
 use format::Key;
 use plan_write::Outcome;
@@ -57,45 +57,45 @@ fn append_rest(sheet: &[u8], end: usize, behind: Behind, out: &mut [u8], at: usi
     item_write::append(sheet, behind.to, sheet.len(), out, two);
 }
 
-fn write_record(sheet: &[u8], stand: Record, plan: Plan, behind: Behind, out: &mut [u8])
-    requires { ⌜ EditIn plan (dataOf (now sheet) (stand .start) (stand .end)) ⌝ }
-    requires { ⌜ BehindIn behind (stand .end) (now sheet) ⌝ }
-    requires { ⌜ (stand .start + 21 ≤ stand .end) × (editLength plan (stand .end - (stand .start + 21)) ≤ 65535) × (sheetLength stand plan behind (length (now sheet)) ≤ length (now out)) × (length (now sheet) ≤ 262144) ⌝ }
-    ensures { λ _. ⌜ now (out .exit) ≡ written 0 (editedSheet (now (sheet .entry)) stand behind (edited plan (dataOf (now (sheet .entry)) (stand .start) (stand .end)))) (now (out .entry)) ⌝ }
+fn write_record(sheet: &[u8], target: RecordAt, plan: Plan, behind: Behind, out: &mut [u8])
+    requires { ⌜ EditIn plan (dataOf (now sheet) (target .start) (target .end)) ⌝ }
+    requires { ⌜ BehindIn behind (target .end) (now sheet) ⌝ }
+    requires { ⌜ (target .start + 21 ≤ target .end) × (editLength plan (target .end - (target .start + 21)) ≤ 65535) × (sheetLength target plan behind (length (now sheet)) ≤ length (now out)) × (length (now sheet) ≤ 262144) ⌝ }
+    ensures { λ _. ⌜ now (out .exit) ≡ written 0 (editedSheet (now (sheet .entry)) target behind (edited plan (dataOf (now (sheet .entry)) (target .start) (target .end)))) (now (out .entry)) ⌝ }
 {
-    let start = stand.start;
-    let end = stand.end;
+    let start = target.start;
+    let end = target.end;
     let body = &sheet[start + 21..end];
-    let at = append_record(sheet, start, body, stand.key, plan, out);
+    let at = append_record(sheet, start, body, target.key, plan, out);
     append_rest(sheet, end, behind, out, at);
 }
 
 // Questions 17 and 21, then the writing.
 fn write_held(
     sheet: &[u8],
-    stand: Record,
+    target: RecordAt,
     plan: Plan,
     behind: Behind,
     limit: usize,
     count: usize,
     out: &mut [u8],
 ) -> Edited
-    requires { ⌜ EditIn plan (dataOf (now sheet) (stand .start) (stand .end)) ⌝ }
-    requires { ⌜ BehindIn behind (stand .end) (now sheet) ⌝ }
-    requires { ⌜ (stand .start + 21 ≤ stand .end) × (length (now sheet) ≤ 262144) ⌝ }
-    ensures { λ r. ⌜ Answered (heldEdit (length (now (out .entry))) count limit (editedSheet (now (sheet .entry)) stand behind) (edited plan (dataOf (now (sheet .entry)) (stand .start) (stand .end)))) r (now (out .entry)) (now (out .exit)) ⌝ }
+    requires { ⌜ EditIn plan (dataOf (now sheet) (target .start) (target .end)) ⌝ }
+    requires { ⌜ BehindIn behind (target .end) (now sheet) ⌝ }
+    requires { ⌜ (target .start + 21 ≤ target .end) × (length (now sheet) ≤ 262144) ⌝ }
+    ensures { λ r. ⌜ Answered (heldEdit (length (now (out .entry))) count limit (editedSheet (now (sheet .entry)) target behind) (edited plan (dataOf (now (sheet .entry)) (target .start) (target .end)))) r (now (out .entry)) (now (out .exit)) ⌝ }
 {
-    let size = plan_write::plan_length(plan, stand.end - (stand.start + 21));
+    let size = plan_write::plan_length(plan, target.end - (target.start + 21));
     if limit < size {
         return Edited::Refused(17);
     }
     if 65535 < size {
         return Edited::Refused(21);
     }
-    let rest = behind.from - stand.end + behind.size + (sheet.len() - behind.to);
-    let long = stand.start + 21 + size + rest;
+    let rest = behind.from - target.end + behind.size + (sheet.len() - behind.to);
+    let long = target.start + 21 + size + rest;
     if item_write::room_for(out.len(), long, count) {
-        write_record(sheet, stand, plan, behind, out);
+        write_record(sheet, target, plan, behind, out);
         return Edited::Written(long);
     }
     Edited::Refused(21)
@@ -105,21 +105,21 @@ fn write_held(
 // `count` is the number of items that this makes.
 pub fn edit_record(
     sheet: &[u8],
-    stand: Record,
+    target: RecordAt,
     plan: Plan,
     behind: Behind,
     limit: usize,
     count: usize,
     out: &mut [u8],
 ) -> Edited
-    requires { ⌜ PlanIn plan (dataOf (now sheet) (stand .start) (stand .end)) ⌝ }
-    requires { ⌜ BehindIn behind (stand .end) (now sheet) ⌝ }
-    requires { ⌜ (stand .start + 21 ≤ stand .end) × (length (now sheet) ≤ 262144) ⌝ }
-    ensures { λ r. ⌜ Answered (bind (planAnswer plan (dataOf (now (sheet .entry)) (stand .start) (stand .end))) (heldEdit (length (now (out .entry))) count limit (editedSheet (now (sheet .entry)) stand behind))) r (now (out .entry)) (now (out .exit)) ⌝ }
+    requires { ⌜ PlanIn plan (dataOf (now sheet) (target .start) (target .end)) ⌝ }
+    requires { ⌜ BehindIn behind (target .end) (now sheet) ⌝ }
+    requires { ⌜ (target .start + 21 ≤ target .end) × (length (now sheet) ≤ 262144) ⌝ }
+    ensures { λ r. ⌜ Answered (bind (planAnswer plan (dataOf (now (sheet .entry)) (target .start) (target .end))) (heldEdit (length (now (out .entry))) count limit (editedSheet (now (sheet .entry)) target behind))) r (now (out .entry)) (now (out .exit)) ⌝ }
 {
     let outcome = plan.outcome;
     match outcome {
-        Outcome::Edit => write_held(sheet, stand, plan, behind, limit, count, out),
+        Outcome::Edit => write_held(sheet, target, plan, behind, limit, count, out),
         Outcome::Absent => Edited::Absent,
         Outcome::Remove => Edited::Remove,
         Outcome::Refused(number) => Edited::Refused(number),

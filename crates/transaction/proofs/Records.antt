@@ -16,7 +16,7 @@ use Rattle.item_list.specs.Steps.{itemAt}
 use Rattle.plan_write.specs.declared.plan.Plan.{Plan}
 use Rattle.plan_write.specs.Plans.{planAnswer}
 use Rattle.record_edit.specs.declared.Behind.{Behind}
-use Rattle.record_edit.specs.declared.Record.{Record}
+use Rattle.record_edit.specs.declared.RecordAt.{RecordAt}
 use Rattle.record_edit.specs.Records.{dataOf, editedSheet, heldRecord, heldEdit}
 use Rattle.record_edit.proofs.Held.{held-items, held-bind}
 use Rattle.transaction.specs.declared.Spot.the-variants.{Refused as Spot-refused}
@@ -44,24 +44,24 @@ same-sheets room count limit f g h remove = refl
 same-sheets room count limit f g h (accepted d) =
     ap (λ (l : List ℕ). ask (leb (length d) limit) 17 (heldRecord room count (length d) l)) (h d)
 
-module _ (s : List ℕ) (start end : ℕ) (key : Key) (is : key ≡ itemAt s start .key) where
-  abbrev stand : Record
-  stand = record { key = key; start = start; end = end }
+module _ (s : List ℕ) (start end count : ℕ) (key : Key) (is : key ≡ itemAt s start .key) where
+  abbrev target : RecordAt
+  target = record { key = key; start = start; end = end; «item_count» = count }
 
   abbrev nothing : List ℕ → Behind
   nothing new = record { from = length s; to = length s; new = new; size = 0 }
 
-  plain : (new d : List ℕ) → editedSheet s stand (nothing new) d ≡ withBody s start end d
+  plain : (new d : List ℕ) → editedSheet s target (nothing new) d ≡ withBody s start end d
   unfolding editedSheet
   plain new d =
       let whole : spliced (length s) (length s) [] s ≡ s =
       ap (λ (l : List ℕ). l ++ drop (length s) s) (append-nil (take (length s) s)) ∙ take-append-drop (length s) s in
       ap₂ (λ (k : Key) (l : List ℕ). spliced start end (itemBytes (record { key = k; bytes = d })) l) is whole
 
-  pub nothing-behind : (room count limit : ℕ) (new : List ℕ) (a : Answer (List ℕ)) {r : Edited} {old now : List ℕ}
-      → Answered (bind a (heldEdit room count limit (editedSheet s stand (nothing new)))) r old now
+  pub nothing-behind : (room limit : ℕ) (new : List ℕ) (a : Answer (List ℕ)) {r : Edited} {old now : List ℕ}
+      → Answered (bind a (heldEdit room count limit (editedSheet s target (nothing new)))) r old now
       → Answered (bind a (heldEdit room count limit (withBody s start end))) r old now
-  nothing-behind room count limit new a {r} {old} {now} w =
+  nothing-behind room limit new a {r} {old} {now} w =
       subst (λ (x : Answer (List ℕ)). Answered x r old now) (same-sheets room count limit _ _ (plain new) a) w
 
 -- ---- another body

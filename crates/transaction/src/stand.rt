@@ -6,7 +6,7 @@ use item_list::Listing;
 use item_list::Wanted;
 use plan_write::Plan;
 use record_edit::Behind;
-use record_edit::Record;
+use record_edit::RecordAt;
 ghost use mathlib.Core.Path.{_≡_};
 ghost use mathlib.Core.Bool.{true};
 ghost use Prim.Native.Nat.{_+_, _-_, _≤_};
@@ -81,10 +81,11 @@ pub fn put_back(
     ensures { λ r. ⌜ Answered (bind (planAnswer plan (dataOf (now (sheet .entry)) start end)) (heldEdit (length (now (out .entry))) count limit (withBody (now (sheet .entry)) start end))) r (now (out .entry)) (now (out .exit)) ⌝ }
 {
     let n = sheet.len();
-    let stand = Record {
+    let target = RecordAt {
         key: item_list::key_at(sheet, start),
         start,
         end,
+        item_count: count,
     };
     let behind = Behind {
         from: n,
@@ -92,5 +93,5 @@ pub fn put_back(
         new: [0; 4],
         size: 0,
     };
-    record_edit::edit_record(sheet, stand, plan, behind, limit, count, out)
+    record_edit::edit_record(sheet, target, plan, behind, limit, count, out)
 }

@@ -7,9 +7,9 @@ use Rattle.drop_write.proofs.edits.put.Tie as tie
 
 returns : tie.Need-returns
 returns c =
-    let s = c .before .before .before .before .before .before .before in
-    put-held (now (s .args .sheet)) (s .args .start) (s .args .end) _ (s .args .plan) (s .args .behind) (length (now (s .args .out))) (s .args .count) _ (now (s .args .out)) _
-    (c .before .before .before .before .key-at .ensures) (s .pre .0) (c .before .before .edit-record .ensures)
+    let s = c .before .before .before .before .before .before in
+    put-held (now (s .args .sheet)) (s .args .target) (s .args .plan) (s .args .behind) (length (now (s .args .out))) (s .args .count) _ (now (s .args .out)) _ (s .pre .0)
+    (c .before .before .edit-record .ensures)
 
 pub put-spec : {M : Type 1} → statement M
-put-spec = tie.close (tie.spec (λ c κs. search needs) (λ c κs. search needs) (λ c. search needs) returns)
+put-spec = tie.close (tie.spec (λ c κs. search needs) (λ c. search needs) returns)

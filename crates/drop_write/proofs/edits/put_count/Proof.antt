@@ -11,7 +11,7 @@ use Rattle.drop_write.proofs.edits.put_count.Tie as tie
 returns : tie.Need-returns
 returns c =
     let s = c .before .before .before .before .before .before .before in
-    let e = ap (λ (l : List ℕ). heldPlan (length (now (s .args .out))) (s .args .items) (now (s .args .sheet)) (s .args .start) (s .args .end) (s .args .plan) (record { from = s .args .to - 4; to = s .args .to; new = l; size = 4 })) (c .before .before .before .before .count-bytes .ensures) in
+    let e = ap (λ (l : List ℕ). heldPlan (length (now (s .args .out))) (s .args .target .«item_count») (now (s .args .sheet)) (s .args .target) (s .args .plan) (record { from = s .args .to - 4; to = s .args .to; new = l; size = 4 })) (c .before .before .before .before .count-bytes .ensures) in
     rw (← e) (c .before .before .put .ensures)
 
 pub put-count-spec : {M : Type 1} → statement M

@@ -10,7 +10,7 @@ use Rattle.drop_write.proofs.edits.put_without.Tie as tie
 returns : tie.Need-returns
 returns c =
     let s = c .before .before .before .before .before .before .before in
-    let e = ap (λ (k : ℕ). heldPlan (length (now (s .args .out))) k (now (s .args .sheet)) (s .args .start) (s .args .end) (s .args .plan) (gone (s .args .from) (s .args .to))) (c .before .before .before .before .one-less .ensures) in
+    let e = ap (λ (k : ℕ). heldPlan (length (now (s .args .out))) k (now (s .args .sheet)) (s .args .target) (s .args .plan) (gone (s .args .from) (s .args .to))) (c .before .before .before .before .one-less .ensures) in
     rw (← e) (c .before .before .put .ensures)
 
 pub put-without-spec : {M : Type 1} → statement M

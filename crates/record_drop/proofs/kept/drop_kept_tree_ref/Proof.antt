@@ -8,7 +8,8 @@ use Rattle.item_list.specs.Seeks.{passing}
 use Rattle.item_list.proofs.Reading.{Located, located, lacking, listing-refused}
 use Rattle.item_list.proofs.Places.{key-missing, key-room, key-past, key-here}
 use Rattle.item_write.proofs.Writes.{answered-no}
-use Rattle.record_drop.proofs.KeptRecords.{kept-refused, kept-none, kept-told, Kept, kept}
+use Rattle.drop_write.specs.Stands.{StandsAt}
+use Rattle.record_drop.proofs.KeptRecords.{kept-refused, kept-none, kept-stands, kept-told}
 use borrow.Author.Needs.{needs}
 use Rattle.record_drop.proofs.kept.drop_kept_tree_ref.Statement.{statement}
 use Rattle.record_drop.proofs.kept.drop_kept_tree_ref.Tie as tie
@@ -39,33 +40,27 @@ returns-3 c =
     answered-no _ _ _ (now (a .out)) (kept-none (now (a .sheet)) (a .bytenr) (a .level) (a .name) (a .own) (l .list) _ (key-past _ _ _ _ _ _ l (sym (c .before .is-past .ensures) ∙ c .if1 .taken)))
 
 -- it is the record
-record-kept : (c : tie.Else1) → Kept (now (c .before .before .before .before .before .before .before .before .args .sheet)) (c .before .before .before .before .before .before .before .before .args .bytenr) (c .before .before .before .before .before .before .before .before .args .level) (c .before .before .before .before .before .before .before .before .args .name) (c .before .before .before .before .before .before .before .before .args .own) (found (c .before .before) .list) (c .before .before .before .listing2 .given .0 .1 .1 .0) (c .before .before .before .listing2 .given .0 .1 .1 .1 .0)
-record-kept c =
+stood : (c : tie.Else1) → StandsAt (now (c .before .before .before .before .before .before .before .before .args .sheet)) (record { key = keyOf (c .before .before .before .before .before .before .before .before .args .bytenr) 169 (c .before .before .before .before .before .before .before .before .args .level); start = c .before .before .before .listing2 .given .0 .1 .1 .0; end = c .before .before .before .listing2 .given .0 .1 .1 .1 .0; «item_count» = c .before .before .before .listing2 .given .0 .0 })
+stood c =
     let a = c .before .before .before .before .before .before .before .before .args in
     let l = found (c .before .before) in
-    kept (now (a .sheet)) (a .bytenr) (a .level) (a .name) (a .own) (l .list) _ _ (key-here _ _ _ _ _ _ l (sym (c .before .is-past .ensures) ∙ c .if1 .left))
+    kept-stands (now (a .sheet)) (a .bytenr) (a .level) (a .name) (a .own) (l .list) _ _ (key-here _ _ _ _ _ _ l (sym (c .before .is-past .ensures) ∙ c .if1 .left))
 
 drop-owned-requires : tie.Need-drop-owned-requires
-drop-owned-requires c κs = let k = record-kept (c .before .before) in record { at-cut = k .at-cut; stands = k .stands }
+drop-owned-requires c κs = stood (c .before .before)
 
 returns-4 : tie.Need-returns-4
 returns-4 c =
     let a = c .before .before .before .before .before .before .before .before .before .before .before .before .before .args in
-    let k = record-kept (c .before .before .before .before .before) in
-    kept-told (now (a .sheet)) (a .bytenr) (a .level) (a .name) (a .own) (found (c .before .before .before .before .before .before .before) .list) k _ (length (now (a .out))) _ (now (a .out)) _ (c .before .before .before .before .if2 .taken)
-    (c .before .before .drop-owned .ensures (k .at-cut) (k .stands))
+    kept-told (now (a .sheet)) (a .bytenr) (a .level) (a .name) (a .own) (found (c .before .before .before .before .before .before .before) .list) _ (length (now (a .out))) _ (now (a .out)) _ (c .before .before .before .before .if2 .taken) (c .before .before .drop-owned .ensures)
 
 drop-tree-ref-requires : tie.Need-drop-tree-ref-requires
-drop-tree-ref-requires c κs =
-    let st = record-kept (c .before .before) .stands in
-    (record { reads = st .reads }, (st .ordered, st .within, st .small))
+drop-tree-ref-requires c κs = stood (c .before .before)
 
 returns-5 : tie.Need-returns-5
 returns-5 c =
     let a = c .before .before .before .before .before .before .before .before .before .before .before .before .before .args in
-    let k = record-kept (c .before .before .before .before .before) in
-    kept-told (now (a .sheet)) (a .bytenr) (a .level) (a .name) (a .own) (found (c .before .before .before .before .before .before .before) .list) k _ (length (now (a .out))) _ (now (a .out)) _ (c .before .before .before .before .if2 .left)
-    (c .before .before .drop-tree-ref .ensures (k .at-cut) (k .stands))
+    kept-told (now (a .sheet)) (a .bytenr) (a .level) (a .name) (a .own) (found (c .before .before .before .before .before .before .before) .list) _ (length (now (a .out))) _ (now (a .out)) _ (c .before .before .before .before .if2 .left) (c .before .before .drop-tree-ref .ensures)
 
 pub drop-kept-tree-ref-spec : {M : Type 1} → statement M
 drop-kept-tree-ref-spec =

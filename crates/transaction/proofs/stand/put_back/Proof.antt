@@ -9,7 +9,7 @@ returns : tie.Need-returns
 returns c =
     let key = c .before .before .before .before in
     let s = key .before .before .before in
-    nothing-behind (now (s .args .sheet)) (s .args .start) (s .args .end) _ (key .key-at .ensures) (length (now (s .args .out))) (s .args .count) (s .args .limit) _ _ (c .before .before .edit-record .ensures)
+    nothing-behind (now (s .args .sheet)) (s .args .start) (s .args .end) (s .args .count) _ (key .key-at .ensures) (length (now (s .args .out))) (s .args .limit) _ _ (c .before .before .edit-record .ensures)
 
 pub put-back-spec : {M : Type 1} → statement M
 put-back-spec =
