@@ -21,7 +21,7 @@ use Rattle.format.specs.Names.{sameName, isRefItem, viewRecord, inForm, 
 use Rattle.format.specs.Ledger.{added, droppedAt, dropDataRef, sharedCount, dropSharedRef, changed, post, posted}
 use Rattle.format.specs.History.{Posting, answerTo, enter, itemsIn}
 
--- the number that a posting to a sheet answers. An `unfolding` line with `computed` on it opens each definition on the line below
+-- what a posting to a sheet answers, as a code. An `unfolding` line with `computed` on it opens each definition on the line below
 unfoldable pub computed : List ℕ → Posting → ℕ
 unfolding same le leBytes be beBytes words wordBytes step steps byteStep crcRun ask bind needed found ifAbsent also held codeOf dataRefHash rowIn known payloadLength countPosition counted fieldCount weightOf refAt readRefs refBytes refsBytes totalOf flagsOf startOf readBody bodyBytes placeOf place falls follows bodyFits sharedKind onBody onHead named raisedBy loweredByOne reducedBy onTotal raiseTotal lowerTotal reduceTotal less dropInline dropInlineTreeRef dropInlineDataRef takeInlineShared keyedCount dropKeyedDataRef stops gapAt insertPosition standingOr spotAnywhere scanned spotByScan isGap standingWeight addAt addInlineTreeRef addInlineData addInlineShared keyedDataRefBody sameKey keyBelow itemLength wholeItem firstItem readItems readSheet keyBytes itemBytes itemsBytes sheetBytes nodesizeFits dataFits onSheet sheetHolds heldSheet deleted inlineLimit isRecord onRecord replaced keyedBody applyKeyedAdd sharedBody applySharedAdd flagged dropTreeRef sameName isRefItem viewRecord inForm viewRefItem viewOf refEntry refEntries viewEntries itemEntries entries wellFormed viewTotal balanced added droppedAt dropDataRef sharedCount dropSharedRef changed post posted answerTo itemsIn enter
 computed sheet p = codeOf (answerTo sheet p)
@@ -29,14 +29,14 @@ computed sheet p = codeOf (answerTo sheet p)
 -- ---- names
 
 abbrev pub tree : ℕ → BlockRef
-tree number = record { tree = number }
+tree id = record { tree = id }
 
 -- of tree 5
 abbrev pub inode : ℕ → ℕ → DataRef
 inode objectid offset = record { tree = 5; objectid = objectid; offset = offset }
 
 abbrev pub parent : ℕ → ℕ → SharedRef
-parent kind number = record { kind = kind; parent = number }
+parent kind block = record { kind = kind; parent = block }
 
 -- ---- items
 
@@ -48,29 +48,29 @@ abbrev pub recordBytes : ℕ → ℕ → List ℕ → List Ref → List ℕ
 recordBytes flags total info refs = bodyBytes (record { total = total; fixed = leBytes 8 7 ++ (leBytes 8 flags ++ info); refs = refs })
 
 -- the record of a block; of a data extent; of a block as type 168, with 18 bytes before the references
-abbrev pub block : ℕ → ℕ → List Ref → Item
-block extent total refs = item extent 169 0 (recordBytes 2 total [] refs)
+abbrev pub blockRecord : ℕ → ℕ → List Ref → Item
+blockRecord extent total refs = item extent 169 0 (recordBytes 2 total [] refs)
 
-abbrev pub file : ℕ → ℕ → List Ref → Item
-file extent total refs = item extent 168 4096 (recordBytes 1 total [] refs)
+abbrev pub dataRecord : ℕ → ℕ → List Ref → Item
+dataRecord extent total refs = item extent 168 4096 (recordBytes 1 total [] refs)
 
-abbrev pub oldBlock : ℕ → ℕ → List Ref → Item
-oldBlock extent total refs =
+abbrev pub blockInfoRecord : ℕ → ℕ → List Ref → Item
+blockInfoRecord extent total refs =
     item extent 168 4096 (recordBytes 2 total (1 ∷ 2 ∷ 3 ∷ 4 ∷ 5 ∷ 6 ∷ 7 ∷ 8 ∷ 9 ∷ 10 ∷ 11 ∷ 12 ∷ 13 ∷ 14 ∷ 15 ∷ 16 ∷ 17 ∷ 18 ∷ []) refs)
 
 abbrev pub dataRef : ℕ → ℕ → Ref
 dataRef objectid count = ref 178 (5 ∷ objectid ∷ 0 ∷ []) count
 
--- ---- a posting with the number that it answers, 0 where it is accepted
+-- ---- a posting with the code that it answers: 0 where it is accepted, else the number of the refusal
 
-pub record Line : Type 0 where
+pub record Expected : Type 0 where
   pub posting : Posting
-  pub number : ℕ
+  pub code : ℕ
 
 -- with that nodesize and lent room
-abbrev pub within : ℕ → ℕ → Change → ℕ → Line
-within nodesize room change number =
-    record { posting = record { nodesize = nodesize; change = change; room = room }; number = number }
+abbrev pub expectWithin : ℕ → ℕ → Change → ℕ → Expected
+expectWithin nodesize room change code =
+    record { posting = record { nodesize = nodesize; change = change; room = room }; code = code }
 
-abbrev pub line : Change → ℕ → Line
-line = within 4096 1000
+abbrev pub expect : Change → ℕ → Expected
+expect = expectWithin 4096 1000

@@ -1,6 +1,6 @@
 -- A list of postings computed: from a balanced sheet to the sheet that document 01 says, with what each posting answers, what the
--- history says of names and what is left of them. Each of the six changes is accepted in each of its forms, inline and at an
--- item. Assumes nothing.
+-- history says of names and what they count in the end. Each of the six changes is accepted in each of its forms, inline and at
+-- an item, and refused with 3, 5, 9, 10, 11, 13, 15, 17 and 21; `Singles` has 1, 2 and 4. Assumes nothing.
 use mathlib.Core.Path.{_≡_, refl, ap, _∙_}
 use mathlib.Core.Bool.{Bool, true, false}
 use mathlib.Core.List.{List, [], _∷_}
@@ -9,139 +9,139 @@ use lib.Dec.{T, eqb}
 use Rattle.fields.specs.Numbers.{leBytes}
 use Rattle.format.specs.declared.Change.the-variants.{AddBlock, AddData, AddShared, DropBlock, DropData, DropShared}
 use Rattle.format.specs.Questions.{Answer, codeOf}
-use Rattle.format.specs.References.{ref}
+use Rattle.format.specs.References.{ref, weightOf}
 use Rattle.format.specs.Bodies.{keyedDataRefBody}
 use Rattle.format.specs.Items.{Item, sheetBytes}
 use Rattle.format.specs.Names.{Name, count}
 use Rattle.format.specs.History.{Posting, answerTo, sheetAfter, isAccepted, run, Seen, seen, Tally, history, historyOf, touched, itemsOf, sheetItems, balancedSheet}
-use Rattle.format.proofs.Computed.{computed, tree, inode, parent, item, block, file, oldBlock, dataRef, Line, within, line}
+use Rattle.format.proofs.Computed.{computed, tree, inode, parent, item, blockRecord, dataRecord, blockInfoRecord, dataRef, Expected, expectWithin, expect}
 
 -- ---- the sheets
 
 -- an extent that no posting names: a triple that another extent has too, a reference item, and an item that names nothing
 abbrev others : List Item
 others =
-    file 24576 3 (dataRef 257 1 ∷ []) ∷ item 24576 184 100 (leBytes 4 2) ∷ item 24576 192 4096 (1 ∷ 2 ∷ 3 ∷ []) ∷ []
+    dataRecord 24576 3 (dataRef 257 1 ∷ []) ∷ item 24576 184 100 (leBytes 4 2) ∷ item 24576 192 4096 (1 ∷ 2 ∷ 3 ∷ []) ∷ []
 
 unfoldable pub opening : List ℕ
 opening =
     sheetBytes
-    (block 8192 4 (ref 176 (5 ∷ []) 1 ∷ ref 182 (100 ∷ []) 1 ∷ [])
+    (blockRecord 8192 4 (ref 176 (5 ∷ []) 1 ∷ ref 182 (100 ∷ []) 1 ∷ [])
     ∷ item 8192 176 9 []
     ∷ item 8192 182 400 []
-    ∷ file 12288 9 (ref 172 (5 ∷ []) 0 ∷ dataRef 257 2 ∷ ref 184 (50 ∷ []) 3 ∷ [])
+    ∷ dataRecord 12288 9 (ref 172 (5 ∷ []) 0 ∷ dataRef 257 2 ∷ ref 184 (50 ∷ []) 3 ∷ [])
     ∷ item 12288 178 0x0dfb591fbbf5f519 (keyedDataRefBody (inode 258 0) 2)
     ∷ item 12288 184 300 (leBytes 4 2)
-    ∷ oldBlock 16384 1 (ref 176 (5 ∷ []) 1 ∷ [])
-    ∷ block 20480 1 (ref 182 (100 ∷ []) 1 ∷ [])
+    ∷ blockInfoRecord 16384 1 (ref 176 (5 ∷ []) 1 ∷ [])
+    ∷ blockRecord 20480 1 (ref 182 (100 ∷ []) 1 ∷ [])
     ∷ others)
 
 -- what the block at 8192 ends with
 abbrev kept : Item
-kept = block 8192 4 (ref 176 (7 ∷ []) 1 ∷ ref 176 (3 ∷ []) 1 ∷ ref 176 (2 ∷ []) 1 ∷ ref 182 (200 ∷ []) 1 ∷ [])
+kept = blockRecord 8192 4 (ref 176 (7 ∷ []) 1 ∷ ref 176 (3 ∷ []) 1 ∷ ref 176 (2 ∷ []) 1 ∷ ref 182 (200 ∷ []) 1 ∷ [])
 
 unfoldable pub closing : List ℕ
 closing =
     sheetBytes
     (kept
-    ∷ file 12288 12 (ref 172 (5 ∷ []) 0 ∷ dataRef 258 6 ∷ dataRef 257 4 ∷ ref 184 (60 ∷ []) 2 ∷ [])
-    ∷ oldBlock 16384 1 (ref 176 (4 ∷ []) 1 ∷ [])
-    ∷ block 20480 0 []
+    ∷ dataRecord 12288 12 (ref 172 (5 ∷ []) 0 ∷ dataRef 258 6 ∷ dataRef 257 4 ∷ ref 184 (60 ∷ []) 2 ∷ [])
+    ∷ blockInfoRecord 16384 1 (ref 176 (4 ∷ []) 1 ∷ [])
+    ∷ blockRecord 20480 0 []
     ∷ others)
 
 -- ---- the postings
 
-unfoldable pub lines : List Line
-lines =
+unfoldable pub expected : List Expected
+expected =
     -- data references. The item of inode 258 goes with its last count; (5, 259, 1228700967) has the hash of (5, 258, 0)
-    line (DropData 12288 (inode 258 0)) 0
-    ∷ line (DropData 12288 (inode 259 1228700967)) 15
-    ∷ line (AddData 12288 (inode 258 0) 0) 9
-    ∷ line (DropData 12288 (inode 258 0)) 0
-    ∷ line (DropData 12288 (inode 258 0)) 5
+    expect (DropData 12288 (inode 258 0)) 0
+    ∷ expect (DropData 12288 (inode 259 1228700967)) 15
+    ∷ expect (AddData 12288 (inode 258 0) 0) 9
+    ∷ expect (DropData 12288 (inode 258 0)) 0
+    ∷ expect (DropData 12288 (inode 258 0)) 5
     -- a body that does not grow is not held to the inline limit, which is 0 here
-    ∷ within 501 1000 (AddData 12288 (inode 257 0) 3) 0
-    ∷ within 501 1000 (AddData 12288 (inode 256 0) 1) 17
-    ∷ line (AddData 12288 (inode 257 0) 4294967291) 11
-    ∷ line (DropData 12288 (inode 257 0)) 0
-    ∷ line (AddData 12288 (inode 256 0) 0) 10
-    ∷ line (AddData 12288 (inode 256 0) 1) 0
-    ∷ line (DropData 12288 (inode 256 0)) 0
+    ∷ expectWithin 501 1000 (AddData 12288 (inode 257 0) 3) 0
+    ∷ expectWithin 501 1000 (AddData 12288 (inode 256 0) 1) 17
+    ∷ expect (AddData 12288 (inode 257 0) 4294967291) 11
+    ∷ expect (DropData 12288 (inode 257 0)) 0
+    ∷ expect (AddData 12288 (inode 256 0) 0) 10
+    ∷ expect (AddData 12288 (inode 256 0) 1) 0
+    ∷ expect (DropData 12288 (inode 256 0)) 0
     -- block references, inline before and after those that stand, and the item of tree 9
-    ∷ line (AddBlock 8192 (tree 7)) 0
-    ∷ line (AddBlock 8192 (tree 7)) 9
-    ∷ within 65536 1000 (AddBlock 8192 (tree 3)) 0
-    ∷ within 501 1000 (AddBlock 8192 (tree 9)) 9
-    ∷ line (DropBlock 8192 (tree 9)) 0
-    ∷ line (DropBlock 8192 (tree 9)) 5
-    ∷ line (DropBlock 8192 (tree 5)) 0
-    ∷ line (DropBlock 16384 (tree 5)) 13
-    ∷ line (AddBlock 16384 (tree 4)) 0
-    ∷ line (DropBlock 16384 (tree 5)) 0
-    ∷ line (AddBlock 4096 (tree 4)) 5
+    ∷ expect (AddBlock 8192 (tree 7)) 0
+    ∷ expect (AddBlock 8192 (tree 7)) 9
+    ∷ expectWithin 65536 1000 (AddBlock 8192 (tree 3)) 0
+    ∷ expectWithin 501 1000 (AddBlock 8192 (tree 9)) 9
+    ∷ expect (DropBlock 8192 (tree 9)) 0
+    ∷ expect (DropBlock 8192 (tree 9)) 5
+    ∷ expect (DropBlock 8192 (tree 5)) 0
+    ∷ expect (DropBlock 16384 (tree 5)) 13
+    ∷ expect (AddBlock 16384 (tree 4)) 0
+    ∷ expect (DropBlock 16384 (tree 5)) 0
+    ∷ expect (AddBlock 4096 (tree 4)) 5
     -- shared references
-    ∷ line (AddShared 8192 (parent 182 200) 1) 0
-    ∷ line (AddShared 8192 (parent 182 200) 2) 9
-    ∷ line (AddShared 8192 (parent 182 300) 2) 10
-    ∷ line (AddShared 12288 (parent 184 60) 2) 0
-    ∷ line (AddShared 12288 (parent 184 50) 4) 0
-    ∷ line (AddShared 12288 (parent 184 50) 4294967289) 11
-    ∷ line (AddShared 12288 (parent 184 60) 0) 10
-    ∷ line (AddShared 12288 (parent 184 300) 1) 9
-    ∷ line (AddShared 12288 (parent 178 60) 1) 3
+    ∷ expect (AddShared 8192 (parent 182 200) 1) 0
+    ∷ expect (AddShared 8192 (parent 182 200) 2) 9
+    ∷ expect (AddShared 8192 (parent 182 7) 2) 10
+    ∷ expect (AddShared 12288 (parent 184 60) 2) 0
+    ∷ expect (AddShared 12288 (parent 184 50) 4) 0
+    ∷ expect (AddShared 12288 (parent 184 50) 4294967289) 11
+    ∷ expect (AddShared 12288 (parent 184 60) 0) 10
+    ∷ expect (AddShared 12288 (parent 184 300) 1) 9
+    ∷ expect (AddShared 12288 (parent 178 60) 1) 3
     -- this one is held to the limit, though the body does not grow
-    ∷ within 501 1000 (AddShared 12288 (parent 184 50) 1) 17
-    ∷ line (DropShared 12288 (parent 184 50)) 0
-    ∷ line (DropShared 12288 (parent 184 300)) 0
-    ∷ line (DropShared 8192 (parent 182 400)) 0
-    ∷ line (DropShared 8192 (parent 182 100)) 0
-    ∷ line (AddShared 8192 (parent 182 100) 1) 0
-    ∷ line (DropShared 8192 (parent 182 100)) 0
+    ∷ expectWithin 501 1000 (AddShared 12288 (parent 184 50) 1) 17
+    ∷ expect (DropShared 12288 (parent 184 50)) 0
+    ∷ expect (DropShared 12288 (parent 184 300)) 0
+    ∷ expect (DropShared 8192 (parent 182 400)) 0
+    ∷ expect (DropShared 8192 (parent 182 100)) 0
+    ∷ expect (AddShared 8192 (parent 182 100) 1) 0
+    ∷ expect (DropShared 8192 (parent 182 100)) 0
     -- the total may reach 0
-    ∷ line (DropShared 20480 (parent 182 100)) 0
-    ∷ line (DropShared 20480 (parent 182 100)) 5
-    ∷ line (DropShared 12288 (parent 178 60)) 3
-    ∷ within 500 1000 (DropShared 8192 (parent 182 200)) 3
+    ∷ expect (DropShared 20480 (parent 182 100)) 0
+    ∷ expect (DropShared 20480 (parent 182 100)) 5
+    ∷ expect (DropShared 12288 (parent 178 60)) 3
+    ∷ expectWithin 500 1000 (DropShared 8192 (parent 182 200)) 3
     -- a lent output one byte short, and one that just holds the result
-    ∷ within 4096 417 (AddBlock 8192 (tree 2)) 21
-    ∷ within 4096 418 (AddBlock 8192 (tree 2)) 0
-    ∷ line (AddData 12288 (inode 258 0) 6) 0
+    ∷ expectWithin 4096 417 (AddBlock 8192 (tree 2)) 21
+    ∷ expectWithin 4096 418 (AddBlock 8192 (tree 2)) 0
+    ∷ expect (AddData 12288 (inode 258 0) 6) 0
     ∷ []
 
-abbrev postingsOf : List Line → List Posting
+abbrev postingsOf : List Expected → List Posting
 postingsOf [] = []
-postingsOf (l ∷ more) = l .posting ∷ postingsOf more
+postingsOf (e ∷ more) = e .posting ∷ postingsOf more
 
-abbrev numbersOf : List Line → List ℕ
-numbersOf [] = []
-numbersOf (l ∷ more) = l .number ∷ numbersOf more
+abbrev codesOf : List Expected → List ℕ
+codesOf [] = []
+codesOf (e ∷ more) = e .code ∷ codesOf more
 
 -- what the history is to see of them
-abbrev seenOf : List Line → List Seen
+abbrev seenOf : List Expected → List Seen
 seenOf [] = []
-seenOf (l ∷ more) = record { change = l .posting .change; accepted = eqb (l .number) 0 } ∷ seenOf more
+seenOf (e ∷ more) = record { change = e .posting .change; accepted = eqb (e .code) 0 } ∷ seenOf more
 
 unfoldable pub postings : List Posting
-unfolding lines
-postings = postingsOf lines
+unfolding expected
+postings = postingsOf expected
 
--- ---- one run, with all that it tells: the numbers that the postings answer, what the history sees, and the last sheet
+-- ---- one run, with all that it tells: the codes that the postings answer, what the history sees, and the last sheet
 
 pub record Outcome : Type 0 where
-  pub numbers : List ℕ
+  pub codes : List ℕ
   pub told : List Seen
   pub last : List ℕ
 
 abbrev noted : Posting → Answer (List ℕ) → Outcome → Outcome
 noted p answer rest =
     record {
-      numbers = codeOf answer ∷ rest .numbers;
+      codes = codeOf answer ∷ rest .codes;
       told = record { change = p .change; accepted = isAccepted answer } ∷ rest .told;
       last = rest .last;
     }
 
 abbrev outcome : List ℕ → List Posting → Outcome
-outcome sheet [] = record { numbers = []; told = []; last = sheet }
+outcome sheet [] = record { codes = []; told = []; last = sheet }
 outcome sheet (p ∷ more) = noted p (answerTo sheet p) (outcome (sheetAfter sheet (answerTo sheet p)) more)
 
 last-is : (sheet : List ℕ) (list : List Posting) → run sheet list ≡ outcome sheet list .last
@@ -160,14 +160,14 @@ pub opens : T (balancedSheet opening)
 unfolding computed opening
 opens = tt
 
-pub gives : outcome opening postings ≡ record { numbers = numbersOf lines; told = seenOf lines; last = closing }
+pub gives : outcome opening postings ≡ record { codes = codesOf expected; told = seenOf expected; last = closing }
 unfolding computed opening postings closing
 gives = refl
 
-pub answers : outcome opening postings .numbers ≡ numbersOf lines
-answers = ap (λ (o : Outcome). o .numbers) gives
+pub answers : outcome opening postings .codes ≡ codesOf expected
+answers = ap (λ (o : Outcome). o .codes) gives
 
-pub sees : seen opening postings ≡ seenOf lines
+pub sees : seen opening postings ≡ seenOf expected
 sees = told-is opening postings ∙ ap (λ (o : Outcome). o .told) gives
 
 pub closes : run opening postings ≡ closing
@@ -175,69 +175,78 @@ closes = last-is opening postings ∙ ap (λ (o : Outcome). o .last) gives
 
 -- ---- what the history says of names, and what they count in the end
 
-pub record Account : Type 0 where
+pub record NameTally : Type 0 where
   pub name : Name
   pub tally : Tally
   pub left : ℕ
 
-abbrev account : ℕ → ℕ → List ℕ → ℕ → ℕ → ℕ → ℕ → Account
-account extent kind fields opening given taken left =
+abbrev nameTally : ℕ → ℕ → List ℕ → ℕ → ℕ → ℕ → ℕ → NameTally
+nameTally extent kind fields opening given taken left =
     record {
       name = record { extent = extent; kind = kind; fields = fields };
       tally = record { opening = opening; given = given; taken = taken };
       left = left;
     }
 
-unfoldable pub accounts : List Account
-accounts =
+unfoldable pub nameTallies : List NameTally
+nameTallies =
     -- given and taken, and the same triple in another extent
-    account 12288 178 (5 ∷ 257 ∷ 0 ∷ []) 2 3 1 4
-    ∷ account 24576 178 (5 ∷ 257 ∷ 0 ∷ []) 1 0 0 1
+    nameTally 12288 178 (5 ∷ 257 ∷ 0 ∷ []) 2 3 1 4
+    ∷ nameTally 24576 178 (5 ∷ 257 ∷ 0 ∷ []) 1 0 0 1
     -- an item's last count taken, then given inline
-    ∷ account 12288 178 (5 ∷ 258 ∷ 0 ∷ []) 2 6 2 6
+    ∷ nameTally 12288 178 (5 ∷ 258 ∷ 0 ∷ []) 2 6 2 6
     -- of the same hash, never accepted
-    ∷ account 12288 178 (5 ∷ 259 ∷ 1228700967 ∷ []) 0 0 0 0
-    ∷ account 8192 176 (7 ∷ []) 0 1 0 1
-    ∷ account 8192 176 (5 ∷ []) 1 0 1 0
-    ∷ account 8192 176 (9 ∷ []) 1 0 1 0
+    ∷ nameTally 12288 178 (5 ∷ 259 ∷ 1228700967 ∷ []) 0 0 0 0
+    ∷ nameTally 8192 176 (7 ∷ []) 0 1 0 1
+    ∷ nameTally 8192 176 (5 ∷ []) 1 0 1 0
+    ∷ nameTally 8192 176 (9 ∷ []) 1 0 1 0
     -- all of it taken, inline and as an item
-    ∷ account 12288 184 (50 ∷ []) 3 4 7 0
-    ∷ account 12288 184 (300 ∷ []) 2 0 2 0
+    ∷ nameTally 12288 184 (50 ∷ []) 3 4 7 0
+    ∷ nameTally 12288 184 (300 ∷ []) 2 0 2 0
     -- taken, given and taken again
-    ∷ account 8192 182 (100 ∷ []) 1 1 2 0
-    -- an item in an extent that no posting names; refused; an owner reference names nothing
-    ∷ account 24576 184 (100 ∷ []) 2 0 0 2
-    ∷ account 8192 182 (300 ∷ []) 0 0 0 0
-    ∷ account 12288 172 (5 ∷ []) 0 0 0 0
+    ∷ nameTally 8192 182 (100 ∷ []) 1 1 2 0
+    -- an item in an extent that no posting names; refused, beside tree 7; an owner reference names nothing
+    ∷ nameTally 24576 184 (100 ∷ []) 2 0 0 2
+    ∷ nameTally 8192 182 (7 ∷ []) 0 0 0 0
+    ∷ nameTally 12288 172 (5 ∷ []) 0 0 0 0
     ∷ []
 
-abbrev tallies : List Account → List Tally
+abbrev tallies : List NameTally → List Tally
 tallies [] = []
 tallies (a ∷ more) = a .tally ∷ tallies more
 
-abbrev historiesOf : List Account → List ℕ → List Posting → List Tally
+abbrev talliedOf : List NameTally → List ℕ → List Seen → List Tally
+talliedOf [] sheet list = []
+talliedOf (a ∷ more) sheet list = history (a .name) (count (a .name) (sheetItems sheet)) list ∷ talliedOf more sheet list
+
+abbrev historiesOf : List NameTally → List ℕ → List Posting → List Tally
 historiesOf [] sheet list = []
 historiesOf (a ∷ more) sheet list = historyOf (a .name) sheet list ∷ historiesOf more sheet list
 
-abbrev historiesSeen : List Account → List ℕ → List Seen → List Tally
-historiesSeen [] sheet list = []
-historiesSeen (a ∷ more) sheet list = history (a .name) (count (a .name) (sheetItems sheet)) list ∷ historiesSeen more sheet list
+pub tallied : talliedOf nameTallies opening (seenOf expected) ≡ tallies nameTallies
+unfolding computed opening nameTallies expected
+tallied = refl
 
-pub tells : historiesOf accounts opening postings ≡ tallies accounts
-unfolding computed opening accounts lines
-tells = ap (λ (l : List Seen). historiesSeen accounts opening l) sees
+pub tells : historiesOf nameTallies opening postings ≡ tallies nameTallies
+unfolding nameTallies
+tells = ap (λ (l : List Seen). talliedOf nameTallies opening l) sees ∙ tallied
 
-abbrev leftOf : List Account → List ℕ
+abbrev leftOf : List NameTally → List ℕ
 leftOf [] = []
 leftOf (a ∷ more) = a .left ∷ leftOf more
 
-abbrev countsIn : List ℕ → List Account → List ℕ
+abbrev countsIn : List ℕ → List NameTally → List ℕ
 countsIn sheet [] = []
 countsIn sheet (a ∷ more) = count (a .name) (sheetItems sheet) ∷ countsIn sheet more
 
-pub leaves : countsIn closing accounts ≡ leftOf accounts
-unfolding computed closing accounts
+pub leaves : countsIn closing nameTallies ≡ leftOf nameTallies
+unfolding computed closing nameTallies
 leaves = refl
+
+-- "Weights: 172 is 0, 176 and 182 are 1, 178 and 184 are their count", here of a count of 7
+pub weighs : weightOf 172 7 ∷ weightOf 176 7 ∷ weightOf 178 7 ∷ weightOf 182 7 ∷ weightOf 184 7 ∷ [] ≡ 0 ∷ 1 ∷ 7 ∷ 1 ∷ 7 ∷ []
+unfolding computed
+weighs = refl
 
 -- ---- the extents that an accepted change named, and the items of extents
 
@@ -247,7 +256,7 @@ touchedOf list (extent ∷ more) = touched extent list ∷ touchedOf list more
 
 pub touches : touchedOf (seen opening postings) (4096 ∷ 8192 ∷ 12288 ∷ 16384 ∷ 20480 ∷ 24576 ∷ [])
     ≡ false ∷ true ∷ true ∷ true ∷ true ∷ false ∷ []
-unfolding lines
+unfolding expected
 touches = ap (λ (l : List Seen). touchedOf l (4096 ∷ 8192 ∷ 12288 ∷ 16384 ∷ 20480 ∷ 24576 ∷ [])) sees
 
 pub named-items : itemsOf 8192 (sheetItems closing) ≡ kept ∷ []

@@ -1,44 +1,47 @@
 -- Single postings computed: sheets that do not read (1), that are out of order (2) or that are not balanced (4), each for one
 -- reason of document 01, and which of two reasons a posting is refused for. Assumes nothing.
 use mathlib.Core.Path.{_≡_, refl}
+use mathlib.Core.Bool.{Bool, _||_}
 use mathlib.Core.List.{List, [], _∷_, _++_}
 use Prim.Native.Nat.{ℕ, _+_}
+use lib.Dec.{leb, eqb}
 use lib.ListN.{take}
 use Rattle.fields.specs.Numbers.{leBytes, beBytes}
-use Rattle.format.specs.declared.Change.the-variants.{AddBlock, AddData, DropData}
+use Rattle.format.specs.declared.Change.the-variants.{AddBlock, AddData, AddShared, DropBlock, DropData, DropShared}
 use Rattle.format.specs.References.{Ref, ref}
 use Rattle.format.specs.Bodies.{keyedDataRefBody}
 use Rattle.format.specs.Items.{Item, sheetBytes}
-use Rattle.format.proofs.Computed.{computed, tree, inode, item, recordBytes, block, file, dataRef, Line, within, line}
+use Rattle.format.specs.History.{balancedSheet}
+use Rattle.format.proofs.Computed.{computed, tree, inode, parent, item, recordBytes, blockRecord, dataRecord, dataRef, Expected, expectWithin, expect}
 
 pub record Single : Type 0 where
   pub sheet : List ℕ
-  pub line : Line
+  pub expected : Expected
 
-abbrev on : List Item → Line → Single
-on items l = record { sheet = sheetBytes items; line = l }
+abbrev on : List Item → Expected → Single
+on items expected = record { sheet = sheetBytes items; expected = expected }
 
 -- a change that is accepted where the sheet is balanced
-abbrev add : ℕ → Line
-add number = line (AddBlock 8192 (tree 7)) number
+abbrev add : ℕ → Expected
+add code = expect (AddBlock 8192 (tree 7)) code
 
 abbrev bytes : List ℕ → Single
-bytes sheet = record { sheet = sheet; line = add 1 }
+bytes sheet = record { sheet = sheet; expected = add 1 }
 
 -- a block with one reference, and what is put beside it
 abbrev beside : List Item → ℕ → Single
-beside items number = on (block 8192 1 (ref 176 (5 ∷ []) 1 ∷ []) ∷ items) (add number)
+beside items code = on (blockRecord 8192 1 (ref 176 (5 ∷ []) 1 ∷ []) ∷ items) (add code)
 
 -- a block with these references, of that total
 abbrev of : ℕ → List Ref → ℕ → Single
-of total refs number = on (block 8192 total refs ∷ []) (add number)
+of total refs code = on (blockRecord 8192 total refs ∷ []) (add code)
 
 abbrev hash : ℕ
 hash = 0x0dfb591fbbf5f519
 
 -- a data extent of that total with the item of (5, 258, 0)
-abbrev byItem : ℕ → ℕ → List ℕ → Line → Single
-byItem total offset bytes l = on (file 12288 total [] ∷ item 12288 178 offset bytes ∷ []) l
+abbrev byItem : ℕ → ℕ → List ℕ → Expected → Single
+byItem total offset bytes expected = on (dataRecord 12288 total [] ∷ item 12288 178 offset bytes ∷ []) expected
 
 unfoldable pub singles : List Single
 singles =
@@ -47,11 +50,11 @@ singles =
     ∷ bytes (2 ∷ [])
     ∷ bytes (1 ∷ 0 ∷ [])
     ∷ bytes (1 ∷ (beBytes 4 16 ++ beBytes 8 0 ++ beBytes 8 0))
-    ∷ bytes (take 54 (sheetBytes (block 8192 1 (ref 176 (5 ∷ []) 1 ∷ []) ∷ [])))
+    ∷ bytes (take 54 (sheetBytes (blockRecord 8192 1 (ref 176 (5 ∷ []) 1 ∷ []) ∷ [])))
     -- 2: equal keys, and falling ones
     ∷ on (item 8192 169 0 [] ∷ item 8192 169 0 [] ∷ []) (add 2)
     ∷ on (item 8192 169 1 [] ∷ item 8192 169 0 [] ∷ []) (add 2)
-    ∷ on (item 8193 169 0 [] ∷ item 8192 169 0 [] ∷ []) (within 500 1000 (AddBlock 8192 (tree 7)) 2)
+    ∷ on (item 8193 169 0 [] ∷ item 8192 169 0 [] ∷ []) (expectWithin 500 1000 (AddBlock 8192 (tree 7)) 2)
     -- balanced, with items that name nothing
     ∷ beside [] 0
     ∷ beside (item 8192 192 4096 [] ∷ []) 0
@@ -61,7 +64,7 @@ singles =
     ∷ of 1 (ref 176 (5 ∷ []) 1 ∷ ref 176 (4 ∷ []) 1 ∷ []) 4
     ∷ of 1 (ref 172 (5 ∷ []) 0 ∷ []) 4
     -- two records, a reference item without one
-    ∷ on (item 8192 168 4096 (recordBytes 1 0 [] []) ∷ block 8192 0 [] ∷ []) (add 4)
+    ∷ on (item 8192 168 4096 (recordBytes 1 0 [] []) ∷ blockRecord 8192 0 [] ∷ []) (add 4)
     ∷ beside (item 9000 182 100 [] ∷ []) 4
     -- records that do not read: 6, 7 and 8
     ∷ beside (item 9000 169 0 (1 ∷ []) ∷ []) 4
@@ -76,7 +79,7 @@ singles =
     ∷ of 2 (dataRef 256 1 ∷ dataRef 257 1 ∷ []) 4
     -- a name twice: inline, and inline and as an item
     ∷ of 2 (dataRef 257 1 ∷ dataRef 257 1 ∷ []) 4
-    ∷ on (block 8192 2 (ref 176 (5 ∷ []) 1 ∷ []) ∷ item 8192 176 5 [] ∷ []) (add 4)
+    ∷ on (blockRecord 8192 2 (ref 176 (5 ∷ []) 1 ∷ []) ∷ item 8192 176 5 [] ∷ []) (add 4)
     -- a count of 0, inline and as an item
     ∷ of 0 (ref 184 (5 ∷ []) 0 ∷ []) 4
     ∷ beside (item 8192 184 5 (leBytes 4 0) ∷ []) 4
@@ -87,25 +90,44 @@ singles =
     ∷ byItem 0 hash (leBytes 8 5 ++ leBytes 8 258) (add 4)
     ∷ byItem 0 (hash + 1) (keyedDataRefBody (inode 258 0) 1) (add 4)
     -- 3 before 4, and 4 before 5
-    ∷ on (block 8192 2 [] ∷ []) (within 500 1000 (AddBlock 8192 (tree 7)) 3)
-    ∷ on (block 8192 2 [] ∷ []) (line (AddBlock 9000 (tree 7)) 4)
+    ∷ on (blockRecord 8192 2 [] ∷ []) (expectWithin 500 1000 (AddBlock 8192 (tree 7)) 3)
+    ∷ on (blockRecord 8192 2 [] ∷ []) (expectWithin 65537 1000 (DropBlock 8192 (tree 7)) 3)
+    ∷ on (blockRecord 8192 2 [] ∷ []) (expect (AddShared 8192 (parent 178 7) 1) 3)
+    ∷ on (blockRecord 8192 2 [] ∷ []) (expect (DropShared 8192 (parent 178 7)) 3)
+    ∷ on (blockRecord 8192 2 [] ∷ []) (expect (AddBlock 9000 (tree 7)) 4)
     -- two triples of one hash stand inline, the new one behind
-    ∷ on (file 12288 2 (dataRef 257 2 ∷ []) ∷ []) (line (AddData 12288 (inode 258 3678701417) 1) 0)
+    ∷ on (dataRecord 12288 2 (dataRef 257 2 ∷ []) ∷ []) (expect (AddData 12288 (inode 258 3678701417) 1) 0)
     ∷ of 2 (dataRef 257 1 ∷ ref 178 (5 ∷ 258 ∷ 3678701417 ∷ []) 1 ∷ []) 0
+    -- 11: the largest count, and one more
+    ∷ on (dataRecord 12288 2 (dataRef 257 2 ∷ []) ∷ []) (expect (AddData 12288 (inode 257 0) 4294967293) 0)
+    ∷ on (dataRecord 12288 2 (dataRef 257 2 ∷ []) ∷ []) (expect (AddData 12288 (inode 257 0) 4294967294) 11)
     -- 13 before 15; 13 of the last data reference, inline or as an item
-    ∷ byItem 1 hash (keyedDataRefBody (inode 258 0) 1) (line (DropData 12288 (inode 259 1228700967)) 13)
-    ∷ byItem 1 hash (keyedDataRefBody (inode 258 0) 1) (line (DropData 12288 (inode 258 0)) 13)
-    ∷ on (file 12288 1 (dataRef 257 1 ∷ []) ∷ []) (line (DropData 12288 (inode 257 0)) 13)
+    ∷ byItem 1 hash (keyedDataRefBody (inode 258 0) 1) (expect (DropData 12288 (inode 259 1228700967)) 13)
+    ∷ byItem 1 hash (keyedDataRefBody (inode 258 0) 1) (expect (DropData 12288 (inode 258 0)) 13)
+    ∷ on (dataRecord 12288 1 (dataRef 257 1 ∷ []) ∷ []) (expect (DropData 12288 (inode 257 0)) 13)
     ∷ []
 
 abbrev computedOf : List Single → List ℕ
 computedOf [] = []
-computedOf (s ∷ more) = computed (s .sheet) (s .line .posting) ∷ computedOf more
+computedOf (s ∷ more) = computed (s .sheet) (s .expected .posting) ∷ computedOf more
 
-abbrev numbersOf : List Single → List ℕ
-numbersOf [] = []
-numbersOf (s ∷ more) = s .line .number ∷ numbersOf more
+abbrev codesOf : List Single → List ℕ
+codesOf [] = []
+codesOf (s ∷ more) = s .expected .code ∷ codesOf more
 
-pub answers : computedOf singles ≡ numbersOf singles
+pub answers : computedOf singles ≡ codesOf singles
 unfolding computed singles
 answers = refl
+
+-- a sheet passes questions 1, 2 and 4 where its posting is accepted, or refused by a later one
+abbrev balancedOf : List Single → List Bool
+balancedOf [] = []
+balancedOf (s ∷ more) = balancedSheet (s .sheet) ∷ balancedOf more
+
+abbrev laterOf : List Single → List Bool
+laterOf [] = []
+laterOf (s ∷ more) = (eqb (s .expected .code) 0 || leb 5 (s .expected .code)) ∷ laterOf more
+
+pub balances : balancedOf singles ≡ laterOf singles
+unfolding computed singles
+balances = refl
