@@ -164,7 +164,7 @@ fn takes(card: Card) -> Card {
     let c = take_data(
         b,
         file(5, 300),
-        b"take the map from file 300 of tree 5, whose item goes",
+        b"take the map from file 300 of tree 5, which has an item",
     );
     let d = take_data(
         c,
@@ -186,10 +186,10 @@ pub fn show() {
     let before = with_block(with_map(card::empty()));
     words::print(card::list(&before.bytes, before.size));
     say::text(
-        b"\nTen changes, posted one after the other. Each moves a reference and the total together, or neither:\n\n",
+        b"\nTen changes, posted one after the other, each with the answer and the total that its record then has:\n\n",
     );
     let after = takes(gives(before));
-    say::text(b"\nThe card afterwards. A refused change moved nothing:\n\n");
+    say::text(b"\nThe card afterwards:\n\n");
     words::print(card::list(&after.bytes, after.size));
     say::text(b"\n");
 }

@@ -6,15 +6,17 @@ use crate::say;
 use crate::shifts;
 ghost use Prim.Native.Nat.{_≤_};
 
-// The end of a check's last line; 1 if it came out wrong.
-fn verdict(right: bool) -> u32
+// The end of a check: what it shows, said only if it came out right; 1 if it came out wrong.
+fn verdict(right: bool, shown: &[u8]) -> u32
     ensures { λ r. ⌜ r ≤ 1 ⌝ }
 {
+    say::text(b"\n     ");
     if right {
+        say::text(shown);
         say::text(b" Right.\n");
         return 0;
     }
-    say::text(b" WRONG.\n");
+    say::text(b"WRONG.\n");
     1
 }
 
@@ -26,7 +28,7 @@ fn expected(shift: u32) -> u64 {
 fn count_maps(list: &[u8]) -> bool {
     say::text(
         b"  1. Count the references of ten maps.\n     \
-          Each is used by its own shift and the next, the last by its own alone:",
+          From the first shift's to the last's they are used so many times:",
     );
     let mut right = true;
     let mut shift: u32 = 1;
@@ -42,20 +44,24 @@ fn count_maps(list: &[u8]) -> bool {
 }
 
 fn delete_oldest(card: Card) -> bool {
-    say::text(b"  2. Delete the oldest shift and read the base survey.\n");
-    let survey = shifts::take(card, shifts::SURVEY, 1);
-    let both = shifts::take(survey.card, shifts::map(1), 1);
-    let again = shifts::take(both.card, shifts::SURVEY, 1);
     say::text(
-        b"     Shift 1 gave back the survey and its own map. The survey taken from it a second time:\n     ",
+        b"  2. Delete the oldest shift and read the base survey.\n     \
+          The survey is taken from shift 1: ",
     );
+    let survey = shifts::take(card, shifts::SURVEY, 1);
+    say::answer(survey.refusal);
+    say::text(b". Its own map: ");
+    let both = shifts::take(survey.card, shifts::map(1), 1);
+    say::answer(both.refusal);
+    say::text(b". The survey a second time:\n     ");
+    let again = shifts::take(both.card, shifts::SURVEY, 1);
     say::answer(again.refusal);
-    say::text(b".\n     The survey is still used ");
+    say::text(b".\n     The survey is used ");
     let left = again.card;
     let list = card::list(&left.bytes, left.size);
     let used = card::used(list, shifts::SURVEY);
     say::times(used);
-    say::text(b", once by each other shift, so nothing frees it.");
+    say::text(b".");
     let taken = (survey.refusal == 0) & (both.refusal == 0) & (again.refusal == 5);
     taken & (used == 9) & (card::used(list, shifts::map(1)) == 1)
 }
@@ -67,9 +73,18 @@ pub fn show() -> u32 {
           its own map and the map of the shift before:\n\n",
     );
     let card = shifts::ten();
-    let counted = verdict(count_maps(card::list(&card.bytes, card.size)));
-    let deleted = verdict(delete_oldest(card));
-    let saved = verdict(crowded::save());
+    let counted = verdict(
+        count_maps(card::list(&card.bytes, card.size)),
+        b"Each is used by its own shift and the next, the last by its own alone.",
+    );
+    let deleted = verdict(
+        delete_oldest(card),
+        b"That is once by each other shift, so nothing frees it.",
+    );
+    let saved = verdict(
+        crowded::save(),
+        b"Both leaves fit, and every map is there, in order.",
+    );
     say::text(b"\n");
     counted + deleted + saved
 }

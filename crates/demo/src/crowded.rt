@@ -44,7 +44,7 @@ pub fn save() -> bool {
     say::number(card::items(card::list(&before.bytes, before.size)) as u64);
     say::text(b" maps. One more: ");
     say::answer(full.refusal);
-    say::text(b".\n     All ");
+    say::text(b".\n     ");
     let body = shifts::record(full.shift);
     let more = card::insert_unbounded(before, shifts::key(shifts::map(full.shift)), &body);
     let whole = more.card;

@@ -77,11 +77,11 @@ fn two_leaves(whole: &[u8], cut: usize, last: u32) -> bool {
     let rest = behind(whole, at);
     let other = card::list(&rest.bytes, rest.size);
     say::number(card::items(whole) as u64);
-    say::text(b" are divided into leaves of ");
+    say::text(b" maps are divided into leaves of ");
     say::number(card::items(one) as u64);
     say::text(b" and ");
     say::number(card::items(other) as u64);
-    say::text(b"; both fit, and every map is there, in order.");
+    say::text(b".");
     let end = maps_from(other, maps_from(one, 1));
     fits(one) & fits(other) & (last < end)
 }
