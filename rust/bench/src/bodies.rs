@@ -96,6 +96,24 @@ fn made(b: &mut Bench) {
         || public::shared_add_item(4096, black_box(184), 8192, 2),
         |out, len| lent::transaction_shared_add_item(black_box(184), 2, out, len).into(),
     );
+    let (mut key_kind, mut parent) = (0, 0);
+    b.row(
+        "transaction_shared_add_key",
+        "",
+        || public::shared_add_item(black_box(4096), 182, 8192, 1).key,
+        |_, objectid| {
+            let (bytenr, kind) = (black_box(4096), 182);
+            lent::transaction_shared_add_key(
+                bytenr,
+                kind,
+                8192,
+                objectid,
+                &mut key_kind,
+                &mut parent,
+            )
+            .into()
+        },
+    );
     b.row(
         "transaction_shared_add_inline_size",
         "",
@@ -118,6 +136,24 @@ fn with_references(b: &mut Bench, count: u64) {
     let last = refs.last().expect("one");
     let inode = u64::from_le_bytes(last.payload[8..16].try_into().expect("8 bytes"));
     let mut positions = vec![0; 8192];
+    let (mut offset, mut start, mut length) = (0, 0, 0);
+    b.row(
+        "backref_inline_ref",
+        size,
+        || backref::inline_refs(168, &data).expect("readable").pop(),
+        |_, kind| {
+            lent::backref_inline_ref(
+                168,
+                &data,
+                count - 1,
+                kind,
+                &mut offset,
+                &mut start,
+                &mut length,
+            )
+            .into()
+        },
+    );
 
     b.row(
         "backref_flags",

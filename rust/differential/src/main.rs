@@ -67,7 +67,7 @@ fn all(seconds: f64) -> ExitCode {
             .expect("this program runs");
         let text = String::from_utf8_lossy(&run.stdout).into_owned();
         count.lines(text.lines().map(str::to_string));
-        if !run.status.success() {
+        if !run.status.success() || text.is_empty() {
             count.lines([format!("FAIL {call}: the process ended with {}", run.status)]);
         }
     }
