@@ -79,10 +79,10 @@ pub fn plan_add_inline(
                 }
                 Site::Standing { at, next, weight } => {
                     if !counts(wanted) {
-                        return plan_write::refuse(9);
+                        return plan_write::refuse(9); // it has no count that could rise
                     }
                     if 4294967295 - amount < weight {
-                        return plan_write::refuse(11);
+                        return plan_write::refuse(11); // its count would wrap
                     }
                     edit_raised(at, next, wanted, weight + amount, total, amount)
                 }
@@ -119,10 +119,10 @@ pub fn plan_add_keyed(item_type: u8, body: &[u8], wanted: Wanted, place: u64, am
                 }
                 Site::Standing { at, next, weight } => {
                     if !counts(wanted) {
-                        return plan_write::refuse(9);
+                        return plan_write::refuse(9); // as above
                     }
                     if 4294967295 - amount < weight {
-                        return plan_write::refuse(11);
+                        return plan_write::refuse(11); // as above
                     }
                     let new = crate::bytes::bytes_of(wanted, weight + amount);
                     plan_write::edit(at, next, new, crate::bytes::size_of(wanted), total, 0)
