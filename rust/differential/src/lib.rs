@@ -11,6 +11,7 @@ pub mod generate;
 #[cfg(original_here)]
 mod original;
 pub mod random;
+pub mod read_errors;
 pub mod recorded;
 pub mod show;
 pub mod verdict;

@@ -9,13 +9,12 @@
 use differential::dump_tree::{self, Leaf};
 use differential::generate::{edges, random};
 use differential::random::Random;
+use differential::read_errors::read_errors;
 use model::calls::Arg;
 use model::lister::listed;
 use model::sheet::Item;
 use std::collections::BTreeSet;
 use std::io::{ErrorKind, Read, Write};
-use std::os::fd::OwnedFd;
-use std::os::unix::net::UnixStream;
 use std::path::PathBuf;
 use std::process::{Command, ExitCode, Stdio};
 use std::time::Duration;
@@ -44,8 +43,9 @@ fn main() -> ExitCode {
     // What arrives in parts is read to its end.
     let parts = run.prints(&[&e()[..20], &e()[20..]], E_TEXT);
     run.count("E in two parts", parts);
-    let broken = run.fails_to_read();
-    run.count("a read error after 54 of 83 bytes", broken);
+    let said = |(name, said): (String, Result<(), String>)| said.map_err(|f| format!("{name}: {f}"));
+    let broken = read_errors(&run.path).into_iter().try_for_each(said);
+    run.count("inputs whose reading fails", broken);
     run.all("generated bodies", &generated(most));
     let paths = dump_tree::leaves();
     if let Some(paths) = &paths {
@@ -139,36 +139,6 @@ impl Run {
         }
         println!("{records} records of {} leaves as dump-tree lists them", paths.len());
     }
-
-    /// A read error is no end of input: nothing on standard output, one line on standard error.
-    fn fails_to_read(&self) -> Result<(), String> {
-        let fault = |fault: std::io::Error| fault.to_string();
-        let (ours, theirs) = UnixStream::pair().map_err(fault)?;
-        let whole = input(168, 2, 1, &[&reference(178, &[5, 257, 0], Some(1)).repeat(2)]);
-        (&ours).write_all(&whole[..54]).map_err(fault)?;
-        // Closed with a byte unread, this end resets the other once its 54 bytes are read.
-        (&theirs).write_all(&[0]).map_err(fault)?;
-        drop(ours);
-        let child = Command::new(&self.path)
-            .stdin(Stdio::from(OwnedFd::from(theirs)))
-            .stdout(Stdio::piped())
-            .stderr(Stdio::piped())
-            .spawn()
-            .map_err(fault)?;
-        let said = child.wait_with_output().map_err(fault)?;
-        let told = String::from_utf8_lossy(&said.stderr).into_owned();
-        match (said.stdout.is_empty(), told.lines().count()) {
-            (true, 1) => Ok(()),
-            _ => Err(format!(
-                "it prints {:?}, and on standard error {told:?}",
-                printed(&said.stdout)
-            )),
-        }
-    }
-}
-
-fn printed(bytes: &[u8]) -> String {
-    String::from_utf8_lossy(bytes).into_owned()
 }
 
 /// The bodies that the differential run puts to inline_refs, each with the model's text.
