@@ -1,10 +1,12 @@
 // A program's input, read to its end. A read that fails is not the end of the input.
 //
 // What C's read puts into a slice, its contract leaves open; so a read goes into a slice of its own, and only the bytes that it
-// counts are copied. No contract can say which bytes they are, or that the input ended there: that is tested. A signal can interrupt a read only where the program handles signals, and none here does: an error is an
-// error.
+// counts are copied. No contract can say which bytes they are, or that the input ended there: that is tested. A signal can
+// interrupt a read only where the program handles signals, and none here does: an error is an error.
 ghost use mathlib.Core.Path.{_≡_};
+ghost use mathlib.Core.Bool.{cond};
 ghost use Prim.Native.Nat.{_+_, _≤_};
+ghost use lib.Dec.{ltb};
 ghost use lib.ListN.{length};
 ghost use Rattle.input.specs.Reads.{answerOf, Within, Put, Read};
 
@@ -58,7 +60,7 @@ fn read_some(fd: i32, buf: &mut [u8], at: usize) -> Input
 }
 
 fn least(a: usize, b: usize) -> usize
-    ensures { λ r. ⌜ (r ≤ a) × (r ≤ b) ⌝ }
+    ensures { λ r. ⌜ (r ≤ a) × (r ≤ b) × (r ≡ cond (ltb a b) a b) ⌝ }
 {
     if a < b {
         return a;
