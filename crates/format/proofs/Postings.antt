@@ -85,10 +85,11 @@ expected =
     ∷ expect (AddShared 8192 (parent 182 7) 2) 10
     ∷ expect (AddShared 12288 (parent 184 60) 2) 0
     ∷ expect (AddShared 12288 (parent 184 50) 4) 0
-    ∷ expect (AddShared 12288 (parent 184 50) 4294967289) 11
+    ∷ expect (AddShared 12288 (parent 184 50) 1) 0
+    ∷ expect (AddShared 12288 (parent 184 50) 4294967288) 11
     ∷ expect (AddShared 12288 (parent 184 60) 0) 10
     ∷ expect (AddShared 12288 (parent 184 300) 1) 9
-    ∷ expect (AddShared 12288 (parent 178 60) 1) 3
+    ∷ expect (AddShared 12288 (parent 183 60) 1) 3
     -- this one is held to the limit, though the body does not grow
     ∷ expectWithin 501 1000 (AddShared 12288 (parent 184 50) 1) 17
     ∷ expect (DropShared 12288 (parent 184 50)) 0
@@ -100,7 +101,7 @@ expected =
     -- the total may reach 0
     ∷ expect (DropShared 20480 (parent 182 100)) 0
     ∷ expect (DropShared 20480 (parent 182 100)) 5
-    ∷ expect (DropShared 12288 (parent 178 60)) 3
+    ∷ expect (DropShared 12288 (parent 185 60)) 3
     ∷ expectWithin 500 1000 (DropShared 8192 (parent 182 200)) 3
     -- a lent output one byte short, and one that just holds the result
     ∷ expectWithin 4096 417 (AddBlock 8192 (tree 2)) 21
@@ -200,8 +201,8 @@ nameTallies =
     ∷ nameTally 8192 176 (7 ∷ []) 0 1 0 1
     ∷ nameTally 8192 176 (5 ∷ []) 1 0 1 0
     ∷ nameTally 8192 176 (9 ∷ []) 1 0 1 0
-    -- all of it taken, inline and as an item
-    ∷ nameTally 12288 184 (50 ∷ []) 3 4 7 0
+    -- given twice, and all of it taken; all of an item taken
+    ∷ nameTally 12288 184 (50 ∷ []) 3 5 8 0
     ∷ nameTally 12288 184 (300 ∷ []) 2 0 2 0
     -- taken, given and taken again
     ∷ nameTally 8192 182 (100 ∷ []) 1 1 2 0

@@ -1,10 +1,9 @@
 -- Single postings computed: sheets that do not read (1), that are out of order (2) or that are not balanced (4), each for one
 -- reason of document 01, and which of two reasons a posting is refused for. Assumes nothing.
 use mathlib.Core.Path.{_≡_, refl}
-use mathlib.Core.Bool.{Bool, _||_}
+use mathlib.Core.Bool.{Bool, true, false}
 use mathlib.Core.List.{List, [], _∷_, _++_}
 use Prim.Native.Nat.{ℕ, _+_}
-use lib.Dec.{leb, eqb}
 use lib.ListN.{take}
 use Rattle.fields.specs.Numbers.{leBytes, beBytes}
 use Rattle.format.specs.declared.Change.the-variants.{AddBlock, AddData, AddShared, DropBlock, DropData, DropShared}
@@ -57,7 +56,7 @@ singles =
     ∷ on (item 8193 169 0 [] ∷ item 8192 169 0 [] ∷ []) (expectWithin 500 1000 (AddBlock 8192 (tree 7)) 2)
     -- balanced, with items that name nothing
     ∷ beside [] 0
-    ∷ beside (item 8192 192 4096 [] ∷ []) 0
+    ∷ beside (item 8192 172 5 (0 ∷ []) ∷ item 8192 192 4096 [] ∷ []) 0
     ∷ of 2 (ref 176 (5 ∷ []) 1 ∷ ref 182 (9 ∷ []) 1 ∷ []) 0
     -- 4: a total too high, too low
     ∷ of 2 (ref 176 (5 ∷ []) 1 ∷ []) 4
@@ -83,18 +82,22 @@ singles =
     -- a count of 0, inline and as an item
     ∷ of 0 (ref 184 (5 ∷ []) 0 ∷ []) 4
     ∷ beside (item 8192 184 5 (leBytes 4 0) ∷ []) 4
-    -- reference items in another form
-    ∷ beside (item 8192 176 6 (0 ∷ []) ∷ []) 4
+    -- reference items in another form, whether the total counts them or not
+    ∷ on (blockRecord 8192 2 (ref 176 (5 ∷ []) 1 ∷ []) ∷ item 8192 176 6 (0 ∷ []) ∷ []) (add 4)
     ∷ beside (item 8192 182 6 (0 ∷ []) ∷ []) 4
-    ∷ beside (item 8192 184 6 (leBytes 8 1) ∷ []) 4
+    ∷ on (blockRecord 8192 2 (ref 176 (5 ∷ []) 1 ∷ []) ∷ item 8192 184 6 (leBytes 8 1) ∷ []) (add 4)
     ∷ byItem 0 hash (leBytes 8 5 ++ leBytes 8 258) (add 4)
-    ∷ byItem 0 (hash + 1) (keyedDataRefBody (inode 258 0) 1) (add 4)
+    ∷ byItem 1 hash (keyedDataRefBody (inode 258 0) 1 ++ 0 ∷ []) (add 4)
+    ∷ byItem 1 (hash + 1) (keyedDataRefBody (inode 258 0) 1) (add 4)
     -- 3 before 4, and 4 before 5
     ∷ on (blockRecord 8192 2 [] ∷ []) (expectWithin 500 1000 (AddBlock 8192 (tree 7)) 3)
     ∷ on (blockRecord 8192 2 [] ∷ []) (expectWithin 65537 1000 (DropBlock 8192 (tree 7)) 3)
     ∷ on (blockRecord 8192 2 [] ∷ []) (expect (AddShared 8192 (parent 178 7) 1) 3)
     ∷ on (blockRecord 8192 2 [] ∷ []) (expect (DropShared 8192 (parent 178 7)) 3)
     ∷ on (blockRecord 8192 2 [] ∷ []) (expect (AddBlock 9000 (tree 7)) 4)
+    -- 17: the new body of 42 bytes is within the limit of a nodesize of 1,173, which is 42
+    ∷ on (blockRecord 8192 1 (ref 176 (5 ∷ []) 1 ∷ []) ∷ []) (expectWithin 1173 1000 (AddBlock 8192 (tree 7)) 0)
+    ∷ on (blockRecord 8192 1 (ref 176 (5 ∷ []) 1 ∷ []) ∷ []) (expectWithin 1172 1000 (AddBlock 8192 (tree 7)) 17)
     -- two triples of one hash stand inline, the new one behind
     ∷ on (dataRecord 12288 2 (dataRef 257 2 ∷ []) ∷ []) (expect (AddData 12288 (inode 258 3678701417) 1) 0)
     ∷ of 2 (dataRef 257 1 ∷ ref 178 (5 ∷ 258 ∷ 3678701417 ∷ []) 1 ∷ []) 0
@@ -119,15 +122,19 @@ pub answers : computedOf singles ≡ codesOf singles
 unfolding computed singles
 answers = refl
 
--- a sheet passes questions 1, 2 and 4 where its posting is accepted, or refused by a later one
-abbrev balancedOf : List Single → List Bool
+-- which of four sheets pass questions 1, 2 and 4: one of no byte, one out of order, one of a wrong total, and the last
+abbrev balancedOf : List (List ℕ) → List Bool
 balancedOf [] = []
-balancedOf (s ∷ more) = balancedSheet (s .sheet) ∷ balancedOf more
+balancedOf (sheet ∷ more) = balancedSheet sheet ∷ balancedOf more
 
-abbrev laterOf : List Single → List Bool
-laterOf [] = []
-laterOf (s ∷ more) = (eqb (s .expected .code) 0 || leb 5 (s .expected .code)) ∷ laterOf more
+unfoldable pub four : List (List ℕ)
+four =
+    []
+    ∷ sheetBytes (blockRecord 8193 0 [] ∷ blockRecord 8192 0 [] ∷ [])
+    ∷ sheetBytes (blockRecord 8192 1 [] ∷ [])
+    ∷ sheetBytes (blockRecord 8192 0 [] ∷ [])
+    ∷ []
 
-pub balances : balancedOf singles ≡ laterOf singles
-unfolding computed singles
+pub balances : balancedOf four ≡ false ∷ false ∷ false ∷ true ∷ []
+unfolding computed four
 balances = refl
