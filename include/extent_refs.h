@@ -6,12 +6,12 @@
  * A slice is a pointer, never null, and its number of elements. Lent buffers never overlap.
  *
  * "Asks" has the questions in the order in which they are put; the first "no" is the refusal.
- * 5n: of a reference that stands neither inline nor as an item; 6h: of the 24 bytes of the head
- * alone; 17*: put only if the body grew; 21: of the lent output alone: the limits of questions 1
- * and 3 hold the result in any case; 21+: of the lent output and of these limits; (n): put, but
- * no input is answered with "no"; n!: every input that comes to it is answered with "no";
- * absent: a search found nothing: code 100, no refusal; remove: the item is to be removed: code
- * 101, no refusal.
+ * 5n: of a reference; 5 alone is of the record, the key or the item number; 6h: of the 24 bytes
+ * of the head alone; 17*: put only if the body grew; 21: of the lent output alone: the limits of
+ * questions 1 and 3 hold the result in any case; 21+: of the lent output and of these limits;
+ * (n): put, but no input is answered with "no"; n!: every input that comes to it is answered
+ * with "no"; absent: a search found nothing: code 100, no refusal; remove: the item is to be
+ * removed: code 101, no refusal.
  */
 #ifndef EXTENT_REFS_H
 #define EXTENT_REFS_H
