@@ -29,13 +29,14 @@ use Rattle.format.specs.Ledger.{sharedCount, dropSharedRef}
 use Rattle.format.proofs.Answers.{bind-next}
 use Rattle.format.proofs.Keys.{sameKey-yes}
 use Rattle.item_list.specs.declared.Sought.the-variants.{Present, Absent as Missing}
-use Rattle.item_list.specs.Steps.{itemsOf, itemAt}
+use Rattle.item_list.specs.Steps.{itemsOf}
 use Rattle.item_list.specs.Seeks.{seekIn}
 use Rattle.item_write.proofs.Writes.{answered-no}
 use Rattle.plan_write.specs.declared.plan.Outcome.the-variants.{Absent}
 use Rattle.plan_write.specs.declared.plan.Plan.{Plan}
 use Rattle.plan_write.specs.Plans.{planAnswer, planTaken, Planned, PlannedTaken}
 use Rattle.plan_write.specs.Steps.{Reduces}
+use Rattle.plan_write.proofs.Reductions.{reduces-whole}
 use Rattle.backref.proofs.Takings.{taken-whole}
 use Rattle.record_edit.specs.declared.RecordAt.{RecordAt}
 use Rattle.record_edit.specs.Records.{dataOf}
@@ -64,7 +65,7 @@ pub plan-dropped : (type : ℕ) (body : List ℕ) (name : SharedRef) (taken r : 
     → PlannedTaken taken body (takeInlineShared type body name) → Reduces taken (taken .count) r → Planned r body (dropped type body name)
 unfolding planTaken
 plan-dropped type body name taken r bytes p reduces =
-    let d = reduces .plans body (p .inside) (taken-whole type body name taken p bytes) in
+    let d = reduces-whole taken reduces body (taken-whole type body name taken p bytes) (p .inside) in
     record {
       says = d .says ∙ by-count (planAnswer taken body) (taken .count)
           ∙ ap (λ (a : Answer TakenOut). bind a (λ out. reduceTotal (out .bytes) (out .count))) (p .says);

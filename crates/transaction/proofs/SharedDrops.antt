@@ -26,7 +26,7 @@ use Rattle.item_write.proofs.Writes.{answered-no}
 use Rattle.plan_write.specs.declared.plan.Plan.{Plan}
 use Rattle.plan_write.specs.Plans.{planAnswer, Planned, PlannedTaken}
 use Rattle.plan_write.specs.Steps.{Reduces, Needs}
-use Rattle.plan_write.proofs.Reductions.{needs-whole}
+use Rattle.plan_write.proofs.Reductions.{reduces-whole, needs-whole}
 use Rattle.backref.proofs.Takings.{taken-says, taken-whole}
 use Rattle.record_edit.specs.Records.{dataOf, heldEdit}
 use Rattle.transaction.specs.declared.Spot.the-variants.{Refused}
@@ -51,10 +51,10 @@ module _ (i : Item) (s : SharedRef) (count : ℕ) (asItem : Bool) (r : Plan) whe
   unfolding sharedRest
   drop-inline e bytes taken present p n d =
       let body : List ℕ = i .bytes in
-      let q : Planned present body (ifAbsent (planAnswer taken body) (refused 5)) = n .plans body (p .inside) in
       let rest-is : planAnswer present body ≡ ifAbsent (bytesOf (takeInlineShared (i .key .kind) body s)) (refused 5) =
-      q .says ∙ ap (λ (x : Answer (List ℕ)). ifAbsent x (refused 5)) (taken-says (i .key .kind) body s taken p) in
-      let done = d .plans body (q .inside) (needs-whole taken present body n (p .inside) (taken-whole (i .key .kind) body s taken p bytes)) in
+      n .says body ∙ ap (λ (x : Answer (List ℕ)). ifAbsent x (refused 5)) (taken-says (i .key .kind) body s taken p) in
+      let done =
+      reduces-whole present d body (needs-whole taken present body n (taken-whole (i .key .kind) body s taken p bytes)) (n .inside body (p .inside)) in
       rw e (record { says = done .says ∙ ap (λ (x : Answer (List ℕ)). bind x (λ rest. reduceTotal rest count)) rest-is; inside = done .inside })
 
 -- ---- the call

@@ -5,19 +5,23 @@ use Rattle.plan_write.proofs.further.plan_reduced.Statement.{statement}
 use Rattle.plan_write.proofs.further.plan_reduced.Tie as tie
 
 returns : tie.Need-returns
-returns c = reduced-low _ _ _ (c .before .before .before .enum-told .given .1) (omega arith) (c .before .if1 .taken) (c .refuse .ensures .0)
+returns c =
+    let a = c .before .before .before .before .before .args in
+    reduced-low (a .plan) (a .amount) (omega arith) (c .before .before .before .enum-told .given .1) _ (c .before .if1 .taken) (c .refuse .ensures .0)
 
 returns-2 : tie.Need-returns-2
-returns-2 c = reduced-edit _ _ _ (c .before .before .before .enum-told .given .1) (omega arith) (c .before .if1 .left) (c .edit .ensures)
+returns-2 c =
+    let a = c .before .before .before .before .before .args in
+    reduced-edit (a .plan) (a .amount) (omega arith) (c .before .before .before .enum-told .given .1) _ (c .before .if1 .left) (c .edit .ensures)
 
 returns-3 : tie.Need-returns-3
-returns-3 c = reduced-absent _ _ (c .enum-told2 .given .1)
+returns-3 c = reduced-absent (c .before .before .args .plan) (c .before .before .args .amount) (omega arith) (c .enum-told2 .given .1)
 
 returns-4 : tie.Need-returns-4
-returns-4 c = reduced-remove _ _ (c .enum-told3 .given .1)
+returns-4 c = reduced-remove (c .before .before .args .plan) (c .before .before .args .amount) (omega arith) (c .enum-told3 .given .1)
 
 returns-5 : tie.Need-returns-5
-returns-5 c = reduced-refused _ _ _ (c .enum-told4 .given .1)
+returns-5 c = reduced-refused (c .before .before .args .plan) (c .before .before .args .amount) (omega arith) _ (c .enum-told4 .given .1)
 
 pub plan-reduced-spec : {M : Type 1} → statement M
 plan-reduced-spec =
