@@ -6,6 +6,7 @@ pub mod Refs
 pub mod Bodies
 pub mod Keys
 pub mod Items
+pub mod Decisions
 pub mod Splices
 pub mod Computed
 pub mod Postings

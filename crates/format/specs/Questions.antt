@@ -25,6 +25,20 @@ pub data Answer (A : Type 0) : Type 0 where
   remove : Answer A
   accepted : A → Answer A
 
+-- refused or accepted: neither absent nor remove
+unfoldable pub decides : {A : Type 0} → Answer A → Bool
+decides (refused number) = true
+decides absent = false
+decides remove = false
+decides (accepted result) = true
+
+-- not remove
+unfoldable pub keeps : {A : Type 0} → Answer A → Bool
+keeps (refused number) = true
+keeps absent = true
+keeps remove = false
+keeps (accepted result) = true
+
 -- "The first 'no' is the refusal": a question with its number, and what follows a "yes"
 unfoldable pub ask : {A : Type 0} → Bool → ℕ → Answer A → Answer A
 ask true number next = next
@@ -74,7 +88,8 @@ lent absent old = old
 lent remove old = old
 lent (accepted result) old = result ++ drop (length result) old
 
--- a lent number, or a part that is handed back: the result, else nothing
+-- a lent number, or a part that is handed back: the result, else nothing. So "Absent and remove have result length 0", and a
+-- refusal too
 unfoldable pub lentNumber : Answer ℕ → ℕ
 lentNumber (refused number) = 0
 lentNumber absent = 0
@@ -96,13 +111,6 @@ codeOf absent = 100
 codeOf remove = 101
 codeOf (accepted result) = 0
 
--- "Absent and remove have result length 0", and so has a refusal
-unfoldable pub lengthOf : Answer (List ℕ) → ℕ
-lengthOf (refused number) = 0
-lengthOf absent = 0
-lengthOf remove = 0
-lengthOf (accepted result) = length result
-
 unfoldable pub editedOf : Answer (List ℕ) → Edited
 editedOf (refused number) = Refused number
 editedOf absent = Absent
@@ -117,12 +125,14 @@ pub record TakenOut : Type 0 where
 abbrev pub bytesOf : Answer TakenOut → Answer (List ℕ)
 bytesOf answer = bind answer (λ out. accepted (out .bytes))
 
+-- a reference that is taken out is never answered by remove (`take-keeps` in proofs/Decisions), so 101 does not come
 unfoldable pub takenOf : Answer TakenOut → Taken
 takenOf (refused number) = Denied number
 takenOf absent = NoMatch
 takenOf remove = Denied 101
 takenOf (accepted out) = Out (length (out .bytes)) (out .count)
 
+-- a number or a judgement: the calls that answer so decide (proofs/Decisions has the law of each), so 100 and 101 do not come
 unfoldable pub toldOf : Answer ℕ → Told
 toldOf (refused number) = Untold number
 toldOf absent = Untold 100

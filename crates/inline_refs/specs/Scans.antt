@@ -59,13 +59,15 @@ walk wanted place at seen [] = seen
 walk wanted place at seen (r ∷ refs) =
     walk wanted place (at + sizeOf r) (noted wanted place at (at + sizeOf r) r seen) refs
 
+-- what is noted of the references that were read. Their reader decides (format/proofs/Decisions, `refs-decide`), so 100 and 101 do
+-- not come
 unfoldable pub scanOf : Wanted → ℕ → ℕ → Seen → Answer (List Ref) → Scan
 scanOf wanted place at seen (refused number) = Fault number
 scanOf wanted place at seen absent = Fault 100
 scanOf wanted place at seen remove = Fault 101
 scanOf wanted place at seen (accepted refs) = Read (walk wanted place at seen refs)
 
--- where nothing is noted any more
+-- where nothing is noted any more. As above 100 and 101 do not come
 unfoldable pub restOf : Answer (List Ref) → Rest
 restOf (refused number) = Faulty number
 restOf absent = Faulty 100

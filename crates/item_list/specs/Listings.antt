@@ -18,6 +18,7 @@ unfoldable pub listedAt : ℕ → Place → Listing
 listedAt count Missing = Without count
 listedAt count (At number start end) = Found count number start end
 
+-- the reader of an item list decides (format/proofs/Decisions, `sheet-decides`), so 100 and 101 do not come
 unfoldable pub listingOf : (ℕ → Item → Bool) → Answer (List Item) → Listing
 listingOf test (refused number) = Refused number
 listingOf test absent = Refused 100

@@ -39,6 +39,7 @@ unfoldable pub following : ℕ → Key → Key → Bool
 following zero last key = true
 following (suc n) last key = keyBelow last key
 
+-- the number of items. The reader decides (format/proofs/Decisions, `sheet-decides`), so 100 and 101 do not come
 unfoldable pub checkedOf : Answer (List Item) → Checked
 checkedOf (refused number) = Refused number
 checkedOf absent = Refused 100

@@ -17,6 +17,7 @@ unfoldable pub slotAt : ℕ → Sought → Slot
 slotAt count (Present start end) = Refused 9
 slotAt count (Absent at) = Free at count
 
+-- the reader of an item list decides (format/proofs/Decisions, `sheet-decides`), so 100 and 101 do not come
 unfoldable pub slotOf : Key → Bool → Answer (List Item) → Slot
 slotOf key three (refused number) = Refused number
 slotOf key three absent = Refused 100

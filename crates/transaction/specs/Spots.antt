@@ -18,7 +18,7 @@ unfoldable pub spotAt : ℕ → Place → Spot
 spotAt count Missing = Refused 5
 spotAt count (Found number start end) = At number start end count
 
--- questions 1, 2, 3 and 5
+-- questions 1, 2, 3 and 5. The reader of an item list decides (format/proofs/Decisions, `sheet-decides`), so 100 and 101 do not come
 unfoldable pub spotOf : ℕ → Bool → Answer (List Item) → Spot
 spotOf extent three (refused number) = Refused number
 spotOf extent three absent = Refused 100
