@@ -34,10 +34,10 @@ pub fn put_taken(answer: Taken, size: &mut u64, count: &mut u64) -> u32
     *count = 0;
     match answer {
         Taken::Written {
-            length,
+            size: written,
             count: counted,
         } => {
-            *size = length as u64;
+            *size = written as u64;
             *count = counted as u64;
             ACCEPTED
         }

@@ -286,14 +286,14 @@ offsetOf r = getD (r .fields) 2 0
 -- the references are data references of that root and inode, each at another of the lent offsets, and each lent offset is
 -- counted as often as it was lent; the total is the number of offsets, the flags say data
 unfoldable pub heldBy : ℕ → ℕ → List ℕ → ℕ → Answer Body → Bool
-heldBy root ino offsets flags (accepted b) =
-    eqb (b .total) (length offsets) && eqb flags 1
+heldBy root ino offsets bits (accepted b) =
+    eqb (b .total) (length offsets) && eqb bits 1
     && all (λ r. named 178 (root ∷ ino ∷ offsetOf r ∷ []) r && leb 1 (times (offsetOf r) offsets)) (b .refs)
     && all (λ r. eqb (sum (λ s. cond (eqb (offsetOf s) (offsetOf r)) 1 0) (b .refs)) 1) (b .refs)
     && all (λ offset. eqb (sum (λ r. cond (eqb (offsetOf r) offset) (r .weight) 0) (b .refs)) (times offset offsets)) offsets
-heldBy root ino offsets flags (refused number) = false
-heldBy root ino offsets flags absent = false
-heldBy root ino offsets flags remove = false
+heldBy root ino offsets bits (refused number) = false
+heldBy root ino offsets bits absent = false
+heldBy root ino offsets bits remove = false
 
 unfoldable pub heldOnlyBy : List ℕ → ℕ → ℕ → List ℕ → Answer Bool
 heldOnlyBy body root ino offsets =

@@ -72,7 +72,7 @@ pub enum Edited {
 
 // The same where the call hands back the count of the reference that it took out.
 pub enum Taken {
-    Written { length: usize, count: u32 },
+    Written { size: usize, count: u32 },
     Absent,
     Refused(u32),
 }

@@ -71,14 +71,14 @@ pub fn write_plan(body: &[u8], plan: Plan, out: &mut [u8]) -> Edited
     }
 }
 
-// The same with the count of the reference that was taken out.
+// The same with the count of the reference that was taken out. No plan that takes one out is `Remove`, so 101 does not come.
 pub fn write_taken(body: &[u8], plan: Plan, out: &mut [u8]) -> Taken
     requires { ⌜ PlanIn plan (now body) ⌝ }
     ensures { λ r. ⌜ AnsweredTaken (heldTaken (length (now (out .entry))) (planTaken plan (now (body .entry)))) r (now (out .entry)) (now (out .exit)) ⌝ }
 {
     let count = plan.count;
     match write_plan(body, plan, out) {
-        Edited::Written(length) => Taken::Written { length, count },
+        Edited::Written(size) => Taken::Written { size, count },
         Edited::Absent => Taken::Absent,
         Edited::Remove => Taken::Refused(101),
         Edited::Refused(number) => Taken::Refused(number),

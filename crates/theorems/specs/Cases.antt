@@ -51,7 +51,7 @@ bytesE total count =
 
 -- so many bytes: a total, a generation of 0, flags, and zeros
 abbrev plain : ℕ → ℕ → ℕ → List ℕ
-plain length total flags = take length ((total ∷ replicate 15 0) ++ (flags ∷ replicate 40 0))
+plain n total bits = take n ((total ∷ replicate 15 0) ++ (bits ∷ replicate 40 0))
 
 abbrev block : ℕ → BlockRef
 block tree = record { tree = tree }
@@ -63,14 +63,14 @@ blocks total (tree ∷ trees) = blocks total trees ++ (176 ∷ leBytes 8 tree)
 
 -- a list of so many items from a key on, each with that much data
 abbrev itemsFrom : ℕ → ℕ → ℕ → List Item
-itemsFrom objectid zero length = []
-itemsFrom objectid (suc n) length = record { key = keyOf objectid 1 0; bytes = replicate length 0 } ∷ itemsFrom (objectid + 1) n length
+itemsFrom objectid zero each = []
+itemsFrom objectid (suc n) each = record { key = keyOf objectid 1 0; bytes = replicate each 0 } ∷ itemsFrom (objectid + 1) n each
 
 abbrev sheet : ℕ → ℕ → List ℕ
-sheet n length = sheetBytes (itemsFrom 10 n length)
+sheet n each = sheetBytes (itemsFrom 10 n each)
 
 abbrev alone : ℕ → Item
-alone length = record { key = keyOf 10 1 0; bytes = replicate length 0 }
+alone n = record { key = keyOf 10 1 0; bytes = replicate n 0 }
 
 -- ---- the list
 

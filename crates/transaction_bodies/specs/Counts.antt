@@ -44,8 +44,8 @@ unfoldable pub isCounted : Answer (List Ref) → List ℕ → ℕ → Bool
 isCounted refs offsets offset = eqb (sumOf (addsAt offset true) refs) (times offset offsets)
 
 unfoldable pub heldIn : ℕ → ℕ → List ℕ → ℕ → ℕ → Answer (List Ref) → Bool
-heldIn root ino offsets total flags refs =
-    eqb total (length offsets) && eqb flags 1
+heldIn root ino offsets total bits refs =
+    eqb total (length offsets) && eqb bits 1
     && allOf (isOurs root ino offsets) refs
     && allOf (isOnce refs) refs
     && all (isCounted refs offsets) offsets

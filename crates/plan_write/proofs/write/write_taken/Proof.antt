@@ -12,7 +12,7 @@ unfolding takenFrom
 returns c =
     let write = c .before .before .before .before .before in
     let a = write .before .before .before .before .args in
-    wrote-taken (a .plan) (now (a .body)) (length (now (a .out))) _ _ _ _ (write .write-plan .ensures) (sym (ap (takenFrom (a .plan .count)) (c .before .length .given .1)))
+    wrote-taken (a .plan) (now (a .body)) (length (now (a .out))) _ _ _ _ (write .write-plan .ensures) (sym (ap (takenFrom (a .plan .count)) (c .before .size .given .1)))
 
 returns-2 : tie.Need-returns-2
 unfolding takenFrom
