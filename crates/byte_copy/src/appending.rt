@@ -82,7 +82,8 @@ fn append_few(src: &[u8], dst: &mut [u8], at: usize)
 
 // The first blocks of a run, up to 320 bytes before its end. A write to a line that is not in the nearest cache waits for it,
 // so a byte 256 further on is read first; the bytes read add nothing to the result, but a compiler would drop the reads if nothing
-// used them. Returns how many bytes were copied.
+// used them. Returns how many bytes were copied; how many is left open on purpose, here and in the two functions below: the caller
+// copies the rest, whatever it is.
 fn append_ahead(src: &[u8], dst: &mut [u8], at: usize) -> usize
     requires { ⌜ (length (now src) ≤ 262144) × (at + length (now src) ≤ length (now dst)) ⌝ }
     ensures { λ r. ⌜ (r ≤ length (now (src .entry))) × (now (dst .exit) ≡ written at (part 0 r (now (src .entry))) (now (dst .entry))) ⌝ }

@@ -28,7 +28,7 @@ fn put_rank(rank: &mut [u16], p: usize, k: u16) {
     }
 }
 
-// Where in the order each reference stands.
+// Where in the order each reference stands. What it notes is open on purpose: `covers` checks it.
 fn note_ranks(order: &[u16], rank: &mut [u16], n: usize)
     requires { ⌜ (n ≤ 2259) × ((n ≤ length (now order)) × (n ≤ length (now rank))) ⌝ }
 {
@@ -108,7 +108,8 @@ fn first_repeat(body: &[u8], from: usize, n: usize, order: &[u16]) -> usize
 }
 
 // How many of the n data references from `from` on, from the first on, are shown to have different triples: all, or those
-// before the first one whose triple stands twice.
+// before the first one whose triple stands twice. How far it gets is left open on purpose: the caller compares the others one by
+// one, so a lower number costs time and changes no answer.
 pub fn distinct_front(body: &[u8], from: usize, n: usize) -> usize
     requires { ⌜ (from + 29 * n ≤ length (now body)) × ((length (now body) ≤ 262144) × (n ≤ 2259)) ⌝ }
     ensures { λ r. ⌜ Distinct (now (body .entry)) from r ⌝ }

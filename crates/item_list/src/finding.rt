@@ -77,7 +77,8 @@ fn first_of(place: Place, wanted: Wanted, n: usize, key: Key, at: usize, next: u
 
 // Two bytes that stand further on, added. Where an item stands is known only once the one before it was read, so that each would
 // be waited for if the list is far from the processor; reads 512 bytes ahead fetch what comes, meanwhile. There are two because
-// the lines of a cache are 64 bytes and most items are longer: one byte an item would leave out some lines.
+// the lines of a cache are 64 bytes and most items are longer: one byte an item would leave out some lines. Which bytes they are is
+// left open on purpose: the sum is so small that it adds nothing to any answer.
 pub fn bytes_ahead(s: &[u8], at: usize) -> u32
     requires { ⌜ (at ≤ length (now s)) × (length (now s) ≤ 262144) ⌝ }
     ensures { λ r. ⌜ r ≤ 510 ⌝ }
