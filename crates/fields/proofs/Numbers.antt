@@ -18,15 +18,10 @@ use Rattle.fields.proofs.Parts.{length-part, part-add}
 
 -- ---- bytes
 
--- from each element's range, which is how code knows a slice of u8, and back to it
+-- from each element's range, which is how code knows a slice of u8
 pub areBytes-in : (l : List ℕ) → ((i : ℕ) → getD l i 0 < 256) → T (areBytes l)
 areBytes-in [] f = tt
 areBytes-in (b ∷ l) f = yes-and (ltb b 256) _ (lt→ltb b 256 (f 0)) (areBytes-in l (λ i. f (suc i)))
-
-pub areBytes-out : (l : List ℕ) → T (areBytes l) → (i : ℕ) → getD l i 0 < 256
-areBytes-out [] t i = omega arith
-areBytes-out (b ∷ l) t zero = ltb→lt b 256 (and-yes (ltb b 256) _ t .0)
-areBytes-out (b ∷ l) t (suc i) = areBytes-out l (and-yes (ltb b 256) _ t .1) i
 
 pub areBytes-take : (n : ℕ) (l : List ℕ) → T (areBytes l) → T (areBytes (take n l))
 areBytes-take n l t = all-left (λ b. ltb b 256) (take n l) (drop n l) (rw (take-append-drop n l) t)
