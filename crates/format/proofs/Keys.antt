@@ -138,12 +138,6 @@ pub rising-right : (a b : List Item) → T (rising (a ++ b)) → T (rising b)
 rising-right [] b t = t
 rising-right (i ∷ a) b t = rising-right a b (and-yes (above i (a ++ b)) _ t .1)
 
-pub rising-left : (a b : List Item) → T (rising (a ++ b)) → T (rising a)
-rising-left [] b t = tt
-rising-left (i ∷ []) b t = tt
-rising-left (i ∷ j ∷ a) b t =
-    let h = and-yes (keyBelow (i .key) (j .key)) _ t in yes-and (keyBelow (i .key) (j .key)) _ (h .0) (rising-left (j ∷ a) b (h .1))
-
 -- from the next to all that follow
 pub rising-after : (x : Item) (b : List Item) → T (rising (x ∷ b)) → T (all (beyond (x .key)) b)
 rising-after x [] t = tt
@@ -263,6 +257,7 @@ inserted-out new items result e =
           higher = k .hit;
         }
 
+-- an accepted insert keeps keys rising
 pub rising-inserted : (new : Item) (items result : List Item) → T (rising items) → inserted new items ≡ accepted result → T (rising result)
 rising-inserted new items result t e =
     let p : Place new items result = inserted-out new items result e in

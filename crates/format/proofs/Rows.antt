@@ -45,14 +45,6 @@ known-kind k t = go (among kinds k t)
     go (inr (inr (inr (inr (inl e))))) = k184 e
     go (inr (inr (inr (inr (inr h))))) = absurd h
 
-pub kind-known : (k : ℕ) → Kind k → T (known k)
-unfolding known rowIn
-kind-known k (k172 e) = rw e tt
-kind-known k (k176 e) = rw e tt
-kind-known k (k178 e) = rw e tt
-kind-known k (k182 e) = rw e tt
-kind-known k (k184 e) = rw e tt
-
 -- a count stands only in a known row
 pub counted-known : (k : ℕ) → T (counted k) → T (known k)
 unfolding known counted countPosition

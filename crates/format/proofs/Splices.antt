@@ -3,19 +3,15 @@ use mathlib.Core.Path.{_≡_, refl, sym, ap, ap₂, _∙_}
 use mathlib.Core.List.{List, [], _∷_, _++_, append-assoc, append-nil}
 use Prim.Native.Nat.{ℕ, _+_}
 use native.Mathlib.Omega.{arith}
-use lib.Dec.{T}
 use lib.ListN.{length, take, drop, length-append}
 use lib.Seq.{take-at, drop-at, drop-drop}
-use Rattle.fields.specs.Numbers.{leBytes, beBytes, wordBytes}
+use Rattle.fields.specs.Numbers.{leBytes, beBytes}
 use Rattle.fields.specs.Parts.{part, written, spliced}
-use Rattle.fields.proofs.Lists.{cond-yes}
-use Rattle.fields.proofs.Numbers.{length-leBytes, length-beBytes, length-wordBytes}
+use Rattle.fields.proofs.Numbers.{length-leBytes, length-beBytes}
 use Rattle.fields.proofs.Parts.{spliced-written}
-use Rattle.format.specs.References.{counted, countPosition, Ref, refBytes, refsBytes, Body, bodyWith, bodyBytes}
-use Rattle.format.specs.Bodies.{weighed}
+use Rattle.format.specs.References.{Ref, refBytes, refsBytes, Body, bodyWith, bodyBytes}
 use Rattle.format.specs.Items.{Item, withBytes, keyBytes, itemBytes, itemsBytes, sheetBytes}
-use Rattle.format.proofs.Rows.{count-after-fields}
-use Rattle.format.proofs.Refs.{whole, whole-out, countBytes, refsBytes-append, refsBytes-cons}
+use Rattle.format.proofs.Refs.{refsBytes-append}
 use Rattle.format.proofs.Bodies.{bodyBytes-grouped, set-total}
 use Rattle.format.proofs.Items.{back-21, length-keyBytes, length-itemBytes, itemsBytes-append}
 
@@ -182,13 +178,6 @@ body-splice b t front old new back p q e f =
     (ap (λ (n : ℕ). n + length (refsBytes front)) (before-refs b t) ∙ e) f
     ∙ ap (spliced p q (refsBytes new)) (sym (bodyBytes-grouped (bodyWith b t (front ++ (old ++ back)))))
 
--- the references from a place on
-pub body-from : (b : Body) (t : ℕ) (front back : List Ref) → drop (refPlace b front) (bodyBytes (bodyWith b t (front ++ back))) ≡ refsBytes back
-body-from b t front back =
-    ap (drop (refPlace b front)) (bodyBytes-grouped (bodyWith b t (front ++ back)))
-    ∙ drop-list refsBytes refsBytes-append (leBytes 8 t ++ b .fixed) front back (refPlace b front)
-    (ap (λ (n : ℕ). n + length (refsBytes front)) (before-refs b t))
-
 -- the same from the body itself: other references in a place, and another total over the first eight bytes
 pub body-edit : (b : Body) (t : ℕ) (front old new back : List Ref) (p q : ℕ) → b .refs ≡ front ++ (old ++ back)
     → refPlace b front ≡ p → p + length (refsBytes old) ≡ q
@@ -199,55 +188,3 @@ body-edit b t front old new back p q e at to =
     ∙ ap (written 0 (leBytes 8 t))
     (body-splice b (b .total) front old new back p q at to
     ∙ ap (λ (refs : List Ref). spliced p q (refsBytes new) (bodyBytes (bodyWith b (b .total) refs))) (sym e))
-
--- the total written first
-pub body-edit-after : (b : Body) (t : ℕ) (front old new back : List Ref) (p q : ℕ) → b .refs ≡ front ++ (old ++ back)
-    → refPlace b front ≡ p → p + length (refsBytes old) ≡ q
-    → bodyBytes (bodyWith b t (front ++ (new ++ back))) ≡ spliced p q (refsBytes new) (written 0 (leBytes 8 t) (bodyBytes b))
-body-edit-after b t front old new back p q e at to =
-    body-splice b t front old new back p q at to
-    ∙ ap (λ (refs : List Ref). spliced p q (refsBytes new) (bodyBytes (bodyWith b t refs))) (sym e)
-    ∙ ap (spliced p q (refsBytes new)) (sym (set-total b t))
-
--- ---- a reference's count is a write of 4 bytes
-
-pub weighed-count : (r : Ref) (w : ℕ) → T (counted (r .kind)) → countBytes (weighed r w) ≡ leBytes 4 w
-weighed-count r w c = cond-yes (counted (r .kind)) (leBytes 4 w) [] c
-
--- type and fields, then the count and what follows
-pub weighed-bytes : (r : Ref) (w : ℕ) (back : List Ref) → T (counted (r .kind))
-    → refsBytes (weighed r w ∷ back) ≡ (r .kind ∷ wordBytes (r .fields)) ++ (leBytes 4 w ++ refsBytes back)
-weighed-bytes r w back c =
-    refsBytes-cons (weighed r w) back
-    ∙ ap (λ (l : List ℕ). r .kind ∷ (wordBytes (r .fields) ++ (l ++ refsBytes back))) (weighed-count r w c)
-
-pub body-weigh : (b : Body) (t : ℕ) (front : List Ref) (r : Ref) (w : ℕ) (back : List Ref) → T (whole r) → T (counted (r .kind))
-    → bodyBytes (bodyWith b t (front ++ weighed r w ∷ back))
-    ≡ written (refPlace b front + 1 + countPosition (r .kind)) (leBytes 4 w) (bodyBytes (bodyWith b t (front ++ r ∷ back)))
-body-weigh b t front r w back h c =
-    let p : ℕ = refPlace b front + 1 + countPosition (r .kind) in
-    let first : List ℕ = leBytes 8 t ++ b .fixed in
-    let head : List ℕ = r .kind ∷ wordBytes (r .fields) in
-    let n : length head ≡ 1 + countPosition (r .kind) =
-    omega (arith, length-wordBytes (r .fields), whole-out r h .fieldsLong, count-after-fields (r .kind) c) in
-    let n₁ = length-append (first ++ refsBytes front) head in
-    let n₂ = length-append first (refsBytes front) in
-    let n₃ : length first ≡ 8 + length (b .fixed) = before-refs b t in
-    let n₄ : length (leBytes 4 (r .weight)) ≡ 4 = length-leBytes 4 (r .weight) in
-    let n₅ : length (leBytes 4 w) ≡ 4 = length-leBytes 4 w in
-    let at : length ((first ++ refsBytes front) ++ head) ≡ p = omega arith in
-    let q : ℕ = p + length (leBytes 4 w) in
-    grouped w ∙ splice-at ((first ++ refsBytes front) ++ head) (leBytes 4 (r .weight)) (leBytes 4 w) (refsBytes back) p q at (omega arith)
-    ∙ ap (spliced p q (leBytes 4 w)) (sym (grouped (r .weight)))
-    ∙ spliced-written p q (leBytes 4 w) (bodyBytes (bodyWith b t (front ++ r ∷ back))) refl
-  where
-    grouped : (v : ℕ) → bodyBytes (bodyWith b t (front ++ weighed r v ∷ back))
-        ≡ (((leBytes 8 t ++ b .fixed) ++ refsBytes front) ++ (r .kind ∷ wordBytes (r .fields))) ++ (leBytes 4 v ++ refsBytes back)
-    grouped v =
-        let first : List ℕ = leBytes 8 t ++ b .fixed in
-        let head : List ℕ = r .kind ∷ wordBytes (r .fields) in
-        bodyBytes-grouped (bodyWith b t (front ++ weighed r v ∷ back))
-        ∙ ap (λ (l : List ℕ). first ++ l) (refsBytes-append front (weighed r v ∷ back)
-        ∙ ap (λ (l : List ℕ). refsBytes front ++ l) (weighed-bytes r v back c))
-        ∙ sym (append-assoc first (refsBytes front) (head ++ (leBytes 4 v ++ refsBytes back)))
-        ∙ sym (append-assoc (first ++ refsBytes front) head (leBytes 4 v ++ refsBytes back))
