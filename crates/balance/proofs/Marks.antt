@@ -155,9 +155,6 @@ module _ (s : List ℕ) (g : Group) (at next : ℕ) (key : Key) (rec : T (isReco
         ∙ and-false (not (tallyOf s g .marked)))
 
     module _ (order : at + 21 ≤ next) (within : next ≤ length s) (total weight : ℕ) where
-      abbrev marked-group : Group
-      marked-group = afterRecord (g .extent) (at + 21) next from total weight
-
       pub mark-good : (h : Group) → h ≡ afterRecord (g .extent) (at + 21) next from total weight → g .marked ≡ false → Of weight ≡ weighedOf (readFrom inner from) → Light (length inner) (Of weight) → total ≡ le (part 0 8 inner)
           → Taking s g (itemOf s at next key) next (Next h)
       unfolding Taking tallyOf totalOf refsRead

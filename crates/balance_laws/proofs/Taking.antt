@@ -126,9 +126,6 @@ module _ (i : Item) (rest : List Item) (up : T (rising (i ∷ rest))) where
 
 -- ---- an item is taken exactly if the facts hold with it
 
-cond-self : {A : Type 0} (c : Bool) (a b : A) → c ≡ true → cond c a b ≡ a
-cond-self c a b e = ap (λ (d : Bool). cond d a b) e
-
 module _ (t : Tally) (i : Item) (rest : List Item) (self : i .key .objectid ≡ t .extent) (v : Valid t) where
   -- what the item adds, by the extent of the tally
   record-adds : T (isRecord i) → (y : ℕ) → isRecordOf y i ≡ cond (eqb (t .extent) y) 1 0

@@ -238,10 +238,6 @@ module _ (body : List ℕ) (p : Passed) (at kind start : ℕ) (s : start ≡ at 
   abbrev here : Ref
   here = refAt kind (drop start body)
 
-  is-kind : here .kind ≡ kind
-  unfolding refAt
-  is-kind = refl
-
   pub says-lower : kind < p .kind → Admitting body p here (start + payloadLength kind) No
   unfolding runOf refAt Admitting
   says-lower h = admits-lower (runOf body p) here h
