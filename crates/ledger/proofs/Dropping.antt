@@ -1,12 +1,11 @@
 -- A reference dropped, from the record's place to the change. Assumes nothing.
 use mathlib.Core.Path.{_≡_, sym, ap, ap₂, _∙_, subst}
 use mathlib.Core.Bool.{true}
-use mathlib.Core.Option.{Option, some}
+use mathlib.Core.Option.{Option}
 use mathlib.Core.List.{List}
-use Prim.Native.Nat.{ℕ, _+_}
+use Prim.Native.Nat.{ℕ}
 use native.Mathlib.Omega.{arith}
 use lib.Dec.{T, eqb}
-use lib.ListN.{length}
 use mir.Facts.{and-yes}
 use Rattle.fields.specs.Lists.{Cut, cut}
 use Rattle.fields.proofs.Lists.{cut-some}

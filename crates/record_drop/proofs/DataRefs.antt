@@ -21,14 +21,14 @@ use Rattle.format.specs.Questions.{Answer, absent, refused, remove, accepted, b
 use Rattle.format.specs.Hash.{dataRefHash}
 use Rattle.format.specs.References.{placeOf}
 use Rattle.format.specs.Bodies.{triple, bodyFits, lowerTotal, dropInlineDataRef, keyedCount, dropKeyedDataRef}
-use Rattle.format.specs.Items.{Item, keyOf, heldSheet, putBack, without}
+use Rattle.format.specs.Items.{Item, keyOf, heldSheet, putBack}
 use Rattle.format.specs.Sheets.{hasKey}
 use Rattle.format.specs.Apply.{replaced}
 use Rattle.format.specs.Ledger.{droppedAt, dropDataRef}
 use Rattle.format.proofs.Answers.{ask-ok, accepted-inj, remove-not}
 use Rattle.format.proofs.Outputs.{answered-refused}
 use Rattle.item_list.specs.declared.Sought.the-variants.{Present, Absent as Missing}
-use Rattle.item_list.specs.Steps.{itemsOf, itemAt}
+use Rattle.item_list.specs.Steps.{itemsOf}
 use Rattle.item_list.specs.Seeks.{seekIn}
 use Rattle.item_write.proofs.Writes.{answered-no}
 use Rattle.plan_write.specs.declared.plan.Outcome.{Outcome}

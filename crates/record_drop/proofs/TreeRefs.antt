@@ -17,7 +17,7 @@ use Rattle.format.specs.Items.{Item, keyOf, heldSheet, without}
 use Rattle.format.specs.Sheets.{hasKey, deleted}
 use Rattle.format.specs.Apply.{replaced, flagged, dropTreeRef}
 use Rattle.item_list.specs.declared.Sought.the-variants.{Present, Absent as Missing}
-use Rattle.item_list.specs.Steps.{itemsOf, itemAt}
+use Rattle.item_list.specs.Steps.{itemsOf}
 use Rattle.item_list.specs.Seeks.{seekIn}
 use Rattle.item_write.proofs.Writes.{answered-no}
 use Rattle.plan_write.specs.declared.plan.Outcome.the-variants.{Absent}

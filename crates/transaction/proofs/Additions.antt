@@ -4,9 +4,8 @@ use mathlib.Core.Bool.{Bool, true, false, _&&_}
 use mathlib.Core.List.{List}
 use Prim.Native.Nat.{ℕ, _+_, _-_, _/_, _<_}
 use native.Mathlib.Omega.{arith}
-use lib.Dec.{leb, eqb}
+use lib.Dec.{leb}
 use lib.ListN.{length}
-use borrow.Author.Tests.{eq-eqb, ne-eqb}
 use Rattle.fields.specs.Lists.{Cut}
 use Rattle.format.specs.declared.Key.{Key}
 use Rattle.format.specs.declared.SharedRef.{SharedRef}
@@ -28,14 +27,6 @@ use Rattle.transaction.proofs.Spots.{Standing, spot-refused, stands-ans
 use Rattle.transaction.proofs.Records.{put-answered}
 
 -- ---- question 3, and the limit
-
-pub kind-block : (kind : ℕ) → kind ≡ 182 → true ≡ sharedKind kind
-unfolding sharedKind
-kind-block kind e = rw (eq-eqb kind 182 e)
-
-pub kind-other : (kind : ℕ) → (kind ≡ 182 → ⊥) → eqb kind 184 ≡ sharedKind kind
-unfolding sharedKind
-kind-other kind n = rw (ne-eqb kind 182 n)
 
 pub both-yes : (a b r : Bool) → a ≡ true → r ≡ b → r ≡ (a && b)
 both-yes a b r h e = rw h e

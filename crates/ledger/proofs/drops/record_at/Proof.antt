@@ -5,7 +5,6 @@ use Rattle.fields.proofs.Numbers.{areBytes-in}
 use Rattle.transaction.proofs.Spots.{Standing}
 use Rattle.ledger_adds.proofs.Standings.{stood}
 use Rattle.ledger.proofs.Dropping.{stands-for}
-use borrow.Author.Needs.{needs}
 use Rattle.ledger.proofs.drops.record_at.Statement.{statement}
 use Rattle.ledger.proofs.drops.record_at.Tie as tie
 
