@@ -86,7 +86,8 @@ fn earlier(body: &[u8], from: usize, n: usize, p: usize, q: usize, least: usize)
     q
 }
 
-// The number of the first reference whose triple stands before it too, as an order along which no triple falls shows it.
+// The number of the first reference whose triple stands before it too, as an order along which no triple falls shows it. Which number
+// it is, is left open on purpose, here and in `earlier`: `distinct` is asked again of those before it.
 fn first_repeat(body: &[u8], from: usize, n: usize, order: &[u16]) -> usize
     requires { ⌜ (from + 29 * n ≤ length (now body)) × ((length (now body) ≤ 262144) × (n ≤ length (now order))) ⌝ }
     ensures { λ r. ⌜ r ≤ n ⌝ }
