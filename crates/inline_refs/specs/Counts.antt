@@ -1,4 +1,4 @@
--- How many references were read. Reading says neither absent nor remove. Assumes nothing.
+-- How many references were read. Their reader decides (format, Decisions, `refs-decide`), so 100 and 101 do not come. Assumes nothing.
 use mathlib.Core.List.{List}
 use lib.ListN.{length}
 use Rattle.format.specs.Questions.{Answer, refused, absent, remove, accepted}
