@@ -1,11 +1,11 @@
 -- Document 01, "Questions at the door": what a call answers, in which order its questions are put, and what a lent output
 -- holds afterwards. Assumes nothing.
 use mathlib.Core.Path.{_≡_}
-use mathlib.Core.Bool.{Bool, true, false, cond}
+use mathlib.Core.Bool.{Bool, true, false, _&&_, cond}
 use mathlib.Core.List.{List, [], _++_}
 use mathlib.Core.Option.{Option, none, some}
 use Prim.Native.Nat.{ℕ}
-use lib.Dec.{leb}
+use lib.Dec.{leb, ltb}
 use lib.ListN.{length, drop}
 use Rattle.format.specs.declared.Edited.{Edited}
 use Rattle.format.specs.declared.Edited.the-variants.{Written, Absent, Remove, Refused}
@@ -25,16 +25,20 @@ pub data Answer (A : Type 0) : Type 0 where
   remove : Answer A
   accepted : A → Answer A
 
--- refused or accepted: neither absent nor remove
-unfoldable pub decides : {A : Type 0} → Answer A → Bool
-decides (refused number) = true
+-- the number of a question: not 0, which says accepted, and none of the codes from 100 on
+abbrev pub isRefusal : ℕ → Bool
+isRefusal number = leb 1 number && ltb number 100
+
+-- refused with such a number, or accepted: neither absent nor remove
+abbrev pub decides : {A : Type 0} → Answer A → Bool
+decides (refused number) = isRefusal number
 decides absent = false
 decides remove = false
 decides (accepted result) = true
 
 -- not remove
-unfoldable pub keeps : {A : Type 0} → Answer A → Bool
-keeps (refused number) = true
+abbrev pub keeps : {A : Type 0} → Answer A → Bool
+keeps (refused number) = isRefusal number
 keeps absent = true
 keeps remove = false
 keeps (accepted result) = true

@@ -10,11 +10,11 @@ use Rattle.fields.specs.Lists.{all}
 use Rattle.format.specs.declared.Change.{Change}
 use Rattle.format.specs.declared.Edited.{Edited}
 use Rattle.format.specs.declared.Edited.the-variants.{Written, Absent, Remove, Refused}
-use Rattle.format.specs.Questions.{Answered}
+use Rattle.format.specs.Questions.{isRefusal, Answered}
 use Rattle.format.specs.Names.{Name, count}
 use Rattle.format.specs.Ledger.{posted}
 use Rattle.format.specs.History.{Posting, Seen, Tally, history, touched, itemsOf, sheetItems, balancedSheet}
-use Rattle.theorems.specs.Demand.{isRefusal, Correct}
+use Rattle.theorems.specs.Demand.{Correct}
 
 -- ---- one call: what it was given, what the lent output held before and after, and what it answered
 

@@ -18,7 +18,7 @@ use Rattle.format.specs.declared.Keyed.the-variants.{Block, Data}
 use Rattle.format.specs.declared.Key.{Key}
 use Rattle.format.specs.declared.Change.{Change}
 use Rattle.format.specs.declared.Change.the-variants.{AddBlock, AddData, AddShared, DropBlock, DropData, DropShared}
-use Rattle.format.specs.Questions.{Answer, refused, absent, remove, accepted, ask, bind, needed, found, ifAbsent, also, held}
+use Rattle.format.specs.Questions.{Answer, isRefusal, decides, keeps, refused, absent, remove, accepted, ask, bind, needed, found, ifAbsent, also, held}
 use Rattle.format.specs.References.{counted, Ref, Body, totalOf, readBody, placeOf}
 use Rattle.format.specs.Bodies.{named, one, triple, bodyFits, sharedKind, onBody, onHead, raisedBy, loweredByOne, reducedBy, onTotal, lowerTotal, reduceTotal, dropInline, dropInlineTreeRef, dropInlineDataRef, takeInlineShared, keyedCount, dropKeyedDataRef, Spot, isGap, standingWeight, addAt, addInlineTreeRef, addInlineData, addInlineShared}
 use Rattle.format.specs.Items.{Item, keyOf, readSheet, onSheet, nodesizeFits, sheetHolds, heldSheet}
@@ -27,23 +27,10 @@ use Rattle.format.specs.Apply.{inlineLimit, recordOf, onRecord, replaced, keyed
 use Rattle.format.specs.Names.{Name, balanced}
 use Rattle.format.specs.Ledger.{notItsOwn, kindFits, added, droppedAt, dropDataRef, sharedCount, dropSharedRef, changed, post, posted}
 use Rattle.format.specs.History.{Posting, answerTo}
-use Rattle.format.proofs.Bodies.{ReadsBody, body, short, strange, cutOff, readBody-decides}
-use Rattle.format.proofs.Items.{ReadsSheet, sheet, broken, unsorted, readSheet-decides}
-use Rattle.theorems.specs.Demand.{isRefusal, Decided, no, yes}
+use Rattle.format.proofs.Decisions.{decides-ask, decides-bind, decides-needed, body-decides, sheet-decides, on-body-decides, keeps-ask, keeps-bind, decides-keeps, keeps-found, take-keeps}
+use Rattle.theorems.specs.Demand.{Decided, no, yes}
 
 -- ---- a refusal or a result; not remove; not absent
-
-abbrev pub decides : {A : Type 0} → Answer A → Bool
-decides (refused n) = isRefusal n
-decides absent = false
-decides remove = false
-decides (accepted a) = true
-
-abbrev stays : {A : Type 0} → Answer A → Bool
-stays (refused n) = isRefusal n
-stays absent = true
-stays remove = false
-stays (accepted a) = true
 
 abbrev finds : {A : Type 0} → Answer A → Bool
 finds (refused n) = isRefusal n
@@ -51,54 +38,12 @@ finds absent = false
 finds remove = true
 finds (accepted a) = true
 
-decides-ask : {A : Type 0} (b : Bool) (n : ℕ) → T (isRefusal n) → (next : Answer A) → T (decides next) → T (decides (ask b n next))
-unfolding ask
-decides-ask true n r next t = t
-decides-ask false n r next t = r
-
-stays-ask : {A : Type 0} (b : Bool) (n : ℕ) → T (isRefusal n) → (next : Answer A) → T (stays next) → T (stays (ask b n next))
-unfolding ask
-stays-ask true n r next t = t
-stays-ask false n r next t = r
-
 found-ask : {A : Type 0} (b : Bool) (n : ℕ) → T (isRefusal n) → (next : Answer A) → T (finds next) → T (finds (ask b n next))
 unfolding ask
 found-ask true n r next t = t
 found-ask false n r next t = r
 
-decides-bind : {A B : Type 0} (r : Answer A) (next : A → Answer B) → T (decides r) → ((a : A) → T (decides (next a)))
-    → T (decides (bind r next))
-unfolding bind
-decides-bind (refused n) next t f = t
-decides-bind absent next t f = absurd t
-decides-bind remove next t f = absurd t
-decides-bind (accepted a) next t f = f a
-
-stays-bind : {A B : Type 0} (r : Answer A) (next : A → Answer B) → T (stays r) → ((a : A) → T (stays (next a)))
-    → T (stays (bind r next))
-unfolding bind
-stays-bind (refused n) next t f = t
-stays-bind absent next t f = tt
-stays-bind remove next t f = absurd t
-stays-bind (accepted a) next t f = f a
-
-decides-stays : {A : Type 0} (r : Answer A) → T (decides r) → T (stays r)
-decides-stays (refused n) t = t
-decides-stays absent t = absurd t
-decides-stays remove t = absurd t
-decides-stays (accepted a) t = tt
-
-decides-needed : {A : Type 0} (n : ℕ) → T (isRefusal n) → (o : Option A) → T (decides (needed n o))
-unfolding needed
-decides-needed n r none = r
-decides-needed n r (some a) = tt
-
-stays-found : {A : Type 0} (o : Option A) → T (stays (found o))
-unfolding found
-stays-found none = tt
-stays-found (some a) = tt
-
-decides-ifAbsent : {A : Type 0} (r s : Answer A) → T (stays r) → T (decides s) → T (decides (ifAbsent r s))
+decides-ifAbsent : {A : Type 0} (r s : Answer A) → T (keeps r) → T (decides s) → T (decides (ifAbsent r s))
 unfolding ifAbsent
 decides-ifAbsent (refused n) s t u = t
 decides-ifAbsent absent s t u = u
@@ -121,37 +66,13 @@ decides-held : {A : Type 0} (holds : A → Bool) (r : Answer A) → T (decides r
 unfolding held
 decides-held holds r t = decides-bind r _ t (λ a. decides-ask (holds a) 21 tt (accepted a) tt)
 
--- ---- bodies and sheets read, or are refused
-
-reads-body : (type : ℕ) (d : List ℕ) → T (decides (readBody type d))
-reads-body type d = go (readBody-decides type d)
-  where
-    go : ReadsBody (readBody type d) → T (decides (readBody type d))
-    go (body b e) = rw e tt
-    go (short e) = rw e tt
-    go (strange e) = rw e tt
-    go (cutOff e) = rw e tt
-
-reads-sheet : (s : List ℕ) → T (decides (readSheet s))
-reads-sheet s = go (readSheet-decides s)
-  where
-    go : ReadsSheet (readSheet s) → T (decides (readSheet s))
-    go (sheet items e) = rw e tt
-    go (broken e) = rw e tt
-    go (unsorted e) = rw e tt
-
 -- ---- calls on bodies
 
-decides-onBody : {A : Type 0} (type : ℕ) (d : List ℕ) (next : Body → Answer A) → ((b : Body) → T (decides (next b)))
-    → T (decides (onBody type d next))
+keeps-onBody : {A : Type 0} (type : ℕ) (d : List ℕ) (next : Body → Answer A) → ((b : Body) → T (keeps (next b)))
+    → T (keeps (onBody type d next))
 unfolding onBody
-decides-onBody type d next f = decides-ask (bodyFits d) 3 tt _ (decides-bind (readBody type d) next (reads-body type d) f)
-
-stays-onBody : {A : Type 0} (type : ℕ) (d : List ℕ) (next : Body → Answer A) → ((b : Body) → T (stays (next b)))
-    → T (stays (onBody type d next))
-unfolding onBody
-stays-onBody type d next f =
-    stays-ask (bodyFits d) 3 tt _ (stays-bind (readBody type d) next (decides-stays (readBody type d) (reads-body type d)) f)
+keeps-onBody type d next f =
+    keeps-ask (bodyFits d) 3 tt _ (keeps-bind (readBody type d) next (decides-keeps (readBody type d) (body-decides type d)) f)
 
 decides-onTotal : (d : List ℕ) (next : ℕ → Answer ℕ) → ((n : ℕ) → T (decides (next n))) → T (decides (onTotal d next))
 unfolding onTotal onHead
@@ -175,20 +96,12 @@ decides-addAt b r spot =
     (decides-bind (ask (ltb (b .total + r .weight) (2 ^ 64)) 12 (accepted (b .total + r .weight))) _
     (decides-ask (ltb (b .total + r .weight) (2 ^ 64)) 12 tt _ tt) (λ t. tt))))
 
-stays-dropInline : (type : ℕ) (d : List ℕ) (kind : ℕ) (fields : List ℕ) → T (stays (dropInline type d kind fields))
+keeps-dropInline : (type : ℕ) (d : List ℕ) (kind : ℕ) (fields : List ℕ) → T (keeps (dropInline type d kind fields))
 unfolding dropInline loweredByOne
-stays-dropInline type d kind fields =
-    stays-onBody type d _ (λ b.
-    stays-bind (found (cut (named kind fields) (b .refs))) _ (stays-found (cut (named kind fields) (b .refs))) (λ c.
-    stays-bind (ask (leb 2 (b .total)) 13 (accepted (b .total - 1))) _ (stays-ask (leb 2 (b .total)) 13 tt _ tt) (λ t. tt)))
-
-stays-takeInlineShared : (type : ℕ) (d : List ℕ) (s : SharedRef) → T (stays (takeInlineShared type d s))
-unfolding takeInlineShared
-stays-takeInlineShared type d s =
-    stays-ask (sharedKind (s .kind)) 3 tt _
-    (stays-onBody type d _ (λ b.
-    stays-bind (found (cut (named (s .kind) (one (s .parent))) (b .refs))) _
-    (stays-found (cut (named (s .kind) (one (s .parent))) (b .refs))) (λ c. tt)))
+keeps-dropInline type d kind fields =
+    keeps-onBody type d _ (λ b.
+    keeps-bind (found (cut (named kind fields) (b .refs))) _ (keeps-found (cut (named kind fields) (b .refs))) (λ c.
+    keeps-bind (ask (leb 2 (b .total)) 13 (accepted (b .total - 1))) _ (keeps-ask (leb 2 (b .total)) 13 tt _ tt) (λ t. tt)))
 
 found-dropKeyed : (d : List ℕ) (name : DataRef) → T (finds (dropKeyedDataRef d name))
 unfolding dropKeyedDataRef
@@ -222,9 +135,9 @@ decides-deleted key items =
 
 decides-keyedBody : (i : Item) (keyed : Keyed) (amount : ℕ) → T (decides (keyedBody i keyed amount false))
 unfolding keyedBody addInlineTreeRef addInlineData
-decides-keyedBody i (Block block) amount = decides-onBody (i .key .kind) (i .bytes) _ (λ b. decides-addAt b _ _)
+decides-keyedBody i (Block block) amount = on-body-decides (i .key .kind) (i .bytes) _ (λ b. decides-addAt b _ _)
 decides-keyedBody i (Data d) zero = tt
-decides-keyedBody i (Data d) (suc amount) = decides-onBody (i .key .kind) (i .bytes) _ (λ b. decides-addAt b _ _)
+decides-keyedBody i (Data d) (suc amount) = on-body-decides (i .key .kind) (i .bytes) _ (λ b. decides-addAt b _ _)
 
 decides-applyKeyedAdd : (nodesize extent : ℕ) (keyed : Keyed) (amount : ℕ) (items : List Item)
     → T (decides (applyKeyedAdd nodesize extent keyed amount false items))
@@ -240,7 +153,7 @@ unfolding applySharedAdd sharedBody addInlineShared
 decides-applySharedAdd nodesize extent s amount items =
     decides-onRecord extent items _ (λ c.
     decides-bind (addInlineShared (c .hit .key .kind) (c .hit .bytes) s amount) _
-    (decides-ask (sharedKind (s .kind)) 3 tt _ (decides-onBody (c .hit .key .kind) (c .hit .bytes) _ (λ b. decides-addAt b _ _)))
+    (decides-ask (sharedKind (s .kind)) 3 tt _ (on-body-decides (c .hit .key .kind) (c .hit .bytes) _ (λ b. decides-addAt b _ _)))
     (λ d.
     decides-ask (leb (length d) (inlineLimit nodesize)) 17 tt _ tt))
 
@@ -255,9 +168,9 @@ decides-dropTreeRef : (block : BlockRef) (items : List Item) (c : Cut Item) → 
 unfolding dropTreeRef dropInlineTreeRef flagged
 decides-dropTreeRef block items c =
     decides-ifAbsent _ _
-    (stays-bind (dropInline (c .hit .key .kind) (c .hit .bytes) 176 (one (block .tree))) _
-    (stays-dropInline (c .hit .key .kind) (c .hit .bytes) 176 (one (block .tree))) (λ d.
-    stays-bind (accepted d) _ tt (λ z. tt)))
+    (keeps-bind (dropInline (c .hit .key .kind) (c .hit .bytes) 176 (one (block .tree))) _
+    (keeps-dropInline (c .hit .key .kind) (c .hit .bytes) 176 (one (block .tree))) (λ d.
+    keeps-bind (accepted d) _ tt (λ z. tt)))
     (decides-bind (deleted (keyOf (c .hit .key .objectid) 176 (block .tree)) items) _
     (decides-deleted (keyOf (c .hit .key .objectid) 176 (block .tree)) items) (λ others.
     decides-bind (lowerTotal (c .hit .bytes)) _ (decides-lowerTotal (c .hit .bytes)) (λ d.
@@ -267,8 +180,8 @@ decides-dropDataRef : (d : DataRef) (items : List Item) (c : Cut Item) → T (de
 unfolding dropDataRef dropInlineDataRef
 decides-dropDataRef d items c =
     decides-ifAbsent _ _
-    (stays-bind (dropInline (c .hit .key .kind) (c .hit .bytes) 178 (triple d)) _
-    (stays-dropInline (c .hit .key .kind) (c .hit .bytes) 178 (triple d)) (λ z. tt))
+    (keeps-bind (dropInline (c .hit .key .kind) (c .hit .bytes) 178 (triple d)) _
+    (keeps-dropInline (c .hit .key .kind) (c .hit .bytes) 178 (triple d)) (λ z. tt))
     (decides-bind (needed 5 (cut (hasKey (keyOf (c .hit .key .objectid) 178 (placeOf 178 (triple d)))) items)) _
     (decides-needed 5 tt (cut (hasKey (keyOf (c .hit .key .objectid) 178 (placeOf 178 (triple d)))) items)) (λ k.
     decides-bind (lowerTotal (c .hit .bytes)) _ (decides-lowerTotal (c .hit .bytes)) (λ z.
@@ -280,9 +193,9 @@ decides-dropSharedRef : (s : SharedRef) (items : List Item) (c : Cut Item) → T
 unfolding dropSharedRef
 decides-dropSharedRef s items c =
     decides-ifAbsent _ _
-    (stays-bind (takeInlineShared (c .hit .key .kind) (c .hit .bytes) s) _ (stays-takeInlineShared (c .hit .key .kind) (c .hit .bytes) s) (λ out.
-    stays-bind (reduceTotal (out .bytes) (out .count)) _
-    (decides-stays (reduceTotal (out .bytes) (out .count)) (decides-reduceTotal (out .bytes) (out .count))) (λ z. tt)))
+    (keeps-bind (takeInlineShared (c .hit .key .kind) (c .hit .bytes) s) _ (take-keeps (c .hit .key .kind) (c .hit .bytes) s) (λ out.
+    keeps-bind (reduceTotal (out .bytes) (out .count)) _
+    (decides-keeps (reduceTotal (out .bytes) (out .count)) (decides-reduceTotal (out .bytes) (out .count))) (λ z. tt)))
     (decides-bind (needed 5 (cut (hasKey (keyOf (c .hit .key .objectid) (s .kind) (s .parent))) items)) _
     (decides-needed 5 tt (cut (hasKey (keyOf (c .hit .key .objectid) (s .kind) (s .parent))) items)) (λ k.
     decides-bind (reduceTotal (c .hit .bytes) (sharedCount (k .hit))) _
@@ -313,7 +226,7 @@ unfolding posted heldSheet post onSheet
 decides-posted nodesize s change room =
     decides-bind (held (sheetHolds room) (post nodesize s change)) _
     (decides-held (sheetHolds room) (post nodesize s change)
-    (decides-bind (readSheet s) _ (reads-sheet s) (λ items.
+    (decides-bind (readSheet s) _ (sheet-decides s) (λ items.
     decides-ask (nodesizeFits nodesize && kindFits change) 3 tt _
     (decides-ask (balanced items) 4 tt _ (decides-changed nodesize change items))))) (λ items. tt)
 

@@ -2,13 +2,13 @@
 -- a posting are, when a sheet is balanced, what a name counts and what the history says stand in the crate `format`, in Names,
 -- Ledger and History; when a posting is accepted stands in Acceptance. Assumes nothing.
 use mathlib.Core.Path.{_≡_}
-use mathlib.Core.Bool.{Bool, not, _&&_}
+use mathlib.Core.Bool.{Bool, not}
 use mathlib.Core.List.{List, [], _∷_}
 use Prim.Native.Nat.{ℕ, _+_, _^_}
-use lib.Dec.{T, leb, ltb}
+use lib.Dec.{T, ltb}
 use Rattle.fields.specs.Lists.{all}
 use Rattle.format.specs.declared.Change.{Change}
-use Rattle.format.specs.Questions.{Answer, refused, accepted}
+use Rattle.format.specs.Questions.{Answer, refused, accepted, isRefusal}
 use Rattle.format.specs.Names.{Name, count}
 use Rattle.format.specs.Ledger.{nameOf}
 use Rattle.format.specs.History.{Posting, answerTo, sheetAfter, isAccepted, run, seen, historyOf, touched, itemsOf, sheetItems, balancedSheet}
@@ -25,10 +25,6 @@ Wides [] = Unit {0}
 Wides (p ∷ postings) = Wide (p .change) × Wides postings
 
 -- ---- an answer that is a refusal with its number, or a sheet
-
--- the number of a question: not 0, which says accepted, and none of the codes from 100 on
-abbrev pub isRefusal : ℕ → Bool
-isRefusal number = leb 1 number && ltb number 100
 
 pub data Decided (answer : Answer (List ℕ)) : Type 0 where
   no : (number : ℕ) → T (isRefusal number) → answer ≡ refused number → Decided answer
