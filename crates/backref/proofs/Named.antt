@@ -5,15 +5,20 @@ use mathlib.Core.List.{List}
 use Prim.Native.Nat.{ℕ}
 use lib.Dec.{T, eqb→eq}
 use borrow.Author.Tests.{ne-eqb}
+use Rattle.format.specs.declared.BlockRef.{BlockRef}
+use Rattle.format.specs.declared.DataRef.{DataRef}
+use Rattle.format.specs.declared.Keyed.{Keyed}
+use Rattle.format.specs.declared.Keyed.the-variants.{Block as Tree, Data as File}
 use Rattle.format.specs.declared.SharedRef.{SharedRef}
 use Rattle.format.specs.Questions.{ask}
-use Rattle.format.specs.Bodies.{one, sharedKind, addInlineShared, takeInlineShared}
+use Rattle.format.specs.Bodies.{one, sharedKind, addInlineShared, addInlineKeyed, takeInlineShared}
 use Rattle.inline_refs.specs.Scans.{kindOf, fieldsOf}
 use Rattle.inline_refs.specs.declared.wanted.Wanted.{Wanted}
+use Rattle.inline_refs.specs.declared.wanted.Wanted.the-variants.{Block, Data}
 use Rattle.plan_write.specs.declared.plan.Plan.{Plan}
 use Rattle.plan_write.specs.declared.plan.Outcome.the-variants.{Refused}
 use Rattle.plan_write.specs.Plans.{Planned, PlannedTaken}
-use Rattle.backref_plan.specs.Adds.{ownPlace, spotOf, addInline}
+use Rattle.backref_plan.specs.Adds.{ownPlace, spotOf, addInline, addKeyed}
 use Rattle.backref_plan.specs.Takes.{takeInline}
 use Rattle.plan_write.proofs.Outcomes.{plan-refused, plan-same}
 use Rattle.plan_write.proofs.Taken.{taken-refused, taken-same}
@@ -41,3 +46,15 @@ module _ (type : ℕ) (d : List ℕ) (s : SharedRef) (plan : Plan) where
     pub take-other : PlannedTaken plan d (takeInlineShared type d s)
     unfolding takeInlineShared ask
     take-other = taken-refused plan d _ 3 o (rw other refl)
+
+-- the two cases of a keyed reference
+module _ (type : ℕ) (d : List ℕ) (plan : Plan) (keyed : Keyed) (count : ℕ) where
+  pub keyed-block : (name : BlockRef) → keyed ≡ Tree name → Planned plan d (addKeyed type d (Block name) (name .tree) 1)
+      → Planned plan d (addInlineKeyed type d keyed count)
+  unfolding addInlineKeyed addKeyed kindOf fieldsOf
+  keyed-block name e h = plan-same plan d _ _ (rw e refl) h
+
+  pub keyed-data : (name : DataRef) → keyed ≡ File name → Planned plan d (addKeyed type d (Data name) 0 count)
+      → Planned plan d (addInlineKeyed type d keyed count)
+  unfolding addInlineKeyed addKeyed kindOf fieldsOf
+  keyed-data name e h = plan-same plan d _ _ (rw e refl) h

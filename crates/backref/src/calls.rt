@@ -5,7 +5,6 @@ use format::Edited;
 use format::Keyed;
 use format::SharedRef;
 use format::Taken;
-use inline_refs::Wanted;
 ghost use lib.ListN.{length};
 ghost use Rattle.format.specs.Questions.{Answered, AnsweredTaken};
 ghost use Rattle.format.specs.Bodies.{heldBody, dropInlineTreeRef, dropInlineDataRef, addInlineTreeRef, addInlineDataRef, addInlineShared, addInlineKeyed, heldTaken, takeInlineShared};
@@ -51,24 +50,17 @@ pub fn add_inline_shared(
     plan_write::write_plan(body, plan, out)
 }
 
-pub fn add_keyed_block(item_type: u8, body: &[u8], name: BlockRef, out: &mut [u8]) -> Edited
-    ensures { λ r. ⌜ Answered (heldBody (length (now (out .entry))) (addInlineKeyed «item_type» (now (body .entry)) (Keyed.Block name) 1)) r (now (out .entry)) (now (out .exit)) ⌝ }
-{
-    let plan = backref_plan::plan_add_keyed(item_type, body, Wanted::Block(name), name.tree, 1);
-    plan_write::write_plan(body, plan, out)
-}
-
-// A data reference that is the only one goes before the first higher type: place 0.
-pub fn add_keyed_data(
+// A block reference ignores the count.
+pub fn add_inline_keyed(
     item_type: u8,
     body: &[u8],
-    name: DataRef,
+    keyed: Keyed,
     count: u32,
     out: &mut [u8],
 ) -> Edited
-    ensures { λ r. ⌜ Answered (heldBody (length (now (out .entry))) (addInlineKeyed «item_type» (now (body .entry)) (Keyed.Data name) count)) r (now (out .entry)) (now (out .exit)) ⌝ }
+    ensures { λ r. ⌜ Answered (heldBody (length (now (out .entry))) (addInlineKeyed «item_type» (now (body .entry)) keyed count)) r (now (out .entry)) (now (out .exit)) ⌝ }
 {
-    let plan = backref_plan::plan_add_keyed(item_type, body, Wanted::Data(name), 0, count);
+    let plan = crate::plans::plan_add_keyed(item_type, body, keyed, count);
     plan_write::write_plan(body, plan, out)
 }
 

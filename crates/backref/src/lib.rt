@@ -6,10 +6,9 @@ mod plans;
 
 pub use asks::holds_inline_data_ref;
 pub use calls::add_inline_data_ref;
+pub use calls::add_inline_keyed;
 pub use calls::add_inline_shared;
 pub use calls::add_inline_tree_ref;
-pub use calls::add_keyed_block;
-pub use calls::add_keyed_data;
 pub use calls::drop_inline_data_ref;
 pub use calls::drop_inline_tree_ref;
 pub use calls::take_inline_shared;

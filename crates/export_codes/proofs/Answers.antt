@@ -7,9 +7,11 @@ use lib.ListN.{length}
 use Rattle.format.specs.declared.Edited.{Edited}
 use Rattle.format.specs.declared.Taken.{Taken}
 use Rattle.format.specs.declared.Told.{Told}
+use Rattle.format.specs.declared.Key.{Key}
+use Rattle.format.specs.declared.Filed.{Filed}
 use Rattle.format.specs.declared.Judged.{Judged}
-use Rattle.format.specs.Questions.{Answer, refused, absent, remove, accepted, bind, TakenOut, bytesOf, codeOf, lentNumber, lentPart, editedOf, takenOf, toldOf, judgedOf, Answered, AnsweredTaken}
-use Rattle.export_codes.specs.Exports.{Coded, CodedTaken, CodedNumber, CodedBool, countIn, asNumber, editedCode, editedSize, takenCode, takenSize, takenCount, toldCode, toldNumber, judgedCode, judgedNumber}
+use Rattle.format.specs.Questions.{Answer, refused, absent, remove, accepted, bind, TakenOut, bytesOf, codeOf, lentNumber, lentPart, editedOf, takenOf, toldOf, filedOf, judgedOf, Answered, AnsweredTaken}
+use Rattle.export_codes.specs.Exports.{Coded, CodedTaken, CodedNumber, CodedKey, CodedBool, countIn, asNumber, editedCode, editedSize, takenCode, takenSize, takenCount, toldCode, toldNumber, filedCode, filedObjectid, filedKind, filedOffset, judgedCode, judgedNumber}
 
 edited-code : (a : Answer (List ℕ)) → editedCode (editedOf a) ≡ codeOf a
 unfolding editedOf codeOf
@@ -85,6 +87,34 @@ pub coded-number : {a : Answer ℕ} {answer : Told} {r value : ℕ} → answer �
 coded-number {a} h e = record {
   code = e .0 ∙ ap toldCode h ∙ told-code a;
   number = e .1 ∙ ap toldNumber h ∙ told-number a;
+}
+
+filed-code : (a : Answer Key) → filedCode (filedOf a) ≡ codeOf a
+unfolding filedOf codeOf
+filed-code (refused number) = refl
+filed-code absent = refl
+filed-code remove = refl
+filed-code (accepted key) = refl
+
+-- a part of the key, and 0 without one
+filed-part : (part : Filed → ℕ) (field : Key → ℕ) → ((key : Key) → part (filedOf (accepted key)) ≡ field key)
+    → ((number : ℕ) → part (filedOf (refused number)) ≡ 0) → (a : Answer Key)
+    → part (filedOf a) ≡ lentNumber (bind a (λ key. accepted (field key)))
+unfolding filedOf lentNumber bind
+filed-part part field is without (refused number) = without number
+filed-part part field is without absent = without 100
+filed-part part field is without remove = without 101
+filed-part part field is without (accepted key) = is key
+
+pub coded-key : {a : Answer Key} {answer : Filed} {r objectid kind offset : ℕ} → answer ≡ filedOf a
+    → (r ≡ filedCode answer) × (objectid ≡ filedObjectid answer) × (kind ≡ filedKind answer) × (offset ≡ filedOffset answer)
+    → CodedKey a r objectid kind offset
+unfolding filedOf
+coded-key {a} h e = record {
+  code = e .0 ∙ ap filedCode h ∙ filed-code a;
+  first = e .1 ∙ ap filedObjectid h ∙ filed-part filedObjectid (λ key. key .objectid) (λ key. refl) (λ number. refl) a;
+  second = e .2 ∙ ap filedKind h ∙ filed-part filedKind (λ key. key .kind) (λ key. refl) (λ number. refl) a;
+  third = e .3 ∙ ap filedOffset h ∙ filed-part filedOffset (λ key. key .offset) (λ key. refl) (λ number. refl) a;
 }
 
 judged-code : (a : Answer Bool) → judgedCode (judgedOf a) ≡ codeOf a

@@ -11,6 +11,9 @@ use Rattle.format.specs.declared.Taken.{Taken}
 use Rattle.format.specs.declared.Taken.the-variants.{Written as Out, Absent as NoMatch, Refused as Denied}
 use Rattle.format.specs.declared.Told.{Told}
 use Rattle.format.specs.declared.Told.the-variants.{Value, Refused as Untold}
+use Rattle.format.specs.declared.Key.{Key}
+use Rattle.format.specs.declared.Filed.{Filed}
+use Rattle.format.specs.declared.Filed.the-variants.{Under, Refused as Unfiled}
 use Rattle.format.specs.declared.Judged.{Judged}
 use Rattle.format.specs.declared.Judged.the-variants.{Says, Refused as Unjudged}
 use Rattle.format.specs.Questions.{Answer, accepted, bind, TakenOut, bytesOf, codeOf, lent, lentNumber, lentPart}
@@ -37,6 +40,13 @@ pub record CodedTaken (a : Answer TakenOut) (r len count : ℕ) (old new : List 
 pub record CodedNumber (a : Answer ℕ) (r value : ℕ) : Type 0 where
   pub code : r ≡ codeOf a
   pub number : value ≡ lentNumber a
+
+-- a key
+pub record CodedKey (a : Answer Key) (r objectid kind offset : ℕ) : Type 0 where
+  pub code : r ≡ codeOf a
+  pub first : objectid ≡ lentNumber (bind a (λ key. accepted (key .objectid)))
+  pub second : kind ≡ lentNumber (bind a (λ key. accepted (key .kind)))
+  pub third : offset ≡ lentNumber (bind a (λ key. accepted (key .offset)))
 
 -- yes or no, as 1 or 0
 abbrev pub asNumber : Answer Bool → Answer ℕ
@@ -88,6 +98,22 @@ toldCode (Untold number) = number
 abbrev pub toldNumber : Told → ℕ
 toldNumber (Value number) = number
 toldNumber (Untold number) = 0
+
+abbrev pub filedCode : Filed → ℕ
+filedCode (Under key) = 0
+filedCode (Unfiled number) = number
+
+abbrev pub filedObjectid : Filed → ℕ
+filedObjectid (Under key) = key .objectid
+filedObjectid (Unfiled number) = 0
+
+abbrev pub filedKind : Filed → ℕ
+filedKind (Under key) = key .kind
+filedKind (Unfiled number) = 0
+
+abbrev pub filedOffset : Filed → ℕ
+filedOffset (Under key) = key .offset
+filedOffset (Unfiled number) = 0
 
 abbrev pub judgedCode : Judged → ℕ
 judgedCode (Says judgement) = 0

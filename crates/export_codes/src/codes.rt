@@ -1,7 +1,8 @@
 // Answers as numbers: the code is returned, the result's numbers are lent, and they are 0 without a result.
 ghost use mathlib.Core.Path.{_≡_};
-ghost use Rattle.export_codes.specs.Exports.{editedCode, editedSize, takenCode, takenSize, takenCount, toldCode, toldNumber, judgedCode, judgedNumber};
+ghost use Rattle.export_codes.specs.Exports.{editedCode, editedSize, takenCode, takenSize, takenCount, toldCode, toldNumber, filedCode, filedObjectid, filedKind, filedOffset, judgedCode, judgedNumber};
 use format::Edited;
+use format::Filed;
 use format::Judged;
 use format::Taken;
 use format::Told;
@@ -56,6 +57,23 @@ pub fn put_told(answer: Told, value: &mut u64) -> u32
             ACCEPTED
         }
         Told::Refused(number) => number,
+    }
+}
+
+pub fn put_filed(answer: Filed, objectid: &mut u64, kind: &mut u64, offset: &mut u64) -> u32
+    ensures { λ r. ⌜ (r ≡ filedCode answer) × (now (objectid .exit) ≡ filedObjectid answer) × (now (kind .exit) ≡ filedKind answer) × (now (offset .exit) ≡ filedOffset answer) ⌝ }
+{
+    *objectid = 0;
+    *kind = 0;
+    *offset = 0;
+    match answer {
+        Filed::Under(key) => {
+            *objectid = key.objectid;
+            *kind = key.kind as u64;
+            *offset = key.offset;
+            ACCEPTED
+        }
+        Filed::Refused(number) => number,
     }
 }
 

@@ -57,7 +57,8 @@ pub extern "C" fn backref_add_inline_keyed_block(
 ) -> u32
     ensures { λ r. ⌜ Coded (heldBody (length (now (out .entry))) (addInlineKeyed «item_type» (now (body .entry)) (Keyed.Block (record { tree = tree })) count)) r (now (len .exit)) (now (out .entry)) (now (out .exit)) ⌝ }
 {
-    let answer = backref::add_keyed_block(item_type, body, BlockRef { tree }, out);
+    let keyed = Keyed::Block(BlockRef { tree });
+    let answer = backref::add_inline_keyed(item_type, body, keyed, count, out);
     export_codes::put_edited(answer, len)
 }
 
@@ -74,17 +75,12 @@ pub extern "C" fn backref_add_inline_keyed_data(
 ) -> u32
     ensures { λ r. ⌜ Coded (heldBody (length (now (out .entry))) (addInlineKeyed «item_type» (now (body .entry)) (Keyed.Data (record { tree = tree; objectid = objectid; offset = offset })) count)) r (now (len .exit)) (now (out .entry)) (now (out .exit)) ⌝ }
 {
-    let answer = backref::add_keyed_data(
-        item_type,
-        body,
-        DataRef {
-            tree,
-            objectid,
-            offset,
-        },
-        count,
-        out,
-    );
+    let keyed = Keyed::Data(DataRef {
+        tree,
+        objectid,
+        offset,
+    });
+    let answer = backref::add_inline_keyed(item_type, body, keyed, count, out);
     export_codes::put_edited(answer, len)
 }
 

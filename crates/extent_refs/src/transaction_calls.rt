@@ -1,9 +1,9 @@
 // References in bodies and in item lists: the calls of `transaction.rs`.
 ghost use lib.ListN.{length};
-ghost use Rattle.format.specs.Bodies.{heldBody, heldOnlyBy, keyedDataRefNames, sharedAddItem, sharedAddInlineSize};
+ghost use Rattle.format.specs.Bodies.{heldBody, heldOnlyBy, keyedDataRefNames, sharedAddKey, sharedAddItem, sharedAddInlineSize};
 ghost use Rattle.format.specs.Items.{heldSheet};
 ghost use Rattle.format.specs.Apply.{maxInlineExtentItem, recordNumber, applyKeyedAddTo, applySharedAddTo, applySharedDropTo, dropKeptTreeRefFrom};
-ghost use Rattle.export_codes.specs.Exports.{Coded, CodedBool, CodedNumber};
+ghost use Rattle.export_codes.specs.Exports.{Coded, CodedBool, CodedKey, CodedNumber};
 use format::BlockRef;
 use format::DataRef;
 use format::Keyed;
@@ -55,6 +55,21 @@ pub extern "C" fn transaction_shared_add_item(
 {
     let answer = transaction_bodies::shared_add_item(kind, count, out);
     export_codes::put_edited(answer, len)
+}
+
+#[no_mangle]
+pub extern "C" fn transaction_shared_add_key(
+    bytenr: u64,
+    kind: u8,
+    parent: u64,
+    objectid: &mut u64,
+    key_kind: &mut u64,
+    offset: &mut u64,
+) -> u32
+    ensures { λ r. ⌜ CodedKey (sharedAddKey bytenr (record { kind = kind; parent = parent })) r (now (objectid .exit)) (now («key_kind» .exit)) (now (offset .exit)) ⌝ }
+{
+    let answer = transaction_bodies::shared_add_key(bytenr, SharedRef { kind, parent });
+    export_codes::put_filed(answer, objectid, key_kind, offset)
 }
 
 #[no_mangle]

@@ -11,3 +11,4 @@ pub mod Splices
 pub mod Computed
 pub mod Postings
 pub mod Singles
+pub mod SharedAdds

@@ -17,7 +17,7 @@ use Rattle.format.specs.declared.Keyed.{Keyed}
 use Rattle.format.specs.declared.Keyed.the-variants.{Block, Data}
 use Rattle.format.specs.declared.Key.{Key}
 use Rattle.format.specs.Questions.{Answer, refused, absent, remove, accepted, ask, bind, found, held, TakenOut}
-use Rattle.format.specs.References.{counted, Ref, ref, Body, bodyWith, totalOf, flagsOf, startOf, readBody, bodyBytes, place, placeOf}
+use Rattle.format.specs.References.{payloadLength, counted, Ref, ref, Body, bodyWith, totalOf, flagsOf, startOf, readBody, bodyBytes, place, placeOf}
 
 -- ---- what the calls share
 
@@ -259,15 +259,17 @@ treeBlockBody generation block =
 unfoldable pub treeBlockKey : ℕ → ℕ → Key
 treeBlockKey bytenr level = record { objectid = bytenr; kind = 169; offset = level }
 
--- the key of SharedAdd's item, and its data
-unfoldable pub sharedAddKey : ℕ → SharedRef → Key
-sharedAddKey bytenr s = record { objectid = bytenr; kind = s .kind; offset = s .parent }
+-- the key of SharedAdd's item, and its data: the count where the type has one
+unfoldable pub sharedAddKey : ℕ → SharedRef → Answer Key
+sharedAddKey bytenr s =
+    ask (sharedKind (s .kind)) 3 (accepted (record { objectid = bytenr; kind = s .kind; offset = s .parent }))
 
 unfoldable pub sharedAddItem : ℕ → ℕ → Answer (List ℕ)
-sharedAddItem kind count = ask (sharedKind kind) 3 (accepted (cond (eqb kind 184) (leBytes 4 count) []))
+sharedAddItem kind count = ask (sharedKind kind) 3 (accepted (cond (counted kind) (leBytes 4 count) []))
 
+-- the type byte and the payload
 unfoldable pub sharedAddInlineSize : ℕ → Answer ℕ
-sharedAddInlineSize kind = ask (sharedKind kind) 3 (accepted (cond (eqb kind 184) 13 9))
+sharedAddInlineSize kind = ask (sharedKind kind) 3 (accepted (1 + payloadLength kind))
 
 -- ---- held_only_by, keyed_data_ref_names: they "say no to a body that can't be read or is too short"
 

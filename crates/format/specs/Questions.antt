@@ -13,6 +13,9 @@ use Rattle.format.specs.declared.Taken.{Taken}
 use Rattle.format.specs.declared.Taken.the-variants.{Written as Out, Absent as NoMatch, Refused as Denied}
 use Rattle.format.specs.declared.Told.{Told}
 use Rattle.format.specs.declared.Told.the-variants.{Value, Refused as Untold}
+use Rattle.format.specs.declared.Key.{Key}
+use Rattle.format.specs.declared.Filed.{Filed}
+use Rattle.format.specs.declared.Filed.the-variants.{Under, Refused as Unfiled}
 use Rattle.format.specs.declared.Judged.{Judged}
 use Rattle.format.specs.declared.Judged.the-variants.{Says, Refused as Unjudged}
 
@@ -142,6 +145,12 @@ toldOf (refused number) = Untold number
 toldOf absent = Untold 100
 toldOf remove = Untold 101
 toldOf (accepted number) = Value number
+
+unfoldable pub filedOf : Answer Key → Filed
+filedOf (refused number) = Unfiled number
+filedOf absent = Unfiled 100
+filedOf remove = Unfiled 101
+filedOf (accepted key) = Under key
 
 unfoldable pub judgedOf : Answer Bool → Judged
 judgedOf (refused number) = Unjudged number

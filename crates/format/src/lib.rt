@@ -83,6 +83,12 @@ pub enum Told {
     Refused(u32),
 }
 
+// What a call that hands back the key of an item answers.
+pub enum Filed {
+    Under(Key),
+    Refused(u32),
+}
+
 // What a call that says yes or no answers.
 pub enum Judged {
     Says(bool),

@@ -2,6 +2,7 @@
 // borrows the body, and the one scan that all calls on a body share.
 mod count;
 mod kinds;
+mod lengths;
 mod reader;
 mod scan;
 mod site;
@@ -14,6 +15,8 @@ pub use count::count_refs;
 pub use kinds::Row;
 pub use kinds::row_of;
 pub use kinds::rows;
+pub use lengths::Lengths;
+pub use lengths::lengths_of;
 pub use reader::Reader;
 pub use reader::Stepped;
 pub use reader::step_from;

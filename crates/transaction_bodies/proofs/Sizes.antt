@@ -1,14 +1,18 @@
 -- Laws of the calls that read no references, one for each way out. Assumes nothing.
 use mathlib.Core.Path.{_≡_, refl, sym, ap, _∙_, subst}
+use mathlib.Core.Bool.{true, false}
 use mathlib.Core.List.{List, [], _∷_}
-use Prim.Native.Nat.{ℕ, _-_, _/_, _≤_, _<_}
-use borrow.Author.Tests.{ne-eqb, le-leb, lt-leb}
+use Prim.Native.Nat.{ℕ, _+_, _-_, _/_, _≤_, _<_}
+use native.Mathlib.Omega.{arith}
+use borrow.Author.Tests.{le-leb, lt-leb}
 use Rattle.fields.specs.Numbers.{leBytes}
 use Rattle.fields.specs.Parts.{written}
 use Rattle.format.specs.declared.Edited.{Edited}
 use Rattle.format.specs.declared.Told.the-variants.{Value, Refused as Untold}
-use Rattle.format.specs.Questions.{refused, accepted, ask, bind, held, toldOf, Answered}
-use Rattle.format.specs.Bodies.{heldBody, sharedKind, sharedAddItem, sharedAddInlineSize}
+use Rattle.format.specs.declared.Filed.the-variants.{Under, Refused as Unfiled}
+use Rattle.format.specs.Questions.{refused, accepted, ask, bind, held, toldOf, filedOf, Answered}
+use Rattle.format.specs.References.{payloadLength, countPosition, counted}
+use Rattle.format.specs.Bodies.{heldBody, sharedKind, sharedAddKey, sharedAddItem, sharedAddInlineSize}
 use Rattle.format.specs.Items.{nodesizeFits}
 use Rattle.format.specs.Apply.{inlineLimit, maxInlineExtentItem}
 
@@ -28,45 +32,52 @@ module _ (n : ℕ) where
     unfolding toldOf maxInlineExtentItem ask nodesizeFits inlineLimit
     limit-is h = simp (le-leb _ _ low, le-leb _ _ h)
 
--- ---- a shared reference: 184 has a count, 182 has none
+-- ---- a shared reference, by the row of its kind
 
 module _ (k : ℕ) where
-  pub size-data : k ≡ 184 → Value 13 ≡ toldOf (sharedAddInlineSize k)
-  unfolding toldOf sharedAddInlineSize ask sharedKind
-  size-data e = rw e refl
+  module _ (other : sharedKind k ≡ false) where
+    pub size-other : Untold 3 ≡ toldOf (sharedAddInlineSize k)
+    unfolding toldOf sharedAddInlineSize ask
+    size-other = rw other refl
 
-  pub size-block : k ≡ 182 → Value 9 ≡ toldOf (sharedAddInlineSize k)
-  unfolding toldOf sharedAddInlineSize ask sharedKind
-  size-block e = rw e refl
+    pub item-other : (count room : ℕ) → heldBody room (sharedAddItem k count) ≡ refused 3
+    unfolding heldBody held bind sharedAddItem ask
+    item-other count room = rw other refl
 
-  pub size-other : (k ≡ 184 → ⊥) → (k ≡ 182 → ⊥) → Untold 3 ≡ toldOf (sharedAddInlineSize k)
-  unfolding toldOf sharedAddInlineSize ask sharedKind
-  size-other h g = simp (ne-eqb _ _ h, ne-eqb _ _ g)
+    pub key-other : (bytenr parent : ℕ) → Unfiled 3 ≡ filedOf (sharedAddKey bytenr (record { kind = k; parent = parent }))
+    unfolding filedOf sharedAddKey ask
+    key-other bytenr parent = rw other refl
 
-  module _ (count : ℕ) where
-    item-is : k ≡ 184 → sharedAddItem k count ≡ accepted (leBytes 4 count)
-    unfolding sharedAddItem ask sharedKind
-    item-is e = rw e refl
+  module _ (shared : sharedKind k ≡ true) where
+    pub size-is : (n : ℕ) → n ≡ payloadLength k → Value (1 + n) ≡ toldOf (sharedAddInlineSize k)
+    unfolding toldOf sharedAddInlineSize ask
+    size-is n e = rw (shared, e) refl
 
-    item-empty : k ≡ 182 → sharedAddItem k count ≡ accepted []
-    unfolding sharedAddItem ask sharedKind
-    item-empty e = rw e refl
+    pub key-is : (bytenr parent : ℕ)
+        → Under (record { objectid = bytenr; kind = k; offset = parent }) ≡ filedOf (sharedAddKey bytenr (record { kind = k; parent = parent }))
+    unfolding filedOf sharedAddKey ask
+    key-is bytenr parent = rw shared refl
 
-    whole-count : written 0 (leBytes 4 count) (0 ∷ 0 ∷ 0 ∷ 0 ∷ []) ≡ leBytes 4 count
-    unfolding leBytes
-    whole-count = refl
+    module _ (count n : ℕ) (is : n ≡ countPosition k) where
+      item-is : (n ≡ 0 → ⊥) → sharedAddItem k count ≡ accepted (leBytes 4 count)
+      unfolding sharedAddItem ask counted
+      item-is h = let some : 1 ≤ countPosition k = omega (arith, is) in simp (shared, le-leb _ _ some)
 
-    module _ (room : ℕ) where
-      pub item-data : {b old new : List ℕ} {r : Edited} → k ≡ 184 → b ≡ written 0 (leBytes 4 count) (0 ∷ 0 ∷ 0 ∷ 0 ∷ [])
-          → Answered (heldBody room (accepted b)) r old new → Answered (heldBody room (sharedAddItem k count)) r old new
-      item-data {old = old} {new = new} {r = r} e q h =
-          subst (λ a. Answered (heldBody room a) r old new) (ap accepted (q ∙ whole-count) ∙ sym (item-is e)) h
+      item-empty : n ≡ 0 → sharedAddItem k count ≡ accepted []
+      unfolding sharedAddItem ask counted
+      item-empty h = let none : countPosition k < 1 = omega (arith, is) in simp (shared, lt-leb _ _ none)
 
-      pub item-block : {old new : List ℕ} {r : Edited} → k ≡ 182
-          → Answered (heldBody room (accepted [])) r old new → Answered (heldBody room (sharedAddItem k count)) r old new
-      item-block {old = old} {new = new} {r = r} e h =
-          subst (λ a. Answered (heldBody room a) r old new) (sym (item-empty e)) h
+      whole-count : written 0 (leBytes 4 count) (0 ∷ 0 ∷ 0 ∷ 0 ∷ []) ≡ leBytes 4 count
+      unfolding leBytes
+      whole-count = refl
 
-      pub item-other : (k ≡ 184 → ⊥) → (k ≡ 182 → ⊥) → heldBody room (sharedAddItem k count) ≡ refused 3
-      unfolding heldBody held bind sharedAddItem ask sharedKind
-      item-other h g = simp (ne-eqb _ _ h, ne-eqb _ _ g)
+      module _ (room : ℕ) where
+        pub item-data : {b old new : List ℕ} {r : Edited} → (n ≡ 0 → ⊥) → b ≡ written 0 (leBytes 4 count) (0 ∷ 0 ∷ 0 ∷ 0 ∷ [])
+            → Answered (heldBody room (accepted b)) r old new → Answered (heldBody room (sharedAddItem k count)) r old new
+        item-data {old = old} {new = new} {r = r} e q h =
+            subst (λ a. Answered (heldBody room a) r old new) (ap accepted (q ∙ whole-count) ∙ sym (item-is e)) h
+
+        pub item-block : {old new : List ℕ} {r : Edited} → n ≡ 0
+            → Answered (heldBody room (accepted [])) r old new → Answered (heldBody room (sharedAddItem k count)) r old new
+        item-block {old = old} {new = new} {r = r} e h =
+            subst (λ a. Answered (heldBody room a) r old new) (sym (item-empty e)) h

@@ -14,3 +14,4 @@ pub use keyed::keyed_data_ref_names;
 pub use limit::max_inline_extent_item;
 pub use shared::shared_add_inline_size;
 pub use shared::shared_add_item;
+pub use shared::shared_add_key;

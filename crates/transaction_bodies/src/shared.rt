@@ -1,39 +1,64 @@
-// What a shared reference takes: inline, or as an item of its own.
+// What a shared reference takes: inline, or as an item of its own. The table of the kinds says how long it is and whether it counts.
 use format::Edited;
+use format::Filed;
+use format::Key;
+use format::SharedRef;
 use format::Told;
 ghost use mathlib.Core.Path.{_≡_};
 ghost use lib.ListN.{length};
-ghost use Rattle.format.specs.Questions.{Answered, toldOf};
-ghost use Rattle.format.specs.Bodies.{heldBody, sharedAddItem, sharedAddInlineSize};
+ghost use Rattle.format.specs.Questions.{Answered, toldOf, filedOf};
+ghost use Rattle.format.specs.Bodies.{heldBody, sharedKind, sharedAddKey, sharedAddItem, sharedAddInlineSize};
 
 const SHARED_BLOCK_REF: u8 = 182;
 
 const SHARED_DATA_REF: u8 = 184;
 
+// Question 3 of a shared kind.
+fn is_shared(kind: u8) -> bool
+    ensures { λ r. ⌜ r ≡ sharedKind kind ⌝ }
+{
+    kind == SHARED_BLOCK_REF || kind == SHARED_DATA_REF
+}
+
 // With its kind, and its count where it has one.
 pub fn shared_add_inline_size(kind: u8) -> Told
     ensures { λ r. ⌜ r ≡ toldOf (sharedAddInlineSize kind) ⌝ }
 {
-    if kind == SHARED_DATA_REF {
-        return Told::Value(13);
+    if !is_shared(kind) {
+        return Told::Refused(3);
     }
-    if kind == SHARED_BLOCK_REF {
-        return Told::Value(9);
+    let rows = inline_refs::rows();
+    let row = inline_refs::lengths_of(&rows, kind);
+    Told::Value((1 + row.payload) as u64)
+}
+
+// The key that the item is filed under.
+pub fn shared_add_key(bytenr: u64, name: SharedRef) -> Filed
+    ensures { λ r. ⌜ r ≡ filedOf (sharedAddKey bytenr name) ⌝ }
+{
+    if !is_shared(name.kind) {
+        return Filed::Refused(3);
     }
-    Told::Refused(3)
+    Filed::Under(Key {
+        objectid: bytenr,
+        kind: name.kind,
+        offset: name.parent,
+    })
 }
 
 // The item's data: the count of shared data, nothing for a shared block.
 pub fn shared_add_item(kind: u8, count: u32, out: &mut [u8]) -> Edited
     ensures { λ r. ⌜ Answered (heldBody (length (now (out .entry))) (sharedAddItem kind count)) r (now (out .entry)) (now (out .exit)) ⌝ }
 {
-    let mut b = [0u8; 4];
-    if kind == SHARED_DATA_REF {
-        fields::put_u32_le(&mut b, 0, count);
-        return extent_write::put_body(&b, out);
+    if !is_shared(kind) {
+        return Edited::Refused(3);
     }
-    if kind == SHARED_BLOCK_REF {
+    let rows = inline_refs::rows();
+    let row = inline_refs::lengths_of(&rows, kind);
+    let mut b = [0u8; 4];
+    if row.count == 0 {
         return extent_write::put_body(&b[..0], out);
     }
-    Edited::Refused(3)
+    fields::put_u32_le(&mut b, 0, count);
+    extent_write::put_body(&b, out)
 }

@@ -1,15 +1,20 @@
-use Rattle.transaction_bodies.proofs.Sizes.{size-data, size-block, size-other}
+use mathlib.Core.Path.{sym, _∙_}
+use borrow.Author.Needs.{needs}
+use borrow.Author.Tests.{not-true, not-false}
+use Rattle.transaction_bodies.proofs.Sizes.{size-is, size-other}
 use Rattle.transaction_bodies.proofs.shared.shared_add_inline_size.Statement.{statement}
 use Rattle.transaction_bodies.proofs.shared.shared_add_inline_size.Tie as tie
 
 returns : tie.Need-returns
-returns c = size-data _ (c .if1 .taken)
+returns c = size-other _ (sym (c .before .is-shared .ensures) ∙ not-true _ (c .if1 .taken))
 
 returns-2 : tie.Need-returns-2
-returns-2 c = size-block _ (c .if2 .taken)
-
-returns-3 : tie.Need-returns-3
-returns-3 c = size-other _ (c .before .if1 .left) (c .if2 .left)
+returns-2 c =
+    let row = c .before in
+    let asked = row .before .before .before in
+    size-is _ (sym (asked .before .is-shared .ensures) ∙ not-false _ (asked .if1 .left)) _ (row .lengths-of .ensures .0)
 
 pub shared-add-inline-size-spec : {M : Type 1} → statement M
-shared-add-inline-size-spec = tie.close (tie.spec returns returns-2 returns-3)
+shared-add-inline-size-spec =
+    tie.close
+    (tie.spec (λ c κs. search needs) returns (λ c κs. search needs) (λ c κs. search needs) (λ c. search needs) returns-2)
