@@ -10,8 +10,10 @@ use Rattle.format.specs.declared.Told.{Told}
 use Rattle.format.specs.declared.Key.{Key}
 use Rattle.format.specs.declared.Filed.{Filed}
 use Rattle.format.specs.declared.Judged.{Judged}
-use Rattle.format.specs.Questions.{Answer, refused, absent, remove, accepted, bind, TakenOut, bytesOf, codeOf, lentNumber, lentPart, editedOf, takenOf, toldOf, filedOf, judgedOf, Answered, AnsweredTaken}
-use Rattle.export_codes.specs.Exports.{Coded, CodedTaken, CodedNumber, CodedKey, CodedBool, countIn, asNumber, editedCode, editedSize, takenCode, takenSize, takenCount, toldCode, toldNumber, filedCode, filedObjectid, filedKind, filedOffset, judgedCode, judgedNumber}
+use Rattle.format.specs.Questions.{Answer, refused, absent, remove, accepted, bind, TakenOut, bytesOf, codeOf, lentNumber, lentPart, editedOf, takenOf, toldOf, filedOf, judgedOf, Answered, AnsweredTaken, pickedOf}
+use Rattle.export_codes.specs.Exports.{Coded, CodedTaken, CodedNumber, CodedKey, CodedBool, countIn, asNumber, editedCode, editedSize, takenCode, takenSize, takenCount, toldCode, toldNumber, filedCode, filedObjectid, filedKind, filedOffset, judgedCode, judgedNumber, CodedRef, numberIn, pickedCode, pickedKind, pickedOffset, pickedStart, pickedLen}
+use Rattle.format.specs.declared.InlineRef.{InlineRef}
+use Rattle.format.specs.declared.Picked.{Picked}
 
 edited-code : (a : Answer (List ℕ)) → editedCode (editedOf a) ≡ codeOf a
 unfolding editedOf codeOf
@@ -137,4 +139,32 @@ pub coded-bool : {a : Answer Bool} {answer : Judged} {r value : ℕ} → answer 
 coded-bool {a} h e = record {
   code = e .0 ∙ ap judgedCode h ∙ judged-code a;
   number = e .1 ∙ ap judgedNumber h ∙ judged-number a;
+}
+
+picked-code : (a : Answer InlineRef) → pickedCode (pickedOf a) ≡ codeOf a
+unfolding pickedOf codeOf
+picked-code (refused number) = refl
+picked-code absent = refl
+picked-code remove = refl
+picked-code (accepted r) = refl
+
+-- each lent number is a number of the reference that was picked, or 0
+picked-number : (number : InlineRef → ℕ) (lent : Picked → ℕ) → ((r : InlineRef) → lent (pickedOf (accepted r)) ≡ number r)
+    → ((n : ℕ) → lent (pickedOf (refused n)) ≡ 0) → (a : Answer InlineRef) → lent (pickedOf a) ≡ lentNumber (numberIn number a)
+unfolding pickedOf lentNumber bind
+picked-number number lent some none (refused n) = none n
+picked-number number lent some none absent = none 100
+picked-number number lent some none remove = none 101
+picked-number number lent some none (accepted r) = some r
+
+pub coded-ref : {a : Answer InlineRef} {answer : Picked} {r kind offset start len : ℕ} → answer ≡ pickedOf a
+    → (r ≡ pickedCode answer) × (kind ≡ pickedKind answer) × (offset ≡ pickedOffset answer) × (start ≡ pickedStart answer) × (len ≡ pickedLen answer)
+    → CodedRef a r kind offset start len
+unfolding pickedOf
+coded-ref {a} h e = record {
+  code = e .0 ∙ ap pickedCode h ∙ picked-code a;
+  type = e .1 ∙ ap pickedKind h ∙ picked-number (λ x. x .kind) pickedKind (λ r. refl) (λ n. refl) a;
+  field = e .2 ∙ ap pickedOffset h ∙ picked-number (λ x. x .offset) pickedOffset (λ r. refl) (λ n. refl) a;
+  first = e .3 ∙ ap pickedStart h ∙ picked-number (λ x. x .start) pickedStart (λ r. refl) (λ n. refl) a;
+  size = e .4 ∙ ap pickedLen h ∙ picked-number (λ x. x .len) pickedLen (λ r. refl) (λ n. refl) a;
 }

@@ -16,6 +16,9 @@ use Rattle.format.specs.declared.Filed.{Filed}
 use Rattle.format.specs.declared.Filed.the-variants.{Under, Refused as Unfiled}
 use Rattle.format.specs.declared.Judged.{Judged}
 use Rattle.format.specs.declared.Judged.the-variants.{Says, Refused as Unjudged}
+use Rattle.format.specs.declared.InlineRef.{InlineRef}
+use Rattle.format.specs.declared.Picked.{Picked}
+use Rattle.format.specs.declared.Picked.the-variants.{Ref as Reference, Refused as Unpicked}
 use Rattle.format.specs.Questions.{Answer, accepted, bind, TakenOut, bytesOf, codeOf, lent, lentNumber, lentPart}
 
 -- ---- the records
@@ -61,6 +64,17 @@ pub record CodedPart (a : Answer (List ℕ)) (place : Answer ℕ) (r start len :
   pub code : r ≡ codeOf a
   pub first : start ≡ lentNumber place
   pub size : len ≡ length (lentPart a)
+
+-- a reference of a body: its kind, its first field, and where its payload starts and how long it is
+abbrev pub numberIn : (InlineRef → ℕ) → Answer InlineRef → Answer ℕ
+numberIn number a = bind a (λ r. accepted (number r))
+
+pub record CodedRef (a : Answer InlineRef) (r kind offset start len : ℕ) : Type 0 where
+  pub code : r ≡ codeOf a
+  pub type : kind ≡ lentNumber (numberIn (λ x. x .kind) a)
+  pub field : offset ≡ lentNumber (numberIn (λ x. x .offset) a)
+  pub first : start ≡ lentNumber (numberIn (λ x. x .start) a)
+  pub size : len ≡ lentNumber (numberIn (λ x. x .len) a)
 
 -- ---- the declared enums as numbers
 
@@ -122,3 +136,23 @@ judgedCode (Unjudged number) = number
 abbrev pub judgedNumber : Judged → ℕ
 judgedNumber (Says judgement) = cond judgement 1 0
 judgedNumber (Unjudged number) = 0
+
+abbrev pub pickedCode : Picked → ℕ
+pickedCode (Reference r) = 0
+pickedCode (Unpicked number) = number
+
+abbrev pub pickedKind : Picked → ℕ
+pickedKind (Reference r) = r .kind
+pickedKind (Unpicked number) = 0
+
+abbrev pub pickedOffset : Picked → ℕ
+pickedOffset (Reference r) = r .offset
+pickedOffset (Unpicked number) = 0
+
+abbrev pub pickedStart : Picked → ℕ
+pickedStart (Reference r) = r .start
+pickedStart (Unpicked number) = 0
+
+abbrev pub pickedLen : Picked → ℕ
+pickedLen (Reference r) = r .len
+pickedLen (Unpicked number) = 0

@@ -1,9 +1,10 @@
 // Answers as numbers: the code is returned, the result's numbers are lent, and they are 0 without a result.
 ghost use mathlib.Core.Path.{_≡_};
-ghost use Rattle.export_codes.specs.Exports.{editedCode, editedSize, takenCode, takenSize, takenCount, toldCode, toldNumber, filedCode, filedObjectid, filedKind, filedOffset, judgedCode, judgedNumber};
+ghost use Rattle.export_codes.specs.Exports.{editedCode, editedSize, takenCode, takenSize, takenCount, toldCode, toldNumber, filedCode, filedObjectid, filedKind, filedOffset, judgedCode, judgedNumber, pickedCode, pickedKind, pickedOffset, pickedStart, pickedLen};
 use format::Edited;
 use format::Filed;
 use format::Judged;
+use format::Picked;
 use format::Taken;
 use format::Told;
 
@@ -90,5 +91,30 @@ pub fn put_judged(answer: Judged, value: &mut u64) -> u32
             ACCEPTED
         }
         Judged::Refused(number) => number,
+    }
+}
+
+pub fn put_picked(
+    answer: Picked,
+    kind: &mut u64,
+    offset: &mut u64,
+    start: &mut u64,
+    len: &mut u64,
+) -> u32
+    ensures { λ r. ⌜ (r ≡ pickedCode answer) × (now (kind .exit) ≡ pickedKind answer) × (now (offset .exit) ≡ pickedOffset answer) × (now (start .exit) ≡ pickedStart answer) × (now (len .exit) ≡ pickedLen answer) ⌝ }
+{
+    *kind = 0;
+    *offset = 0;
+    *start = 0;
+    *len = 0;
+    match answer {
+        Picked::Ref(reference) => {
+            *kind = reference.kind as u64;
+            *offset = reference.offset;
+            *start = reference.start as u64;
+            *len = reference.len as u64;
+            ACCEPTED
+        }
+        Picked::Refused(number) => number,
     }
 }

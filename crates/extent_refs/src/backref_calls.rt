@@ -1,9 +1,9 @@
 // Bodies: the calls of `backref.rs`.
 ghost use lib.ListN.{length};
 ghost use Rattle.format.specs.Questions.{accepted};
-ghost use Rattle.format.specs.Bodies.{heldBody, heldTaken, flags, inlineRefs, takeInlineShared, addInlineKeyed, dropInlineDataRef, dropKeyedDataRef, lowerTotal, reduceTotal, raiseTotal, holdsInlineDataRef, addInlineDataRef, addInlineTreeRef, keyedDataRefBody, addInlineShared, dropInlineTreeRef, withFlags};
+ghost use Rattle.format.specs.Bodies.{heldBody, heldTaken, flags, inlineRefs, inlineRef, takeInlineShared, addInlineKeyed, dropInlineDataRef, dropKeyedDataRef, lowerTotal, reduceTotal, raiseTotal, holdsInlineDataRef, addInlineDataRef, addInlineTreeRef, keyedDataRefBody, addInlineShared, dropInlineTreeRef, withFlags};
 ghost use Rattle.format.specs.Sheets.{heldCuts};
-ghost use Rattle.export_codes.specs.Exports.{Coded, CodedBool, CodedNumber, CodedTaken};
+ghost use Rattle.export_codes.specs.Exports.{Coded, CodedBool, CodedNumber, CodedRef, CodedTaken};
 use format::BlockRef;
 use format::DataRef;
 use format::Keyed;
@@ -28,6 +28,23 @@ pub extern "C" fn backref_inline_refs(
 {
     let answer = ref_positions::inline_refs(item_type, body, positions);
     export_codes::put_edited(answer, count)
+}
+
+// In Rattle `ref_positions::inline_payload` returns the payload itself.
+#[no_mangle]
+pub extern "C" fn backref_inline_ref(
+    item_type: u8,
+    body: &[u8],
+    number: u64,
+    kind: &mut u64,
+    offset: &mut u64,
+    start: &mut u64,
+    len: &mut u64,
+) -> u32
+    ensures { λ r. ⌜ CodedRef (inlineRef «item_type» (now (body .entry)) number) r (now (kind .exit)) (now (offset .exit)) (now (start .exit)) (now (len .exit)) ⌝ }
+{
+    let answer = ref_positions::inline_ref(item_type, body, number);
+    export_codes::put_picked(answer, kind, offset, start, len)
 }
 
 #[no_mangle]

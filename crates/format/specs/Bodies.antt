@@ -6,17 +6,18 @@ use mathlib.Core.Option.{Option, none, some}
 use Prim.Native.Nat.{ℕ, _+_, _-_, _*_, _^_}
 use lib.Bits.{bitOr}
 use lib.Dec.{leb, ltb, eqb}
-use lib.ListN.{length, getD}
+use lib.ListN.{length, getD, getElem?}
 use Rattle.fields.specs.Lists.{sum, all, same, Cut, cut}
 use Rattle.fields.specs.Numbers.{le, leBytes, words, wordBytes}
 use Rattle.fields.specs.Parts.{part, written}
 use Rattle.format.specs.declared.BlockRef.{BlockRef}
 use Rattle.format.specs.declared.DataRef.{DataRef}
 use Rattle.format.specs.declared.SharedRef.{SharedRef}
+use Rattle.format.specs.declared.InlineRef.{InlineRef}
 use Rattle.format.specs.declared.Keyed.{Keyed}
 use Rattle.format.specs.declared.Keyed.the-variants.{Block, Data}
 use Rattle.format.specs.declared.Key.{Key}
-use Rattle.format.specs.Questions.{Answer, refused, absent, remove, accepted, ask, bind, found, held, TakenOut}
+use Rattle.format.specs.Questions.{Answer, refused, absent, remove, accepted, ask, bind, found, held, TakenOut, needed}
 use Rattle.format.specs.References.{payloadLength, counted, Ref, ref, Body, bodyWith, totalOf, flagsOf, startOf, readBody, bodyBytes, place, placeOf}
 
 -- ---- what the calls share
@@ -92,7 +93,7 @@ flags body = onHead body (accepted (flagsOf body))
 unfoldable pub withFlags : List ℕ → ℕ → Answer (List ℕ)
 withFlags body set = onHead body (accepted (written 16 (leBytes 8 (bitOr (flagsOf body) set)) body))
 
--- ---- inline_refs, holds_inline_data_ref
+-- ---- inline_refs, InlineRef, holds_inline_data_ref
 
 -- the byte position of each reference, the first of them at `at`
 unfoldable pub positions : ℕ → List Ref → List ℕ
@@ -101,6 +102,20 @@ positions at (r ∷ refs) = at ∷ positions (at + (1 + 8 * length (r .fields) +
 
 unfoldable pub inlineRefs : ℕ → List ℕ → Answer (List ℕ)
 inlineRefs type body = onBody type body (λ b. accepted (positions (startOf type body) (b .refs)))
+
+-- reference number `number`, from 0, of those from `at` on: its payload stands behind the byte with its kind
+unfoldable pub refNumbered : ℕ → ℕ → List Ref → Answer InlineRef
+refNumbered at number refs =
+    bind (needed 5 (getElem? refs number)) (λ r.
+    accepted (record { kind = r .kind; offset = getD (r .fields) 0 0; start = getD (positions at refs) number 0 + 1; len = payloadLength (r .kind) }))
+
+-- the whole body is read before question 5 is put
+unfoldable pub inlineRef : ℕ → List ℕ → ℕ → Answer InlineRef
+inlineRef type body number = onBody type body (λ b. refNumbered (startOf type body) number (b .refs))
+
+-- the part of the body that is its payload
+unfoldable pub inlinePayload : ℕ → List ℕ → ℕ → Answer (List ℕ)
+inlinePayload type body number = bind (inlineRef type body number) (λ r. accepted (part (r .start) (r .len) body))
 
 unfoldable pub isFound : Option (Cut Ref) → Bool
 isFound none = false

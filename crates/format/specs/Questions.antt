@@ -18,6 +18,9 @@ use Rattle.format.specs.declared.Filed.{Filed}
 use Rattle.format.specs.declared.Filed.the-variants.{Under, Refused as Unfiled}
 use Rattle.format.specs.declared.Judged.{Judged}
 use Rattle.format.specs.declared.Judged.the-variants.{Says, Refused as Unjudged}
+use Rattle.format.specs.declared.InlineRef.{InlineRef}
+use Rattle.format.specs.declared.Picked.{Picked}
+use Rattle.format.specs.declared.Picked.the-variants.{Ref, Refused as Unpicked}
 
 -- ---- answers
 
@@ -157,6 +160,13 @@ judgedOf (refused number) = Unjudged number
 judgedOf absent = Unjudged 100
 judgedOf remove = Unjudged 101
 judgedOf (accepted judgement) = Says judgement
+
+-- a reference by its number is neither absent nor removed
+unfoldable pub pickedOf : Answer InlineRef → Picked
+pickedOf (refused number) = Unpicked number
+pickedOf absent = Unpicked 100
+pickedOf remove = Unpicked 101
+pickedOf (accepted reference) = Ref reference
 
 -- ---- the contract of a call with a lent output: its answer, and what the output held before and holds after
 

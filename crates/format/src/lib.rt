@@ -26,6 +26,15 @@ pub struct SharedRef {
     pub parent: u64,
 }
 
+// A reference of a body, as the original's `InlineRef`: its kind, its offset, which is its first field, and where in the body its
+// payload starts and how long it is.
+pub struct InlineRef {
+    pub kind: u8,
+    pub offset: u64,
+    pub start: usize,
+    pub len: usize,
+}
+
 // A reference that names a tree, as the original has it.
 pub enum Keyed {
     Block(BlockRef),
@@ -92,5 +101,11 @@ pub enum Filed {
 // What a call that says yes or no answers.
 pub enum Judged {
     Says(bool),
+    Refused(u32),
+}
+
+// What a call that hands back a reference answers.
+pub enum Picked {
+    Ref(InlineRef),
     Refused(u32),
 }

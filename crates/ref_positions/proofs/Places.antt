@@ -37,6 +37,7 @@ module _ (s : List ℕ) (at k p n q next : ℕ) (h : At s at k p n q next) where
   -- what is left to read, behind a reference
   pub record Further (rest : List Ref) : Type 0 where
     pub others : List Ref
+    pub is : rest ≡ refAt k (drop p s) ∷ others
     pub reads : readFrom s next ≡ accepted others
     pub places : positions at rest ≡ at ∷ positions next others
 
@@ -46,6 +47,7 @@ module _ (s : List ℕ) (at k p n q next : ℕ) (h : At s at k p n q next) where
       let w = bind-ok (readFrom s next) _ (sym (h .reads) ∙ e) in
       record {
         others = w .0;
+        is = sym (accepted-inj (w .2));
         reads = w .1;
         places = ap (positions at) (sym (accepted-inj (w .2))) ∙ ap (λ (m : ℕ). at ∷ positions m (w .0)) next-is;
       }

@@ -1,8 +1,13 @@
-// Where the inline references of a body stand. Refusal 21 writes nothing, so they are counted before they are written.
+// Where the inline references of a body stand, and one of them by its number. Refusal 21 writes nothing, so they are counted before
+// they are written.
+mod pick;
+
 use format::Edited;
 use inline_refs::Counted;
 use inline_refs::Start;
 use inline_refs::Step;
+pub use pick::inline_payload;
+pub use pick::inline_ref;
 ghost use mathlib.Core.Path.{_≡_};
 ghost use Prim.Native.Nat.{_≤_};
 ghost use lib.ListN.{length};
