@@ -11,7 +11,7 @@ use Rattle.format.specs.declared.DataRef.{DataRef}
 use Rattle.format.specs.declared.SharedRef.{SharedRef}
 use Rattle.format.specs.Questions.{Answer, refused, absent, remove, accepted, isRefusal, decides, keeps, ask, bind, needed, found}
 use Rattle.format.specs.References.{readRefs, Body, readBody}
-use Rattle.format.specs.Bodies.{bodyFits, onBody, onHead, named, one, sharedKind, flags, holdsInlineDataRef, takeInlineShared, sharedAddInlineSize, keyedDataRefNames, heldOnlyBy}
+use Rattle.format.specs.Bodies.{bodyFits, onBody, onHead, named, one, sharedKind, flags, refNumbered, inlineRef, sharedAddKey, holdsInlineDataRef, takeInlineShared, sharedAddInlineSize, keyedDataRefNames, heldOnlyBy}
 use Rattle.format.specs.Items.{Item, readSheet, onSheet, nodesizeFits, dataFits}
 use Rattle.format.specs.Sheets.{fit, fits, item, itemStart}
 use Rattle.format.specs.Apply.{maxInlineExtentItem, recordOf, onRecord, recordNumber}
@@ -129,6 +129,17 @@ pub item-start-decides : (s : List ℕ) (number : ℕ) → T (decides (itemStart
 unfolding itemStart
 item-start-decides s number =
     on-sheet-decides s true _ (λ items. decides-bind (needed 5 (getElem? items number)) _ (decides-needed 5 tt _) (λ i. tt))
+
+-- ---- a reference by its number, and the key of a shared reference's item
+
+pub inline-ref-decides : (type : ℕ) (d : List ℕ) (number : ℕ) → T (decides (inlineRef type d number))
+unfolding inlineRef refNumbered
+inline-ref-decides type d number =
+    on-body-decides type d _ (λ b. decides-bind (needed 5 (getElem? (b .refs) number)) _ (decides-needed 5 tt _) (λ r. tt))
+
+pub shared-key-decides : (bytenr : ℕ) (name : SharedRef) → T (decides (sharedAddKey bytenr name))
+unfolding sharedAddKey
+shared-key-decides bytenr name = decides-ask (sharedKind (name .kind)) 3 tt _ tt
 
 -- ---- a reference taken out
 

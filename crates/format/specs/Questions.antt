@@ -142,7 +142,8 @@ takenOf absent = NoMatch
 takenOf remove = Denied 101
 takenOf (accepted out) = Out (length (out .bytes)) (out .count)
 
--- a number or a judgement: the calls that answer so decide (proofs/Decisions has the law of each), so 100 and 101 do not come
+-- a number, a judgement, a key or a reference: the calls that answer so decide (proofs/Decisions has the law of each), so 100 and
+-- 101 do not come
 unfoldable pub toldOf : Answer ℕ → Told
 toldOf (refused number) = Untold number
 toldOf absent = Untold 100
@@ -161,7 +162,6 @@ judgedOf absent = Unjudged 100
 judgedOf remove = Unjudged 101
 judgedOf (accepted judgement) = Says judgement
 
--- a reference by its number is neither absent nor removed
 unfoldable pub pickedOf : Answer InlineRef → Picked
 pickedOf (refused number) = Unpicked number
 pickedOf absent = Unpicked 100
