@@ -53,7 +53,7 @@ fn down(y: u64) -> u64
 
 // The register after a run over the eight bytes of `x`, lowest first. All eight are xored in at once: those that are not yet at
 // the low end move down with the register. A loop, so that `down` too is called in one place alone.
-fn u64_in(register: u32, x: u64) -> u32
+pub fn u64_in(register: u32, x: u64) -> u32
     ensures { λ r. ⌜ r ≡ run crc32c register (leBytes 8 x) ⌝ }
 {
     let mut y = x ^ (register as u64);
