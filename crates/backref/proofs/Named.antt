@@ -10,8 +10,9 @@ use Rattle.format.specs.declared.DataRef.{DataRef}
 use Rattle.format.specs.declared.Keyed.{Keyed}
 use Rattle.format.specs.declared.Keyed.the-variants.{Block as Tree, Data as File}
 use Rattle.format.specs.declared.SharedRef.{SharedRef}
-use Rattle.format.specs.Questions.{ask}
-use Rattle.format.specs.Bodies.{one, sharedKind, addInlineShared, addInlineKeyed, takeInlineShared}
+use Rattle.format.specs.declared.Edited.{Edited}
+use Rattle.format.specs.Questions.{ask, Answered}
+use Rattle.format.specs.Bodies.{heldBody, one, sharedKind, addInlineShared, addInlineKeyed, takeInlineShared}
 use Rattle.inline_refs.specs.Scans.{kindOf, fieldsOf}
 use Rattle.inline_refs.specs.declared.wanted.Wanted.{Wanted}
 use Rattle.inline_refs.specs.declared.wanted.Wanted.the-variants.{Block, Data}
@@ -48,13 +49,13 @@ module _ (type : ℕ) (d : List ℕ) (s : SharedRef) (plan : Plan) where
     take-other = taken-refused plan d _ 3 o (rw other refl)
 
 -- the two cases of a keyed reference
-module _ (type : ℕ) (d : List ℕ) (plan : Plan) (keyed : Keyed) (count : ℕ) where
-  pub keyed-block : (name : BlockRef) → keyed ≡ Tree name → Planned plan d (addKeyed type d (Block name) (name .tree) 1)
-      → Planned plan d (addInlineKeyed type d keyed count)
+module _ (type : ℕ) (d : List ℕ) (keyed : Keyed) (count room : ℕ) {r : Edited} {old new : List ℕ} where
+  pub keyed-block : (name : BlockRef) → keyed ≡ Tree name → Answered (heldBody room (addKeyed type d (Block name) (name .tree) 1)) r old new
+      → Answered (heldBody room (addInlineKeyed type d keyed count)) r old new
   unfolding addInlineKeyed addKeyed kindOf fieldsOf
-  keyed-block name e h = plan-same plan d _ _ (rw e refl) h
+  keyed-block name e h = rw e h
 
-  pub keyed-data : (name : DataRef) → keyed ≡ File name → Planned plan d (addKeyed type d (Data name) 0 count)
-      → Planned plan d (addInlineKeyed type d keyed count)
+  pub keyed-data : (name : DataRef) → keyed ≡ File name → Answered (heldBody room (addKeyed type d (Data name) 0 count)) r old new
+      → Answered (heldBody room (addInlineKeyed type d keyed count)) r old new
   unfolding addInlineKeyed addKeyed kindOf fieldsOf
-  keyed-data name e h = plan-same plan d _ _ (rw e refl) h
+  keyed-data name e h = rw e h

@@ -5,9 +5,11 @@ use format::Edited;
 use format::Keyed;
 use format::SharedRef;
 use format::Taken;
+use inline_refs::Wanted;
 ghost use lib.ListN.{length};
 ghost use Rattle.format.specs.Questions.{Answered, AnsweredTaken};
 ghost use Rattle.format.specs.Bodies.{heldBody, dropInlineTreeRef, dropInlineDataRef, addInlineTreeRef, addInlineDataRef, addInlineShared, addInlineKeyed, heldTaken, takeInlineShared};
+ghost use Rattle.backref_plan.specs.Adds.{addKeyed};
 
 pub fn drop_inline_tree_ref(item_type: u8, body: &[u8], tree: u64, out: &mut [u8]) -> Edited
     ensures { λ r. ⌜ Answered (heldBody (length (now (out .entry))) (dropInlineTreeRef «item_type» (now (body .entry)) (record { tree = tree }))) r (now (out .entry)) (now (out .exit)) ⌝ }
@@ -50,7 +52,23 @@ pub fn add_inline_shared(
     plan_write::write_plan(body, plan, out)
 }
 
-// A block reference ignores the count.
+// What both cases of `add_inline_keyed` come to. It stands apart so that the enum is taken apart in the caller, where the compiler
+// still has its fields as numbers; copied from one enum to the other in memory they cost up to a fifth of a short call.
+fn add_keyed(
+    item_type: u8,
+    body: &[u8],
+    wanted: Wanted,
+    place: u64,
+    count: u32,
+    out: &mut [u8],
+) -> Edited
+    ensures { λ r. ⌜ Answered (heldBody (length (now (out .entry))) (addKeyed «item_type» (now (body .entry)) wanted place count)) r (now (out .entry)) (now (out .exit)) ⌝ }
+{
+    let plan = backref_plan::plan_add_keyed(item_type, body, wanted, place, count);
+    plan_write::write_plan(body, plan, out)
+}
+
+// A block reference ignores the count. A data reference that is the only one goes before the first higher type: place 0.
 pub fn add_inline_keyed(
     item_type: u8,
     body: &[u8],
@@ -60,8 +78,10 @@ pub fn add_inline_keyed(
 ) -> Edited
     ensures { λ r. ⌜ Answered (heldBody (length (now (out .entry))) (addInlineKeyed «item_type» (now (body .entry)) keyed count)) r (now (out .entry)) (now (out .exit)) ⌝ }
 {
-    let plan = crate::plans::plan_add_keyed(item_type, body, keyed, count);
-    plan_write::write_plan(body, plan, out)
+    match keyed {
+        Keyed::Block(name) => { add_keyed(item_type, body, Wanted::Block(name), name.tree, 1, out) }
+        Keyed::Data(name) => add_keyed(item_type, body, Wanted::Data(name), 0, count, out),
+    }
 }
 
 pub fn take_inline_shared(item_type: u8, body: &[u8], name: SharedRef, out: &mut [u8]) -> Taken

@@ -1,13 +1,12 @@
 // The plans by the names that the calls take.
 use format::BlockRef;
 use format::DataRef;
-use format::Keyed;
 use format::SharedRef;
 use inline_refs::Wanted;
 use plan_write::Plan;
 ghost use mathlib.Core.Path.{_≡_};
 ghost use mathlib.Core.Bool.{true};
-ghost use Rattle.format.specs.Bodies.{dropInlineTreeRef, dropInlineDataRef, addInlineTreeRef, addInlineData, addInlineShared, addInlineKeyed, takeInlineShared, sharedKind, one};
+ghost use Rattle.format.specs.Bodies.{dropInlineTreeRef, dropInlineDataRef, addInlineTreeRef, addInlineData, addInlineShared, takeInlineShared, sharedKind, one};
 ghost use Rattle.inline_refs.specs.Scans.{kindOf, fieldsOf};
 ghost use Rattle.backref_plan.specs.Adds.{ownPlace};
 ghost use Rattle.plan_write.specs.Plans.{Planned, PlannedTaken};
@@ -34,20 +33,6 @@ pub fn plan_add_data(item_type: u8, body: &[u8], name: DataRef, amount: u32) -> 
     ensures { λ r. ⌜ Planned r (now (body .entry)) (addInlineData «item_type» (now (body .entry)) name amount) ⌝ }
 {
     backref_plan::plan_add_inline(item_type, body, Wanted::Data(name), amount, true)
-}
-
-// A data reference that is the only one goes before the first higher type: place 0.
-pub fn plan_add_keyed(item_type: u8, body: &[u8], keyed: Keyed, count: u32) -> Plan
-    ensures { λ r. ⌜ Planned r (now (body .entry)) (addInlineKeyed «item_type» (now (body .entry)) keyed count) ⌝ }
-{
-    match keyed {
-        Keyed::Block(name) => {
-            backref_plan::plan_add_keyed(item_type, body, Wanted::Block(name), name.tree, 1)
-        }
-        Keyed::Data(name) => {
-            backref_plan::plan_add_keyed(item_type, body, Wanted::Data(name), 0, count)
-        }
-    }
 }
 
 // Whether a kind is a shared reference's.
