@@ -5,16 +5,17 @@ ghost use lib.ListN.{length};
 ghost use Rattle.format.specs.Questions.{Answered, accepted};
 ghost use Rattle.format.specs.Bodies.{heldBody, keyedDataRefBody, dropKeyedDataRef};
 
-// A new item, 28 bytes.
+// A new item: the triple, and the count where the row of the kind has it.
 pub fn keyed_data_ref_body(name: DataRef, count: u32, out: &mut [u8]) -> Edited
     ensures { λ r. ⌜ Answered (heldBody (length (now (out .entry))) (accepted (keyedDataRefBody name count))) r (now (out .entry)) (now (out .exit)) ⌝ }
 {
-    let mut new = [0u8; 28];
+    let row = inline_refs::lengths_of(178);
+    let mut new = [0u8; 32];
     fields::put_u64_le(&mut new, 0, name.tree);
     fields::put_u64_le(&mut new, 8, name.objectid);
     fields::put_u64_le(&mut new, 16, name.offset);
-    fields::put_u32_le(&mut new, 24, count);
-    extent_write::put_body(&new, out)
+    fields::put_u32_le(&mut new, row.count, count);
+    extent_write::put_body(&new[..row.payload], out)
 }
 
 pub fn drop_keyed_data_ref(item: &[u8], name: DataRef, out: &mut [u8]) -> Edited

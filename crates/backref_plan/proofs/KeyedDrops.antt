@@ -13,12 +13,22 @@ use Rattle.fields.specs.Parts.{part, written}
 use Rattle.fields.proofs.Numbers.{length-leBytes}
 use Rattle.format.specs.declared.DataRef.{DataRef}
 use Rattle.format.specs.Questions.{ask}
+use Rattle.format.specs.References.{rowIn, payloadLength, countPosition}
 use Rattle.format.specs.Bodies.{bodyFits, triple, keyedCount, dropKeyedDataRef}
 use Rattle.plan_write.specs.declared.plan.Outcome.the-variants.{Edit, Remove, Refused}
 use Rattle.plan_write.specs.declared.plan.Plan.{Plan}
 use Rattle.plan_write.specs.Plans.{edited, Planned}
 use Rattle.plan_write.proofs.Outcomes.{plan-edit, plan-refused, plan-remove}
 use Rattle.plan_write.proofs.Totals.{rewritten, word-front}
+
+-- what the row of a data reference says
+pub long-is : (n : ℕ) → n ≡ payloadLength 178 → n ≡ 28
+unfolding payloadLength rowIn
+long-is n e = e
+
+pub at-is : (n : ℕ) → n ≡ countPosition 178 → n ≡ 24
+unfolding countPosition rowIn
+at-is n e = e
 
 module _ (item : List ℕ) (d : DataRef) (p : Plan) where
   pub keyed-long : 65535 < length item → p .outcome ≡ Refused 3 → Planned p item (dropKeyedDataRef item d)

@@ -9,15 +9,16 @@ use Rattle.fields.specs.Parts.{written}
 use Rattle.format.specs.References.{rowIn, payloadLength, countPosition, counted, ref, refBytes}
 use Rattle.format.specs.declared.DataRef.{DataRef}
 use Rattle.inline_refs.specs.Scans.{kindOf, fieldsOf}
+use Rattle.backref_plan.specs.Adds.{withCount}
 use Rattle.inline_refs.specs.declared.wanted.Wanted.{Wanted}
 use Rattle.inline_refs.specs.declared.wanted.Wanted.the-variants.{Block, Data, SharedBlock, SharedData}
 
 abbrev pub fieldBytes : ℕ → ℕ → ℕ → List ℕ
-fieldBytes kind field count = written 9 (leBytes 4 count) (written 1 (leBytes 8 field) (written 0 (kind ∷ []) (replicate 32 0)))
+fieldBytes kind field count = withCount (countPosition kind) count (written 1 (leBytes 8 field) (written 0 (kind ∷ []) (replicate 32 0)))
 
 abbrev pub tripleBytes : DataRef → ℕ → List ℕ
 tripleBytes name count =
-    written 25 (leBytes 4 count)
+    withCount (countPosition 178) count
     (written 17 (leBytes 8 (name .offset)) (written 9 (leBytes 8 (name .objectid)) (written 1 (leBytes 8 (name .tree)) (written 0 (178 ∷ []) (replicate 32 0)))))
 
 -- so many bytes in front are the reference's
@@ -32,7 +33,7 @@ made (SharedBlock parent) count = fieldBytes 182 parent count
 made (SharedData parent) count = fieldBytes 184 parent count
 
 pub holds : (w : Wanted) (count : ℕ) → Holds w count (made w count)
-unfolding kindOf fieldsOf payloadLength countPosition counted rowIn refBytes wordBytes leBytes
+unfolding withCount kindOf fieldsOf payloadLength countPosition counted rowIn refBytes wordBytes leBytes
 holds (Block name) count = record { front = refl; long = refl }
 holds (Data name) count = record { front = refl; long = refl }
 holds (SharedBlock parent) count = record { front = refl; long = refl }

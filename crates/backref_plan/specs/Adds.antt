@@ -1,9 +1,12 @@
 -- Where an added reference goes, by the wanted name. Assumes nothing.
 use mathlib.Core.Path.{_≡_}
-use mathlib.Core.Bool.{Bool, true, false}
+use mathlib.Core.Bool.{Bool, true, false, cond}
 use mathlib.Core.List.{List}
 use Prim.Native.Nat.{ℕ, _+_, _-_, _≤_, _<_}
+use lib.Dec.{leb}
 use lib.ListN.{length, take}
+use Rattle.fields.specs.Numbers.{leBytes}
+use Rattle.fields.specs.Parts.{written}
 use Rattle.format.specs.Questions.{Answer}
 use Rattle.format.specs.References.{payloadLength, Ref, ref, refBytes, placeOf}
 use Rattle.format.specs.Bodies.{onBody, Spot, spotAnywhere, spotByScan, addAt, keyedAt}
@@ -14,6 +17,10 @@ use Rattle.inline_refs.specs.Scans.{kindOf, fieldsOf}
 use Rattle.inline_refs.specs.Sites.{siteAnywhere, siteByScan}
 use Rattle.plan_write.specs.declared.plan.Outcome.the-variants.{Edit, Refused}
 use Rattle.plan_write.specs.declared.plan.Plan.{Plan}
+
+-- bytes in front of which a reference stands, with its count at a position of its payload, 0 where it has none
+unfoldable pub withCount : ℕ → ℕ → List ℕ → List ℕ
+withCount position count bytes = cond (leb 1 position) (written (1 + position) (leBytes 4 count) bytes) bytes
 
 -- the reference that is added
 abbrev pub newRef : Wanted → ℕ → Ref

@@ -12,23 +12,11 @@ ghost use Rattle.inline_refs.specs.Scans.{kindOf};
 ghost use Rattle.plan_write.specs.Plans.{Planned};
 ghost use Rattle.backref_plan.specs.Adds.{siteOf, Raised, addInline, addKeyed};
 
-// Whether references of the wanted kind have a count.
-fn counts(wanted: Wanted) -> bool
-    ensures { λ r. ⌜ r ≡ counted (kindOf wanted) ⌝ }
-{
-    match wanted {
-        Wanted::Block(_) => false,
-        Wanted::Data(_) => true,
-        Wanted::SharedBlock(_) => false,
-        Wanted::SharedData(_) => true,
-    }
-}
-
 // Question 10: amount 1 where the kind has no count.
 fn may_add(wanted: Wanted, amount: u32) -> bool
     ensures { λ r. ⌜ r ≡ counted (kindOf wanted) || eqb amount 1 ⌝ }
 {
-    if counts(wanted) {
+    if crate::bytes::counts(wanted) {
         return true;
     }
     amount == 1
@@ -78,7 +66,7 @@ pub fn plan_add_inline(
                     edit_raised(at, at, wanted, amount, total, amount)
                 }
                 Site::Standing { at, next, weight } => {
-                    if !counts(wanted) {
+                    if !crate::bytes::counts(wanted) {
                         return plan_write::refuse(9); // it has no count that could rise
                     }
                     if 4294967295 - amount < weight {
@@ -95,7 +83,7 @@ pub fn plan_add_inline(
 fn may_key(wanted: Wanted, kin: bool) -> bool
     ensures { λ r. ⌜ r ≡ not (counted (kindOf wanted)) || not kin ⌝ }
 {
-    if counts(wanted) {
+    if crate::bytes::counts(wanted) {
         return !kin;
     }
     true
@@ -118,7 +106,7 @@ pub fn plan_add_keyed(item_type: u8, body: &[u8], wanted: Wanted, place: u64, am
                     plan_write::edit(at, at, new, crate::bytes::size_of(wanted), total, 0)
                 }
                 Site::Standing { at, next, weight } => {
-                    if !counts(wanted) {
+                    if !crate::bytes::counts(wanted) {
                         return plan_write::refuse(9); // as above
                     }
                     if 4294967295 - amount < weight {

@@ -1,4 +1,4 @@
-// The plan on a data reference's item: a triple, and a count at 24.
+// The plan on a data reference's item: what would be the payload inline, a triple and a count, where the row of its kind has them.
 use format::DataRef;
 use plan_write::Outcome;
 use plan_write::Plan;
@@ -27,13 +27,14 @@ pub fn plan_drop_keyed(item: &[u8], name: DataRef) -> Plan
     if 65535 < item.len() {
         return plan_write::refuse(3);
     }
-    if item.len() != 28 {
+    let row = inline_refs::lengths_of(178);
+    if item.len() != row.payload {
         return plan_write::refuse(15);
     }
     if !inline_refs::names_triple(name, item, 0) {
         return plan_write::refuse(15);
     }
-    let count = fields::get_u32_le(item, 24);
+    let count = fields::get_u32_le(item, row.count);
     if count == 0 {
         return plan_write::refuse(16);
     }
@@ -41,5 +42,5 @@ pub fn plan_drop_keyed(item: &[u8], name: DataRef) -> Plan
         return plan_write::without(Outcome::Remove);
     }
     let tree = fields::get_u64_le(item, 0);
-    plan_write::edit(24, 28, count_bytes(count - 1), 4, tree, 0)
+    plan_write::edit(row.count, row.payload, count_bytes(count - 1), 4, tree, 0)
 }

@@ -2,7 +2,7 @@
 use mathlib.Core.Path.{_≡_, refl, sym, ap, subst, _∙_}
 use mathlib.Core.Bool.{Bool, true, false, cond}
 use mathlib.Core.List.{List, [], _∷_}
-use Prim.Native.Nat.{ℕ, _≤_}
+use Prim.Native.Nat.{ℕ, _+_, _≤_}
 use native.Mathlib.Omega.{arith}
 use lib.Dec.{T, leb, eqb, leb→le}
 use lib.ListN.{getD}
@@ -22,17 +22,24 @@ unfolding rowFrom
 no-row [] e = refl
 no-row (k ∷ row) e = let z : _≡_ {A = ℕ} 0 1 = cc in absurd (omega arith)
 
-either : (b : Bool) (row rest : List ℕ) → getD row 1 0 ≤ 255 → getD rest 1 0 ≤ 255 → getD (cond b row rest) 1 0 ≤ 255
-either true row rest h g = h
-either false row rest h g = g
+-- what bounds a column of a table bounds it in every row, and in none
+either : (column limit : ℕ) (b : Bool) (row rest : List ℕ) → getD row column 0 ≤ limit → getD rest column 0 ≤ limit
+    → getD (cond b row rest) column 0 ≤ limit
+either column limit true row rest h g = h
+either column limit false row rest h g = g
 
--- the table holds bytes
-short : (rows : List (List ℕ)) (k : ℕ) → T (all (λ row. leb (getD row 1 0) 255) rows) → getD (rowIn rows k) 1 0 ≤ 255
+at-most : (column limit : ℕ) (rows : List (List ℕ)) (k : ℕ) → T (all (λ row. leb (getD row column 0) limit) rows)
+    → getD (rowIn rows k) column 0 ≤ limit
 unfolding rowIn
-short [] k t = omega arith
-short (row ∷ rows) k t =
-    let h = and-yes (leb (getD row 1 0) 255) _ t in
-    either (eqb (getD row 0 0) k) row (rowIn rows k) (leb→le _ _ (h .0)) (short rows k (h .1))
+at-most column limit [] k t = omega arith
+at-most column limit (row ∷ rows) k t =
+    let h = and-yes (leb (getD row column 0) limit) _ t in
+    either column limit (eqb (getD row 0 0) k) row (rowIn rows k) (leb→le _ _ (h .0)) (at-most column limit rows k (h .1))
+
+-- an array of 32 bytes holds a type byte and a payload up to its count
+pub count-inside : (k : ℕ) → countPosition k + 5 ≤ 32
+unfolding countPosition
+count-inside k = let h : getD (rowIn kinds k) 2 0 ≤ 27 = at-most 2 27 kinds k tt in omega arith
 
 abbrev Says : ℕ → ℕ → ℕ → Type 0
 Says k size count = (size ≡ payloadLength k) × (count ≡ countPosition k) × (size ≤ 255)
@@ -41,7 +48,7 @@ pub row-says : (k size count : ℕ) → Known size count ≡ rowFrom (rowIn kind
 unfolding payloadLength countPosition
 row-says k size count e =
     let r = from-row (rowIn kinds k) size count e in
-    (r .0, r .1, omega (arith, r .0, short kinds k tt))
+    (r .0, r .1, omega (arith, r .0, at-most 1 255 kinds k tt))
 
 pub no-row-says : (k : ℕ) → Unknown ≡ rowFrom (rowIn kinds k) → Says k 0 0
 unfolding payloadLength countPosition

@@ -2,7 +2,7 @@
 use crate::kinds::Row;
 ghost use mathlib.Core.Path.{_≡_};
 ghost use Prim.Native.Nat.{_≤_};
-ghost use Rattle.format.specs.References.{kinds, payloadLength, countPosition};
+ghost use Rattle.format.specs.References.{payloadLength, countPosition};
 
 // How long a payload is, and where in it the count stands (0: no count).
 pub struct Lengths {
@@ -10,11 +10,12 @@ pub struct Lengths {
     pub count: usize,
 }
 
-pub fn lengths_of(table: &[[u8; 3]; 5], kind: u8) -> Lengths
-    requires { ⌜ now table ≡ kinds ⌝ }
+// Callers name the kind as a constant, so that the search is done and the table read when the program is compiled.
+pub fn lengths_of(kind: u8) -> Lengths
     ensures { λ r. ⌜ (r .payload ≡ payloadLength kind) × (r .count ≡ countPosition kind) × (r .payload ≤ 255) ⌝ }
 {
-    match crate::kinds::row_of(table, kind) {
+    let table = crate::kinds::rows();
+    match crate::kinds::row_of(&table, kind) {
         Row::Known { size, count } => Lengths {
             payload: size,
             count,

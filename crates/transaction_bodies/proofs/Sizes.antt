@@ -4,7 +4,8 @@ use mathlib.Core.Bool.{true, false}
 use mathlib.Core.List.{List, [], _∷_}
 use Prim.Native.Nat.{ℕ, _+_, _-_, _/_, _≤_, _<_}
 use native.Mathlib.Omega.{arith}
-use borrow.Author.Tests.{le-leb, lt-leb}
+use lib.Dec.{T, eqb→eq}
+use borrow.Author.Tests.{ne-eqb, le-leb, lt-leb}
 use Rattle.fields.specs.Numbers.{leBytes}
 use Rattle.fields.specs.Parts.{written}
 use Rattle.format.specs.declared.Edited.{Edited}
@@ -35,6 +36,10 @@ module _ (n : ℕ) where
 -- ---- a shared reference, by the row of its kind
 
 module _ (k : ℕ) where
+  pub data-kind : sharedKind k ≡ true → (k ≡ 182 → ⊥) → k ≡ 184
+  unfolding sharedKind
+  data-kind t h = eqb→eq k 184 (subst T (sym (rw (ne-eqb k 182 h) at t)) tt)
+
   module _ (other : sharedKind k ≡ false) where
     pub size-other : Untold 3 ≡ toldOf (sharedAddInlineSize k)
     unfolding toldOf sharedAddInlineSize ask

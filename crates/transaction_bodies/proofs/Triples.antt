@@ -10,7 +10,13 @@ use Rattle.fields.specs.Numbers.{words}
 use Rattle.format.specs.declared.DataRef.{DataRef}
 use Rattle.format.specs.declared.Judged.the-variants.{Says, Refused as Unjudged}
 use Rattle.format.specs.Questions.{ask, judgedOf}
+use Rattle.format.specs.References.{rowIn, countPosition}
 use Rattle.format.specs.Bodies.{bodyFits, triple, keyedDataRefNames}
+
+-- the count of a data reference stands behind three fields
+pub fields-end : {n : ℕ} → n ≡ countPosition 178 → n ≡ 24
+unfolding countPosition rowIn
+fields-end e = e
 
 module _ (d : List ℕ) (name : DataRef) where
   pub keyed-long : 65535 < length d → Unjudged 3 ≡ judgedOf (keyedDataRefNames d name)

@@ -1,4 +1,4 @@
-// Whether an item of its own is a data reference of that name.
+// Whether an item of its own is a data reference of that name: whether the three fields in front of its count are there and equal.
 use format::DataRef;
 use format::Judged;
 ghost use mathlib.Core.Path.{_≡_};
@@ -11,7 +11,7 @@ pub fn keyed_data_ref_names(item: &[u8], name: DataRef) -> Judged
     if 65535 < item.len() {
         return Judged::Refused(3);
     }
-    if item.len() < 24 {
+    if item.len() < inline_refs::lengths_of(178).count {
         return Judged::Says(false);
     }
     Judged::Says(inline_refs::names_triple(name, item, 0))

@@ -4,9 +4,13 @@ use format::Filed;
 use format::Key;
 use format::SharedRef;
 use format::Told;
+use inline_refs::Lengths;
 ghost use mathlib.Core.Path.{_≡_};
+ghost use mathlib.Core.Bool.{true};
+ghost use Prim.Native.Nat.{_≤_};
 ghost use lib.ListN.{length};
 ghost use Rattle.format.specs.Questions.{Answered, toldOf, filedOf};
+ghost use Rattle.format.specs.References.{payloadLength, countPosition};
 ghost use Rattle.format.specs.Bodies.{heldBody, sharedKind, sharedAddKey, sharedAddItem, sharedAddInlineSize};
 
 const SHARED_BLOCK_REF: u8 = 182;
@@ -20,6 +24,17 @@ fn is_shared(kind: u8) -> bool
     kind == SHARED_BLOCK_REF || kind == SHARED_DATA_REF
 }
 
+// The row of a shared kind. Each arm names its kind, since the compiler then looks it up, and the call does not.
+fn row_of(kind: u8) -> Lengths
+    requires { ⌜ sharedKind kind ≡ true ⌝ }
+    ensures { λ r. ⌜ (r .payload ≡ payloadLength kind) × (r .count ≡ countPosition kind) × (r .payload ≤ 255) ⌝ }
+{
+    if kind == SHARED_BLOCK_REF {
+        return inline_refs::lengths_of(SHARED_BLOCK_REF);
+    }
+    inline_refs::lengths_of(SHARED_DATA_REF)
+}
+
 // With its kind, and its count where it has one.
 pub fn shared_add_inline_size(kind: u8) -> Told
     ensures { λ r. ⌜ r ≡ toldOf (sharedAddInlineSize kind) ⌝ }
@@ -27,8 +42,7 @@ pub fn shared_add_inline_size(kind: u8) -> Told
     if !is_shared(kind) {
         return Told::Refused(3);
     }
-    let rows = inline_refs::rows();
-    let row = inline_refs::lengths_of(&rows, kind);
+    let row = row_of(kind);
     Told::Value((1 + row.payload) as u64)
 }
 
@@ -53,8 +67,7 @@ pub fn shared_add_item(kind: u8, count: u32, out: &mut [u8]) -> Edited
     if !is_shared(kind) {
         return Edited::Refused(3);
     }
-    let rows = inline_refs::rows();
-    let row = inline_refs::lengths_of(&rows, kind);
+    let row = row_of(kind);
     let mut b = [0u8; 4];
     if row.count == 0 {
         return extent_write::put_body(&b[..0], out);

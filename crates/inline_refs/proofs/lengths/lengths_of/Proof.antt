@@ -11,4 +11,4 @@ returns-2 : tie.Need-returns-2
 returns-2 c = no-row-says _ (sym (c .enum-told .given .1) ∙ c .before .before .row-of .ensures)
 
 pub lengths-of-spec : {M : Type 1} → statement M
-lengths-of-spec = tie.close (tie.spec (λ c κs. search needs) (λ c. search needs) (λ c. search needs) returns returns-2)
+lengths-of-spec = tie.close (tie.spec (λ c κs. search needs) (λ c κs. search needs) (λ c. search needs) (λ c. search needs) returns returns-2)
