@@ -13,7 +13,7 @@ use Rattle.fields.specs.Numbers.{words}
 use Rattle.fields.proofs.Lists.{and-false, lt-or}
 use Rattle.format.specs.References.{rowIn, known, payloadLength, countPosition, counted, fieldCount, Ref, refAt, place, falls}
 use Rattle.format.specs.Bodies.{named}
-use Rattle.distinct_triples.specs.Triples.{tripleOf, Distinct}
+use Rattle.distinct_triples.specs.Triples.{dataSize, tripleOf, Distinct}
 use Rattle.distinct_triples.proofs.Orders.{none-twice}
 use Rattle.balance_laws.specs.SideBySide.{spanRefs}
 use Rattle.balance_laws.specs.Runs.{Run, start, joins, kept, after, apart, weighs, admits}
@@ -58,12 +58,12 @@ module _ (body : List ℕ) (at p left : ℕ) (name : List ℕ) (is : name ≡ wo
       rw z (simp (sym (names-same b e) ∙ t))
 
   clear-step : (b : Bool) (m : ℕ) → b ≡ named 178 name (refAt 178 (drop (p + 1) body)) → b ≡ false
-      → clear body at p (suc m) ≡ clear body at (p + 29) m
+      → clear body at p (suc m) ≡ clear body at (p + dataSize) m
   unfolding clear spanRefs
   clear-step b m e t = simp (sym (names-same b e) ∙ t, payload-178) refl
 
   pub clear-miss : (b : Bool) → 0 < left → b ≡ named 178 name (refAt 178 (drop (p + 1) body)) → b ≡ false
-      → clear body at (p + 29) (left - 1) ≡ clear body at p left
+      → clear body at (p + dataSize) (left - 1) ≡ clear body at p left
   clear-miss b h e t =
       let z : left ≡ suc (left - 1) = omega arith in
       sym (ap (clear body at p) z ∙ clear-step b (left - 1) e t)
@@ -74,24 +74,24 @@ clear-none body at p = refl
 
 -- those that are known to differ from one another differ from one more of them
 module _ (body : List ℕ) (from n known : ℕ) (d : Distinct body from known) (h : n < known) where
-  differs : (i : ℕ) → i < n → same (refAt 178 (drop (from + 29 * i + 1) body) .fields) (refAt 178 (drop (from + 29 * n + 1) body) .fields) ≡ false
+  differs : (i : ℕ) → i < n → same (refAt 178 (drop (from + dataSize * i + 1) body) .fields) (refAt 178 (drop (from + dataSize * n + 1) body) .fields) ≡ false
   unfolding tripleOf
   differs i l = ap₂ same (fields-178 _) (fields-178 _) ∙ d .differ i n l h
 
-  clear-from : (m i : ℕ) → i + m ≡ n → clear body (from + 29 * n) (from + 29 * i) m ≡ true
+  clear-from : (m i : ℕ) → i + m ≡ n → clear body (from + dataSize * n) (from + dataSize * i) m ≡ true
   unfolding clear spanRefs
   clear-from zero i e = refl
   clear-from (suc m) i e =
       let l : i < n = omega arith in
-      let p : from + 29 * i + 29 ≡ from + 29 * suc i = omega arith in
+      let p : from + dataSize * i + dataSize ≡ from + dataSize * suc i = omega arith in
       let f : suc i + m ≡ n = omega arith in
       simp (differs i l, payload-178, p) (clear-from m (suc i) f)
 
-  pub clear-by : (at : ℕ) → from + 29 * n ≡ at → clear body at from n ≡ true
+  pub clear-by : (at : ℕ) → from + dataSize * n ≡ at → clear body at from n ≡ true
   clear-by at e =
-      let z : from + 29 * 0 ≡ from = omega arith in
+      let z : from + dataSize * 0 ≡ from = omega arith in
       let f : 0 + n ≡ n = omega arith in
-      subst (λ (q : ℕ). clear body q from n ≡ true) e (subst (λ (q : ℕ). clear body (from + 29 * n) q n ≡ true) z (clear-from n 0 f))
+      subst (λ (q : ℕ). clear body q from n ≡ true) e (subst (λ (q : ℕ). clear body (from + dataSize * n) q n ≡ true) z (clear-from n 0 f))
 
 -- ---- the answer, from the tests
 
@@ -310,7 +310,7 @@ module _ (body : List ℕ) (p : Passed) (at kind start : ℕ) (s : start ≡ at 
               ends-here : p .from + p .n * (1 + payloadLength (p .kind)) + 1 ≡ start
               ends-here =
                   let k : p .kind ≡ 178 = same-kind ∙ d in
-                  let z : p .n * (1 + payloadLength (p .kind)) ≡ p .n * 29 = ap (λ (j : ℕ). p .n * (1 + payloadLength j)) k ∙ ap (λ (j : ℕ). p .n * (1 + j)) payload-178 in
+                  let z : p .n * (1 + payloadLength (p .kind)) ≡ p .n * dataSize = ap (λ (j : ℕ). p .n * (1 + payloadLength j)) k ∙ ap (λ (j : ℕ). p .n * (1 + j)) payload-178 in
                   omega (arith, reach k)
 
               grown-is : (k : ℕ) → runOf body (grown k) ≡ record { kind = runOf body p .kind; spot = runOf body p .spot; back = runOf body p .back ++ here ∷ [] }

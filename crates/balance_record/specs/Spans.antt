@@ -7,7 +7,7 @@ use lib.ListN.{drop}
 use Rattle.fields.specs.Lists.{sum, all, same}
 use Rattle.format.specs.Questions.{Answer, refused, absent, remove, accepted}
 use Rattle.format.specs.References.{Ref, refAt}
-use Rattle.distinct_triples.specs.Triples.{Distinct}
+use Rattle.distinct_triples.specs.Triples.{dataSize, Distinct}
 use Rattle.balance_laws.specs.SideBySide.{spanRefs}
 use Rattle.balance_laws.specs.Runs.{Run, start, kept, admits, sound}
 use Rattle.balance_laws.specs.Tally.{weightIn}
@@ -26,7 +26,7 @@ runOf body p = record { kind = p .kind; spot = p .spot; back = spanRefs (p .kind
 
 -- the data references passed end where the next one stands
 abbrev pub Reaches : Passed → ℕ → Type 0
-Reaches p at = p .kind ≡ 178 → p .from + 29 * p .n ≡ at
+Reaches p at = p .kind ≡ 178 → p .from + dataSize * p .n ≡ at
 
 -- the triples of so many from the first on differ
 abbrev pub Apart : List ℕ → Passed → Type 0

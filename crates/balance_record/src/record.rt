@@ -10,7 +10,7 @@ ghost use lib.Dec.{T};
 ghost use lib.ListN.{length, drop};
 ghost use Rattle.format.specs.References.{kinds, known, payloadLength, countPosition, refAt, place};
 ghost use Rattle.inline_refs.specs.Steps.{readFrom};
-ghost use Rattle.distinct_triples.specs.Triples.{Distinct};
+ghost use Rattle.distinct_triples.specs.Triples.{dataSize, Distinct};
 ghost use Rattle.balance_record.specs.Spans.{clear, Admitting, Reaches, Apart, weighedOf, Light};
 
 // The references passed last: their type, what they are ordered by, where the first of them stands, how many there are, and of
@@ -37,17 +37,18 @@ pub enum Weighed {
 
 // Whether the triple of the data reference at `at` stands among the `n` data references from `from` on.
 fn repeated(body: &[u8], from: usize, n: usize, at: usize) -> bool
-    requires { ⌜ (from + 29 * n ≤ at) × (at + 29 ≤ length (now body)) ⌝ }
+    requires { ⌜ (from + dataSize * n ≤ at) × (at + dataSize ≤ length (now body)) ⌝ }
     ensures { λ r. ⌜ r ≡ not (clear (now (body .entry)) at from n) ⌝ }
 {
     let wanted = Wanted::Data(distinct_triples::triple_at(body, at + 1));
+    let size = distinct_triples::data_size();
     let mut p = from;
     let mut left = n;
     while 0 < left {
         if inline_refs::names(wanted, body, 178, p + 1) {
             return true;
         }
-        p += 29;
+        p += size;
         left -= 1;
     }
     false
@@ -55,7 +56,7 @@ fn repeated(body: &[u8], from: usize, n: usize, at: usize) -> bool
 
 // The same where the first `known` data references from `from` on are known to differ, and `at` is where one more stands.
 fn stands_twice(body: &[u8], from: usize, n: usize, known: usize, at: usize) -> bool
-    requires { ⌜ (from + 29 * n ≡ at) × (at + 29 ≤ length (now body)) ⌝ }
+    requires { ⌜ (from + dataSize * n ≡ at) × (at + dataSize ≤ length (now body)) ⌝ }
     requires { ⌜ Distinct (now body) from known ⌝ }
     ensures { λ r. ⌜ r ≡ not (clear (now (body .entry)) at from n) ⌝ }
 {
@@ -68,7 +69,7 @@ fn stands_twice(body: &[u8], from: usize, n: usize, known: usize, at: usize) -> 
 // A data reference whose hash is not below that of the data references passed.
 fn join(body: &[u8], run: Run, at: usize, start: usize, spot: u64, weight: u32) -> Admitted
     requires { ⌜ (run .kind ≡ 178) × ((run .spot ≤ spot) × (weight ≡ 0 → ⊥)) ⌝ }
-    requires { ⌜ (start ≡ at + 1) × ((start + 28 ≤ length (now body)) × Reaches run at) ⌝ }
+    requires { ⌜ (start ≡ at + 1) × ((at + dataSize ≤ length (now body)) × Reaches run at) ⌝ }
     requires { ⌜ (weight ≡ refAt 178 (drop start (now body)) .weight) × (spot ≡ place (refAt 178 (drop start (now body)))) ⌝ }
     requires { ⌜ (length (now body) ≤ 262144) × Apart (now body) run ⌝ }
     ensures { λ r. ⌜ Admitting (now (body .entry)) run (refAt 178 (drop start (now (body .entry)))) (start + payloadLength 178) r ⌝ }

@@ -2,18 +2,18 @@
 // stand together.
 ghost use Prim.Native.Nat.{_+_, _*_, _≤_};
 ghost use lib.ListN.{length};
-ghost use Rattle.distinct_triples.specs.Triples.{Distinct};
+ghost use Rattle.distinct_triples.specs.Triples.{dataSize, Distinct};
 
 // How many data references of that hash stand side by side from `from` on.
 fn count(body: &[u8], from: usize, spot: u64) -> usize
     requires { ⌜ (length (now body) ≤ 262144) × (from ≤ length (now body)) ⌝ }
-    ensures { λ r. ⌜ (from + 29 * r ≤ length (now (body .entry))) × (r ≤ 2259) ⌝ }
+    ensures { λ r. ⌜ (from + dataSize * r ≤ length (now (body .entry))) × (r ≤ 2259) ⌝ }
 {
-    let size = body.len();
+    let size = distinct_triples::data_size();
+    let mut at = from;
     let mut n: usize = 0;
     while n < 2259 {
-        let at = from + 29 * n;
-        if size < at + 29 {
+        if body.len() - at < size {
             return n;
         }
         if body[at] != 178 {
@@ -22,6 +22,7 @@ fn count(body: &[u8], from: usize, spot: u64) -> usize
         if inline_refs::place_at(body, 178, at + 1) != spot {
             return n;
         }
+        at += size;
         n += 1;
     }
     n

@@ -7,10 +7,15 @@ use lib.Dec.{ltb, eqb}
 use lib.ListN.{drop, getD}
 use Rattle.fields.specs.Lists.{same}
 use Rattle.fields.specs.Numbers.{words}
+use Rattle.format.specs.References.{kinds}
 
--- the triple of number i of the data references from a position on: a type byte, three numbers of eight bytes, and a count
+-- how many bytes a data reference takes: its type byte, and the payload that its row, the third, says
+abbrev pub dataSize : ℕ
+dataSize = 1 + getD (getD kinds 2 []) 1 0
+
+-- the triple of number i of the data references from a position on: three numbers behind the type byte
 unfoldable pub tripleOf : List ℕ → ℕ → ℕ → List ℕ
-tripleOf body from i = words 3 (drop (from + 29 * i + 1) body)
+tripleOf body from i = words 3 (drop (from + dataSize * i + 1) body)
 
 -- by the first number, then by the next
 unfoldable pub lower : List ℕ → List ℕ → Bool

@@ -5,4 +5,5 @@ mod sorting;
 mod triples;
 
 pub use checking::distinct_front;
+pub use triples::data_size;
 pub use triples::triple_at;

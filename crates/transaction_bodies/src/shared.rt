@@ -1,4 +1,4 @@
-// What a shared reference takes: inline, or as an item of its own. The table of the kinds says how long it is and whether it counts.
+// What a shared reference takes: inline, or as an item of its own. The row of its kind says how long it is and whether it counts.
 use format::Edited;
 use format::Filed;
 use format::Key;
