@@ -1,4 +1,3 @@
 pub mod Steps
 pub mod Spanning
 pub mod Halves
-pub mod Rows
