@@ -4,8 +4,9 @@ use std::process::ExitCode;
 
 fn main() -> ExitCode {
     let fault = std::env::var("STANDIN_FAULT").unwrap_or_default();
+    // As the lister does, no more than a type byte and one byte past the longest body.
     let mut input = Vec::new();
-    if let Err(error) = std::io::stdin().read_to_end(&mut input) {
+    if let Err(error) = std::io::stdin().take(65_537).read_to_end(&mut input) {
         if fault != "takes an error for the end" {
             eprintln!("lister: {error}");
             return ExitCode::FAILURE;
