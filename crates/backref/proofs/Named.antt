@@ -16,13 +16,13 @@ use Rattle.format.specs.Bodies.{heldBody, one, sharedKind, addInlineShared, add
 use Rattle.inline_refs.specs.Scans.{kindOf, fieldsOf}
 use Rattle.inline_refs.specs.declared.wanted.Wanted.{Wanted}
 use Rattle.inline_refs.specs.declared.wanted.Wanted.the-variants.{Block, Data}
-use Rattle.plan_write.specs.declared.plan.Plan.{Plan}
-use Rattle.plan_write.specs.declared.plan.Outcome.the-variants.{Refused}
-use Rattle.plan_write.specs.Plans.{Planned, PlannedTaken}
-use Rattle.backref_plan.specs.Adds.{ownPlace, spotOf, addInline, addKeyed}
-use Rattle.backref_plan.specs.Takes.{takeInline}
-use Rattle.plan_write.proofs.Outcomes.{plan-refused, plan-same}
-use Rattle.plan_write.proofs.Taken.{taken-refused, taken-same}
+use Rattle.backref.specs.declared.plan.Plan.{Plan}
+use Rattle.backref.specs.declared.plan.Outcome.the-variants.{Refused}
+use Rattle.backref.specs.Plans.{Planned, PlannedTaken}
+use Rattle.backref.specs.Adds.{ownPlace, spotOf, addInline, addKeyed}
+use Rattle.backref.specs.Takes.{takeInline}
+use Rattle.backref.proofs.Outcomes.{plan-refused, plan-same}
+use Rattle.backref.proofs.TakenPlans.{taken-refused, taken-same}
 
 pub other-kind : (kind : ℕ) → sharedKind kind ≡ true → (kind ≡ 182 → ⊥) → kind ≡ 184
 unfolding sharedKind

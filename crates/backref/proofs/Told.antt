@@ -19,7 +19,7 @@ use Rattle.inline_refs.specs.declared.site.Found.the-variants.{At, Nothing}
 use Rattle.inline_refs.specs.Scans.{kindOf, fieldsOf, scanOf, refsIn}
 use Rattle.inline_refs.specs.Sites.{hitOf}
 use Rattle.inline_refs.proofs.Spots.{found-view}
-use Rattle.backref_plan.proofs.Sites.{ReadIn, scan-faults}
+use Rattle.backref.proofs.Sites.{ReadIn, scan-faults}
 
 module _ (type : ℕ) (d : List ℕ) (name : DataRef) where
   pub holds-fault : (n : ℕ) → Fault n ≡ scanOf (Data name) 0 (startOf type d) (Open false) (refsIn type d)

@@ -9,34 +9,34 @@ use inline_refs::Wanted;
 ghost use lib.ListN.{length};
 ghost use Rattle.format.specs.Questions.{Answered, AnsweredTaken};
 ghost use Rattle.format.specs.Bodies.{heldBody, dropInlineTreeRef, dropInlineDataRef, addInlineTreeRef, addInlineDataRef, addInlineShared, addInlineKeyed, heldTaken, takeInlineShared};
-ghost use Rattle.backref_plan.specs.Adds.{addKeyed};
+ghost use Rattle.backref.specs.Adds.{addKeyed};
 
 pub fn drop_inline_tree_ref(item_type: u8, body: &[u8], tree: u64, out: &mut [u8]) -> Edited
     ensures { λ r. ⌜ Answered (heldBody (length (now (out .entry))) (dropInlineTreeRef «item_type» (now (body .entry)) (record { tree = tree }))) r (now (out .entry)) (now (out .exit)) ⌝ }
 {
     let plan = crate::plans::plan_drop_tree(item_type, body, BlockRef { tree });
-    plan_write::write_plan(body, plan, out)
+    crate::write_plan(body, plan, out)
 }
 
 pub fn drop_inline_data_ref(item_type: u8, body: &[u8], name: DataRef, out: &mut [u8]) -> Edited
     ensures { λ r. ⌜ Answered (heldBody (length (now (out .entry))) (dropInlineDataRef «item_type» (now (body .entry)) name)) r (now (out .entry)) (now (out .exit)) ⌝ }
 {
     let plan = crate::plans::plan_drop_data(item_type, body, name);
-    plan_write::write_plan(body, plan, out)
+    crate::write_plan(body, plan, out)
 }
 
 pub fn add_inline_tree_ref(item_type: u8, body: &[u8], tree: u64, out: &mut [u8]) -> Edited
     ensures { λ r. ⌜ Answered (heldBody (length (now (out .entry))) (addInlineTreeRef «item_type» (now (body .entry)) (record { tree = tree }))) r (now (out .entry)) (now (out .exit)) ⌝ }
 {
     let plan = crate::plans::plan_add_tree(item_type, body, BlockRef { tree });
-    plan_write::write_plan(body, plan, out)
+    crate::write_plan(body, plan, out)
 }
 
 pub fn add_inline_data_ref(item_type: u8, body: &[u8], name: DataRef, out: &mut [u8]) -> Edited
     ensures { λ r. ⌜ Answered (heldBody (length (now (out .entry))) (addInlineDataRef «item_type» (now (body .entry)) name)) r (now (out .entry)) (now (out .exit)) ⌝ }
 {
     let plan = crate::plans::plan_add_data(item_type, body, name, 1);
-    plan_write::write_plan(body, plan, out)
+    crate::write_plan(body, plan, out)
 }
 
 pub fn add_inline_shared(
@@ -49,7 +49,7 @@ pub fn add_inline_shared(
     ensures { λ r. ⌜ Answered (heldBody (length (now (out .entry))) (addInlineShared «item_type» (now (body .entry)) name count)) r (now (out .entry)) (now (out .exit)) ⌝ }
 {
     let plan = crate::plans::plan_add_shared(item_type, body, name, count);
-    plan_write::write_plan(body, plan, out)
+    crate::write_plan(body, plan, out)
 }
 
 // What both cases of `add_inline_keyed` come to. It stands apart so that the enum is taken apart in the caller, where the compiler
@@ -64,8 +64,8 @@ fn add_keyed(
 ) -> Edited
     ensures { λ r. ⌜ Answered (heldBody (length (now (out .entry))) (addKeyed «item_type» (now (body .entry)) wanted place count)) r (now (out .entry)) (now (out .exit)) ⌝ }
 {
-    let plan = backref_plan::plan_add_keyed(item_type, body, wanted, place, count);
-    plan_write::write_plan(body, plan, out)
+    let plan = crate::plan_add_keyed(item_type, body, wanted, place, count);
+    crate::write_plan(body, plan, out)
 }
 
 // A block reference ignores the count. A data reference that is the only one goes before the first higher type: place 0.
@@ -88,5 +88,5 @@ pub fn take_inline_shared(item_type: u8, body: &[u8], name: SharedRef, out: &mut
     ensures { λ r. ⌜ AnsweredTaken (heldTaken (length (now (out .entry))) (takeInlineShared «item_type» (now (body .entry)) name)) r (now (out .entry)) (now (out .exit)) ⌝ }
 {
     let plan = crate::plans::plan_take_shared(item_type, body, name);
-    plan_write::write_taken(body, plan, out)
+    crate::write_taken(body, plan, out)
 }

@@ -21,6 +21,6 @@ pub fn keyed_data_ref_body(name: DataRef, count: u32, out: &mut [u8]) -> Edited
 pub fn drop_keyed_data_ref(item: &[u8], name: DataRef, out: &mut [u8]) -> Edited
     ensures { λ r. ⌜ Answered (heldBody (length (now (out .entry))) (dropKeyedDataRef (now (item .entry)) name)) r (now (out .entry)) (now (out .exit)) ⌝ }
 {
-    let plan = backref_plan::plan_drop_keyed(item, name);
-    plan_write::write_same(item, plan, out)
+    let plan = crate::plan_drop_keyed(item, name);
+    crate::write_same(item, plan, out)
 }

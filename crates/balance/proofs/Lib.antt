@@ -1,3 +1,15 @@
+pub mod Admits
+pub mod Weighs
+pub mod Steps
+pub mod Spanning
+pub mod Halves
+pub mod SideBySide
+pub mod Sorted
+pub mod Parts
+pub mod Says
+pub mod Extents
+pub mod Taking
+pub mod Passing
 pub mod Forms
 pub mod Marks
 pub mod Refers

@@ -27,14 +27,14 @@ use Rattle.inline_refs.specs.declared.start.Start.the-variants.{From, Refused a
 use Rattle.inline_refs.specs.Steps.{readFrom, openOf}
 use Rattle.inline_refs.specs.Scans.{refsIn}
 use Rattle.inline_refs.proofs.Notes.{Opens, opens}
-use Rattle.balance_laws.specs.Runs.{start, sound}
-use Rattle.balance_laws.specs.Tally.{Tally, weightIn, taken}
-use Rattle.balance_laws.proofs.Sorted.{sound-out}
-use Rattle.balance_search.specs.Places.{refsRead, refsFrom}
-use Rattle.balance_search.proofs.Steps.{read-is}
-use Rattle.balance_record.specs.declared.record.Weighed.{Weighed}
-use Rattle.balance_record.specs.declared.record.Weighed.the-variants.{Of, Bad as Unfit}
-use Rattle.balance_record.specs.Spans.{weighing, weighedOf, Light}
+use Rattle.balance.specs.Runs.{start, sound}
+use Rattle.balance.specs.Tally.{Tally, weightIn, taken}
+use Rattle.balance.proofs.Sorted.{sound-out}
+use Rattle.balance.specs.Places.{refsRead, refsFrom}
+use Rattle.balance.proofs.Steps.{read-is}
+use Rattle.balance.specs.declared.record.Weighed.{Weighed}
+use Rattle.balance.specs.declared.record.Weighed.the-variants.{Of, Bad as Unfit}
+use Rattle.balance.specs.Spans.{weighing, weighedOf, Light}
 use Rattle.balance.specs.declared.group.Group.{Group}
 use Rattle.balance.specs.declared.group.Turn.the-variants.{Next, Bad}
 use Rattle.balance.specs.Groups.{itemOf, tallyOf, afterRecord, Taking}

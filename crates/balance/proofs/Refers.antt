@@ -19,10 +19,10 @@ use Rattle.theorems.proofs.Order.{named-yes}
 use Rattle.theorems.proofs.Facts.{view-item}
 use Rattle.inline_refs.specs.declared.wanted.Wanted.{Wanted}
 use Rattle.inline_refs.specs.Scans.{kindOf, fieldsOf, isWanted}
-use Rattle.balance_laws.specs.Tally.{taken, unnamed}
-use Rattle.balance_laws.proofs.Says.{naming-of}
-use Rattle.balance_search.specs.declared.span.Span.{Span}
-use Rattle.balance_search.specs.Places.{Spanned, absentIn}
+use Rattle.balance.specs.Tally.{taken, unnamed}
+use Rattle.balance.proofs.Says.{naming-of}
+use Rattle.balance.specs.declared.span.Span.{Span}
+use Rattle.balance.specs.Places.{Spanned, absentIn}
 use Rattle.balance.specs.declared.group.Group.{Group}
 use Rattle.balance.specs.declared.group.Turn.the-variants.{Next, Bad}
 use Rattle.balance.specs.declared.reference.Named.{Named}

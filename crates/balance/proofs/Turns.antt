@@ -18,9 +18,9 @@ use Rattle.format.proofs.Items.{sheet-sane}
 use Rattle.theorems.proofs.Naming.{Naming as Kinds, is176, is178, is182, is184}
 use Rattle.item_list.specs.Steps.{itemAt, itemsOf, Listed}
 use Rattle.item_list.proofs.Steps.{WholeAt, data-is}
-use Rattle.balance_laws.specs.Tally.{Tally, fresh, closed, taken, here, entered, entry, onward, pass}
-use Rattle.balance_laws.proofs.Says.{naming-of}
-use Rattle.balance_laws.proofs.Passing.{pass-balanced}
+use Rattle.balance.specs.Tally.{Tally, fresh, closed, taken, here, entered, entry, onward, pass}
+use Rattle.balance.proofs.Says.{naming-of}
+use Rattle.balance.proofs.Passing.{pass-balanced}
 use Rattle.balance.specs.declared.group.Group.{Group}
 use Rattle.balance.specs.declared.group.Turn.{Turn}
 use Rattle.balance.specs.declared.group.Turn.the-variants.{Next, Bad}

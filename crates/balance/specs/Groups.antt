@@ -13,8 +13,8 @@ use Rattle.format.specs.Items.{Item}
 use Rattle.format.specs.Names.{reference, malformed, viewRefItem, viewOf}
 use Rattle.inline_refs.specs.declared.wanted.Wanted.{Wanted}
 use Rattle.inline_refs.specs.Scans.{kindOf, fieldsOf}
-use Rattle.balance_laws.specs.Tally.{Tally, taken, pass}
-use Rattle.balance_search.specs.Places.{refsFrom, Readable, Spanned}
+use Rattle.balance.specs.Tally.{Tally, taken, pass}
+use Rattle.balance.specs.Places.{refsFrom, Readable, Spanned}
 use Rattle.balance.specs.declared.group.Group.{Group}
 use Rattle.balance.specs.declared.group.Turn.{Turn}
 use Rattle.balance.specs.declared.group.Turn.the-variants.{Next, Bad}

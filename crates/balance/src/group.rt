@@ -1,5 +1,5 @@
 // What is kept of the extent at hand while its items are read.
-use balance_search::Span;
+use crate::Span;
 
 // Whether its record stood, where in the sheet the record's data and in it the references stand, the record's total, the weight
 // of all references so far, and the references of the type that was looked for last (type 0: none).

@@ -2,8 +2,18 @@
 mod group;
 mod marking;
 mod naming;
+mod record;
 mod reference;
+mod search;
+mod span;
+mod together;
 mod turning;
 mod walk;
 
+pub use record::Weighed;
+pub use record::weigh_refs;
+pub use search::stands;
+pub use span::Span;
+pub use span::span_for;
+pub use span::stride;
 pub use walk::balanced;

@@ -1,8 +1,8 @@
 // The record of an extent.
+use crate::Span;
+use crate::Weighed;
 use crate::group::Group;
 use crate::group::Turn;
-use balance_record::Weighed;
-use balance_search::Span;
 use format::Key;
 use inline_refs::Start;
 ghost use mathlib.Core.Path.{_≡_};
@@ -52,7 +52,7 @@ pub fn take_record(
     let from = at + 21;
     let body = &s[from..next];
     match inline_refs::open_body(key.kind, body) {
-        Start::From(start) => match balance_record::weigh_refs(rows, body, start) {
+        Start::From(start) => match crate::weigh_refs(rows, body, start) {
             Weighed::Of(weight) => {
                 let total = fields::get_u64_le(body, 0);
                 Turn::Next(marked(g.extent, from, next, start, total, weight))

@@ -37,9 +37,9 @@ fn take_name(
     let from = g.from;
     let to = g.to;
     let body = &s[from..to];
-    let span = balance_search::span_for(rows, body, g.start, g.span, key.kind);
-    let size = balance_search::stride(rows, key.kind);
-    if balance_search::stands(body, size, span, wanted, key.offset) {
+    let span = crate::span_for(rows, body, g.start, g.span, key.kind);
+    let size = crate::stride(rows, key.kind);
+    if crate::stands(body, size, span, wanted, key.offset) {
         return Turn::Bad;
     }
     Turn::Next(Group {

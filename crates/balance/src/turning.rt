@@ -1,9 +1,9 @@
 // One more item of the sheet.
+use crate::Span;
 use crate::group::Group;
 use crate::group::Turn;
 use crate::marking;
 use crate::naming;
-use balance_search::Span;
 use format::Key;
 ghost use mathlib.Core.Path.{_≡_};
 ghost use Prim.Native.Nat.{_+_, _≤_};

@@ -4,8 +4,8 @@
 use mathlib.Core.List.{List, [], _∷_}
 use Prim.Native.Nat.{ℕ, _-_, _^_}
 use lib.Bits.{bitXor}
-pub use Rattle.crc32c_steps.specs.Steps.{crc32c, feed}
-unfoldable pub use Rattle.crc32c_steps.specs.Steps.{step, steps, tableOf}
+pub use Rattle.crc32c_tables.specs.Steps.{crc32c, feed}
+unfoldable pub use Rattle.crc32c_tables.specs.Steps.{step, steps, tableOf}
 
 -- a byte goes in: it is xored into the register, and eight steps follow
 unfoldable pub byteStep : ℕ → ℕ → ℕ → ℕ

@@ -46,8 +46,8 @@ fn down(y: u64) -> u64
 {
     let a = crc32c_tables::after_8::entry((y / 16777216 % 256) as u8);
     let b = crc32c_tables::after_16::entry((y / 65536 % 256) as u8);
-    let c = crc32c_far_tables::after_24::entry((y / 256 % 256) as u8);
-    let d = crc32c_far_tables::after_32::entry((y % 256) as u8);
+    let c = crc32c_tables::after_24::entry((y / 256 % 256) as u8);
+    let d = crc32c_tables::after_32::entry((y % 256) as u8);
     (y >> 32) ^ ((a ^ b ^ c ^ d) as u64)
 }
 

@@ -5,7 +5,7 @@
 // the last arm is never taken.
 use crate::TABLE;
 ghost use mathlib.Core.Path.{_≡_};
-ghost use Rattle.crc32c_steps.specs.Steps.{crc32c, steps};
+ghost use Rattle.crc32c_tables.specs.Steps.{crc32c, steps};
 
 const E000: u32 = TABLE[0];
 

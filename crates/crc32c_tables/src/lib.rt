@@ -3,10 +3,12 @@
 // The table of eight steps stands here as an array, to be lent, and in after_8.rt entry by entry. The other one is there, with
 // the two of `crc32c_far_tables`, so that four bytes can be taken at once.
 pub mod after_16;
+pub mod after_24;
+pub mod after_32;
 pub mod after_8;
 
 ghost use mathlib.Core.Path.{_≡_};
-ghost use Rattle.crc32c_steps.specs.Steps.{crc32c, tableOf};
+ghost use Rattle.crc32c_tables.specs.Steps.{crc32c, tableOf};
 
 // Entry n is n after eight steps.
 const TABLE: [u32; 256] = [

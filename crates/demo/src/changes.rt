@@ -38,7 +38,7 @@ fn with_map(card: Card) -> Card {
     let mut new = [0u8; 53];
     extent_write::data_extent_body(7, 5, 257, 0, &mut new);
     let mut body = [0u8; 53];
-    backref_totals::raise_total(&new, 1, &mut body);
+    backref::raise_total(&new, 1, &mut body);
     let key = Key {
         objectid: MAP,
         kind: 168,

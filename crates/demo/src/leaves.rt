@@ -93,7 +93,7 @@ fn wide(number: u16) -> usize {
 // The list divided at the item that the library names.
 pub fn divide(whole: &[u8], last: u32) -> bool {
     let mut cuts = [0u16; 64];
-    match leaf_split::split_to_fit(NODESIZE, whole, &mut cuts) {
+    match leaf_edit::split_to_fit(NODESIZE, whole, &mut cuts) {
         Edited::Written(later) => {
             if later == 1 {
                 return two_leaves(whole, wide(cuts[0]), last);

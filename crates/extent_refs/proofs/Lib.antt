@@ -1,2 +1,4 @@
+pub mod Answers
+pub mod Postings
 pub mod Posts
 pub mod Instance

@@ -23,9 +23,9 @@ use Rattle.theorems.proofs.Decided.{decided}
 use Rattle.ledger.specs.Calls.{nextSheet, postingOf, postingsOf, Demand3}
 use Rattle.ledger.specs.Calls.{Kept as KeptCall, AllKept as AllKeptCalls}
 use Rattle.ledger.proofs.Calls.{calls-demand-3}
-use Rattle.export_codes.specs.Exports.{Coded}
-use Rattle.export_codes.specs.Postings.{changeOf, postedIf, standIn}
-use Rattle.export_codes.proofs.Postings.{stands-in}
+use Rattle.extent_refs.specs.Exports.{Coded}
+use Rattle.extent_refs.specs.Postings.{changeOf, postedIf, standIn}
+use Rattle.extent_refs.proofs.Postings.{stands-in}
 use Rattle.extent_refs.specs.Posts.{Post, asked, Kept, isWide, answerBy, callOf, AllKept, callsOf}
 
 -- ---- one call

@@ -10,8 +10,8 @@ use Rattle.format.specs.declared.Change.{Change}
 use Rattle.format.specs.declared.Edited.{Edited}
 use Rattle.format.specs.declared.Edited.the-variants.{Written, Refused}
 use Rattle.ledger.specs.Calls.{Call, nextSheet}
-use Rattle.export_codes.specs.Exports.{Coded}
-use Rattle.export_codes.specs.Postings.{changeOf, postedIf, standIn}
+use Rattle.extent_refs.specs.Exports.{Coded}
+use Rattle.extent_refs.specs.Postings.{changeOf, postedIf, standIn}
 
 -- ---- one call: the numbers that it was given, what the lent output held before and after, the code and the lent length
 

@@ -3,7 +3,7 @@ ghost use lib.ListN.{length};
 ghost use Rattle.format.specs.Questions.{accepted};
 ghost use Rattle.format.specs.Bodies.{heldBody, heldTaken, flags, inlineRefs, inlineRef, takeInlineShared, addInlineKeyed, dropInlineDataRef, dropKeyedDataRef, lowerTotal, reduceTotal, raiseTotal, holdsInlineDataRef, addInlineDataRef, addInlineTreeRef, keyedDataRefBody, addInlineShared, dropInlineTreeRef, withFlags};
 ghost use Rattle.format.specs.Sheets.{heldCuts};
-ghost use Rattle.export_codes.specs.Exports.{Coded, CodedBool, CodedNumber, CodedRef, CodedTaken};
+ghost use Rattle.extent_refs.specs.Exports.{Coded, CodedBool, CodedNumber, CodedRef, CodedTaken};
 use format::BlockRef;
 use format::DataRef;
 use format::Keyed;
@@ -13,8 +13,8 @@ use format::SharedRef;
 pub extern "C" fn backref_flags(body: &[u8], value: &mut u64) -> u32
     ensures { λ r. ⌜ CodedNumber (flags (now (body .entry))) r (now (value .exit)) ⌝ }
 {
-    let answer = backref_totals::flags(body);
-    export_codes::put_told(answer, value)
+    let answer = backref::flags(body);
+    crate::put_told(answer, value)
 }
 
 #[no_mangle]
@@ -26,11 +26,11 @@ pub extern "C" fn backref_inline_refs(
 ) -> u32
     ensures { λ r. ⌜ Coded (heldCuts (length (now (positions .entry))) (inlineRefs «item_type» (now (body .entry)))) r (now (count .exit)) (now (positions .entry)) (now (positions .exit)) ⌝ }
 {
-    let answer = ref_positions::inline_refs(item_type, body, positions);
-    export_codes::put_edited(answer, count)
+    let answer = backref::inline_refs(item_type, body, positions);
+    crate::put_edited(answer, count)
 }
 
-// In Rattle `ref_positions::inline_payload` returns the payload itself.
+// In Rattle `backref::inline_payload` returns the payload itself.
 #[no_mangle]
 pub extern "C" fn backref_inline_ref(
     item_type: u8,
@@ -43,8 +43,8 @@ pub extern "C" fn backref_inline_ref(
 ) -> u32
     ensures { λ r. ⌜ CodedRef (inlineRef «item_type» (now (body .entry)) number) r (now (kind .exit)) (now (offset .exit)) (now (start .exit)) (now (len .exit)) ⌝ }
 {
-    let answer = ref_positions::inline_ref(item_type, body, number);
-    export_codes::put_picked(answer, kind, offset, start, len)
+    let answer = backref::inline_ref(item_type, body, number);
+    crate::put_picked(answer, kind, offset, start, len)
 }
 
 #[no_mangle]
@@ -60,7 +60,7 @@ pub extern "C" fn backref_take_inline_shared(
     ensures { λ r. ⌜ CodedTaken (heldTaken (length (now (out .entry))) (takeInlineShared «item_type» (now (body .entry)) (record { kind = kind; parent = parent }))) r (now (len .exit)) (now (count .exit)) (now (out .entry)) (now (out .exit)) ⌝ }
 {
     let answer = backref::take_inline_shared(item_type, body, SharedRef { kind, parent }, out);
-    export_codes::put_taken(answer, len, count)
+    crate::put_taken(answer, len, count)
 }
 
 #[no_mangle]
@@ -76,7 +76,7 @@ pub extern "C" fn backref_add_inline_keyed_block(
 {
     let keyed = Keyed::Block(BlockRef { tree });
     let answer = backref::add_inline_keyed(item_type, body, keyed, count, out);
-    export_codes::put_edited(answer, len)
+    crate::put_edited(answer, len)
 }
 
 #[no_mangle]
@@ -98,7 +98,7 @@ pub extern "C" fn backref_add_inline_keyed_data(
         offset,
     });
     let answer = backref::add_inline_keyed(item_type, body, keyed, count, out);
-    export_codes::put_edited(answer, len)
+    crate::put_edited(answer, len)
 }
 
 #[no_mangle]
@@ -123,7 +123,7 @@ pub extern "C" fn backref_drop_inline_data_ref(
         },
         out,
     );
-    export_codes::put_edited(answer, len)
+    crate::put_edited(answer, len)
 }
 
 #[no_mangle]
@@ -146,7 +146,7 @@ pub extern "C" fn backref_drop_keyed_data_ref(
         },
         out,
     );
-    export_codes::put_edited(answer, len)
+    crate::put_edited(answer, len)
 }
 
 #[no_mangle]
@@ -158,8 +158,8 @@ pub extern "C" fn backref_lower_total(
 ) -> u32
     ensures { λ r. ⌜ Coded (heldBody (length (now (out .entry))) (lowerTotal (now (body .entry)))) r (now (len .exit)) (now (out .entry)) (now (out .exit)) ⌝ }
 {
-    let answer = backref_totals::lower_total(body, out);
-    export_codes::put_edited(answer, len)
+    let answer = backref::lower_total(body, out);
+    crate::put_edited(answer, len)
 }
 
 #[no_mangle]
@@ -172,8 +172,8 @@ pub extern "C" fn backref_reduce_total(
 ) -> u32
     ensures { λ r. ⌜ Coded (heldBody (length (now (out .entry))) (reduceTotal (now (body .entry)) «total_count»)) r (now (len .exit)) (now (out .entry)) (now (out .exit)) ⌝ }
 {
-    let answer = backref_totals::reduce_total(body, total_count, out);
-    export_codes::put_edited(answer, len)
+    let answer = backref::reduce_total(body, total_count, out);
+    crate::put_edited(answer, len)
 }
 
 #[no_mangle]
@@ -186,8 +186,8 @@ pub extern "C" fn backref_raise_total(
 ) -> u32
     ensures { λ r. ⌜ Coded (heldBody (length (now (out .entry))) (raiseTotal (now (body .entry)) «total_count»)) r (now (len .exit)) (now (out .entry)) (now (out .exit)) ⌝ }
 {
-    let answer = backref_totals::raise_total(body, total_count, out);
-    export_codes::put_edited(answer, len)
+    let answer = backref::raise_total(body, total_count, out);
+    crate::put_edited(answer, len)
 }
 
 #[no_mangle]
@@ -210,7 +210,7 @@ pub extern "C" fn backref_holds_inline_data_ref(
             offset,
         },
     );
-    export_codes::put_judged(answer, holds)
+    crate::put_judged(answer, holds)
 }
 
 #[no_mangle]
@@ -235,7 +235,7 @@ pub extern "C" fn backref_add_inline_data_ref(
         },
         out,
     );
-    export_codes::put_edited(answer, len)
+    crate::put_edited(answer, len)
 }
 
 #[no_mangle]
@@ -249,7 +249,7 @@ pub extern "C" fn backref_add_inline_tree_ref(
     ensures { λ r. ⌜ Coded (heldBody (length (now (out .entry))) (addInlineTreeRef «item_type» (now (body .entry)) (record { tree = tree }))) r (now (len .exit)) (now (out .entry)) (now (out .exit)) ⌝ }
 {
     let answer = backref::add_inline_tree_ref(item_type, body, tree, out);
-    export_codes::put_edited(answer, len)
+    crate::put_edited(answer, len)
 }
 
 #[no_mangle]
@@ -272,7 +272,7 @@ pub extern "C" fn backref_keyed_data_ref_body(
         count,
         out,
     );
-    export_codes::put_edited(answer, len)
+    crate::put_edited(answer, len)
 }
 
 #[no_mangle]
@@ -294,7 +294,7 @@ pub extern "C" fn backref_add_inline_shared(
         count,
         out,
     );
-    export_codes::put_edited(answer, len)
+    crate::put_edited(answer, len)
 }
 
 #[no_mangle]
@@ -308,13 +308,13 @@ pub extern "C" fn backref_drop_inline_tree_ref(
     ensures { λ r. ⌜ Coded (heldBody (length (now (out .entry))) (dropInlineTreeRef «item_type» (now (body .entry)) (record { tree = tree }))) r (now (len .exit)) (now (out .entry)) (now (out .exit)) ⌝ }
 {
     let answer = backref::drop_inline_tree_ref(item_type, body, tree, out);
-    export_codes::put_edited(answer, len)
+    crate::put_edited(answer, len)
 }
 
 #[no_mangle]
 pub extern "C" fn backref_with_flags(body: &[u8], set: u64, out: &mut [u8], len: &mut u64) -> u32
     ensures { λ r. ⌜ Coded (heldBody (length (now (out .entry))) (withFlags (now (body .entry)) set)) r (now (len .exit)) (now (out .entry)) (now (out .exit)) ⌝ }
 {
-    let answer = backref_totals::with_flags(body, set, out);
-    export_codes::put_edited(answer, len)
+    let answer = backref::with_flags(body, set, out);
+    crate::put_edited(answer, len)
 }

@@ -4,7 +4,7 @@ ghost use lib.ListN.{length};
 ghost use Rattle.format.specs.Questions.{accepted};
 ghost use Rattle.format.specs.Hash.{dataRefHash};
 ghost use Rattle.format.specs.Bodies.{heldBody, dataExtentBody, treeBlockBody, treeBlockKey};
-ghost use Rattle.export_codes.specs.Exports.{Coded};
+ghost use Rattle.extent_refs.specs.Exports.{Coded};
 use extent_write::TreeBlockAllocation;
 
 #[no_mangle]
@@ -53,7 +53,7 @@ pub extern "C" fn extent_write_tree_block_body(
         owner,
     };
     let answer = block.body(out);
-    export_codes::put_edited(answer, len)
+    crate::put_edited(answer, len)
 }
 
 #[no_mangle]
@@ -68,5 +68,5 @@ pub extern "C" fn extent_write_data_extent_body(
     ensures { λ r. ⌜ Coded (heldBody (length (now (out .entry))) (accepted (dataExtentBody generation (record { tree = root; objectid = ino; offset = offset })))) r (now (len .exit)) (now (out .entry)) (now (out .exit)) ⌝ }
 {
     let answer = extent_write::data_extent_body(generation, root, ino, offset, out);
-    export_codes::put_edited(answer, len)
+    crate::put_edited(answer, len)
 }

@@ -2,7 +2,7 @@
 ghost use lib.ListN.{length};
 ghost use Rattle.format.specs.Items.{keyOf, heldSheet};
 ghost use Rattle.format.specs.Sheets.{insert, insertUnbounded, delete, fit, fits as fitsWith, split, splitToFit, heldCuts, item, itemStart};
-ghost use Rattle.export_codes.specs.Exports.{Coded, CodedBool, CodedPart};
+ghost use Rattle.extent_refs.specs.Exports.{Coded, CodedBool, CodedPart};
 use format::Key;
 
 #[no_mangle]
@@ -24,7 +24,7 @@ pub extern "C" fn leaf_edit_insert(
         offset,
     };
     let answer = leaf_edit::insert(nodesize, sheet, key, data, out);
-    export_codes::put_edited(answer, len)
+    crate::put_edited(answer, len)
 }
 
 #[no_mangle]
@@ -45,7 +45,7 @@ pub extern "C" fn leaf_edit_insert_unbounded(
         offset,
     };
     let answer = leaf_edit::insert_unbounded(sheet, key, data, out);
-    export_codes::put_edited(answer, len)
+    crate::put_edited(answer, len)
 }
 
 #[no_mangle]
@@ -65,7 +65,7 @@ pub extern "C" fn leaf_edit_delete(
         offset,
     };
     let answer = leaf_edit::delete(sheet, key, out);
-    export_codes::put_edited(answer, len)
+    crate::put_edited(answer, len)
 }
 
 #[no_mangle]
@@ -73,7 +73,7 @@ pub extern "C" fn leaf_edit_fit(nodesize: u32, sheet: &[u8], fits: &mut u64) -> 
     ensures { λ r. ⌜ CodedBool (fit nodesize (now (sheet .entry))) r (now (fits .exit)) ⌝ }
 {
     let answer = leaf_edit::fit(nodesize, sheet);
-    export_codes::put_judged(answer, fits)
+    crate::put_judged(answer, fits)
 }
 
 #[no_mangle]
@@ -81,15 +81,15 @@ pub extern "C" fn leaf_edit_fits(nodesize: u32, sheet: &[u8], data: &[u8], fits:
     ensures { λ r. ⌜ CodedBool (fitsWith nodesize (now (sheet .entry)) (now («data» .entry))) r (now (fits .exit)) ⌝ }
 {
     let answer = leaf_edit::fits(nodesize, sheet, data);
-    export_codes::put_judged(answer, fits)
+    crate::put_judged(answer, fits)
 }
 
 #[no_mangle]
 pub extern "C" fn leaf_edit_split(sheet: &[u8], cuts: &mut [u16], count: &mut u64) -> u32
     ensures { λ r. ⌜ Coded (heldCuts (length (now (cuts .entry))) (split (now (sheet .entry)))) r (now (count .exit)) (now (cuts .entry)) (now (cuts .exit)) ⌝ }
 {
-    let answer = leaf_split::split(sheet, cuts);
-    export_codes::put_edited(answer, count)
+    let answer = leaf_edit::split(sheet, cuts);
+    crate::put_edited(answer, count)
 }
 
 #[no_mangle]
@@ -101,8 +101,8 @@ pub extern "C" fn leaf_edit_split_to_fit(
 ) -> u32
     ensures { λ r. ⌜ Coded (heldCuts (length (now (cuts .entry))) (splitToFit nodesize (now (sheet .entry)))) r (now (count .exit)) (now (cuts .entry)) (now (cuts .exit)) ⌝ }
 {
-    let answer = leaf_split::split_to_fit(nodesize, sheet, cuts);
-    export_codes::put_edited(answer, count)
+    let answer = leaf_edit::split_to_fit(nodesize, sheet, cuts);
+    crate::put_edited(answer, count)
 }
 
 // In Rattle `leaf_edit::item` returns the part itself.

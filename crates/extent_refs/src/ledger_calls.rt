@@ -16,7 +16,7 @@ pub extern "C" fn ledger_post(
 ) -> u32
     ensures { λ r. ⌜ Kept (now (sheet .entry)) (record { nodesize = nodesize; number = change; extent = extent; a = a; b = b; c = c; amount = amount; old = now (out .entry); new = now (out .exit); code = r; size = now (len .exit) }) ⌝ }
 {
-    let posting = export_codes::change_of(change, extent, a, b, c, amount);
+    let posting = crate::change_of(change, extent, a, b, c, amount);
     let answer = ledger::post(sheet, nodesize, posting, out);
-    export_codes::put_edited(answer, len)
+    crate::put_edited(answer, len)
 }

@@ -3,7 +3,7 @@ ghost use lib.ListN.{length};
 ghost use Rattle.format.specs.Bodies.{heldBody, heldOnlyBy, keyedDataRefNames, sharedAddKey, sharedAddItem, sharedAddInlineSize};
 ghost use Rattle.format.specs.Items.{heldSheet};
 ghost use Rattle.format.specs.Apply.{maxInlineExtentItem, recordNumber, applyKeyedAddTo, applySharedAddTo, applySharedDropTo, dropKeptTreeRefFrom};
-ghost use Rattle.export_codes.specs.Exports.{Coded, CodedBool, CodedKey, CodedNumber};
+ghost use Rattle.extent_refs.specs.Exports.{Coded, CodedBool, CodedKey, CodedNumber};
 use format::BlockRef;
 use format::DataRef;
 use format::Keyed;
@@ -19,8 +19,8 @@ pub extern "C" fn transaction_held_only_by(
 ) -> u32
     ensures { λ r. ⌜ CodedBool (heldOnlyBy (now (body .entry)) root ino (now (offsets .entry))) r (now (holds .exit)) ⌝ }
 {
-    let answer = transaction_bodies::held_only_by(body, root, ino, offsets);
-    export_codes::put_judged(answer, holds)
+    let answer = transaction::held_only_by(body, root, ino, offsets);
+    crate::put_judged(answer, holds)
 }
 
 #[no_mangle]
@@ -33,7 +33,7 @@ pub extern "C" fn transaction_keyed_data_ref_names(
 ) -> u32
     ensures { λ r. ⌜ CodedBool (keyedDataRefNames (now (item .entry)) (record { tree = tree; objectid = objectid; offset = offset })) r (now (names .exit)) ⌝ }
 {
-    let answer = transaction_bodies::keyed_data_ref_names(
+    let answer = transaction::keyed_data_ref_names(
         item,
         DataRef {
             tree,
@@ -41,7 +41,7 @@ pub extern "C" fn transaction_keyed_data_ref_names(
             offset,
         },
     );
-    export_codes::put_judged(answer, names)
+    crate::put_judged(answer, names)
 }
 
 #[no_mangle]
@@ -53,8 +53,8 @@ pub extern "C" fn transaction_shared_add_item(
 ) -> u32
     ensures { λ r. ⌜ Coded (heldBody (length (now (out .entry))) (sharedAddItem kind count)) r (now (len .exit)) (now (out .entry)) (now (out .exit)) ⌝ }
 {
-    let answer = transaction_bodies::shared_add_item(kind, count, out);
-    export_codes::put_edited(answer, len)
+    let answer = transaction::shared_add_item(kind, count, out);
+    crate::put_edited(answer, len)
 }
 
 #[no_mangle]
@@ -68,24 +68,24 @@ pub extern "C" fn transaction_shared_add_key(
 ) -> u32
     ensures { λ r. ⌜ CodedKey (sharedAddKey bytenr (record { kind = kind; parent = parent })) r (now (objectid .exit)) (now («key_kind» .exit)) (now (offset .exit)) ⌝ }
 {
-    let answer = transaction_bodies::shared_add_key(bytenr, SharedRef { kind, parent });
-    export_codes::put_filed(answer, objectid, key_kind, offset)
+    let answer = transaction::shared_add_key(bytenr, SharedRef { kind, parent });
+    crate::put_filed(answer, objectid, key_kind, offset)
 }
 
 #[no_mangle]
 pub extern "C" fn transaction_shared_add_inline_size(kind: u8, size: &mut u64) -> u32
     ensures { λ r. ⌜ CodedNumber (sharedAddInlineSize kind) r (now (size .exit)) ⌝ }
 {
-    let answer = transaction_bodies::shared_add_inline_size(kind);
-    export_codes::put_told(answer, size)
+    let answer = transaction::shared_add_inline_size(kind);
+    crate::put_told(answer, size)
 }
 
 #[no_mangle]
 pub extern "C" fn transaction_max_inline_extent_item(nodesize: u32, limit: &mut u64) -> u32
     ensures { λ r. ⌜ CodedNumber (maxInlineExtentItem nodesize) r (now (limit .exit)) ⌝ }
 {
-    let answer = transaction_bodies::max_inline_extent_item(nodesize);
-    export_codes::put_told(answer, limit)
+    let answer = transaction::max_inline_extent_item(nodesize);
+    crate::put_told(answer, limit)
 }
 
 #[no_mangle]
@@ -93,7 +93,7 @@ pub extern "C" fn transaction_record_of(sheet: &[u8], bytenr: u64, number: &mut 
     ensures { λ r. ⌜ CodedNumber (recordNumber (now (sheet .entry)) bytenr) r (now (number .exit)) ⌝ }
 {
     let answer = transaction::record_of(sheet, bytenr);
-    export_codes::put_told(answer, number)
+    crate::put_told(answer, number)
 }
 
 #[no_mangle]
@@ -118,7 +118,7 @@ pub extern "C" fn transaction_apply_keyed_add_block(
         as_item,
         out,
     );
-    export_codes::put_edited(answer, len)
+    crate::put_edited(answer, len)
 }
 
 #[no_mangle]
@@ -149,7 +149,7 @@ pub extern "C" fn transaction_apply_keyed_add_data(
         as_item,
         out,
     );
-    export_codes::put_edited(answer, len)
+    crate::put_edited(answer, len)
 }
 
 #[no_mangle]
@@ -175,7 +175,7 @@ pub extern "C" fn transaction_apply_shared_add(
         as_item,
         out,
     );
-    export_codes::put_edited(answer, len)
+    crate::put_edited(answer, len)
 }
 
 #[no_mangle]
@@ -193,7 +193,7 @@ pub extern "C" fn transaction_apply_shared_drop(
 {
     let name = SharedRef { kind, parent };
     let answer = transaction::apply_shared_drop(sheet, bytenr, name, count, as_item, out);
-    export_codes::put_edited(answer, len)
+    crate::put_edited(answer, len)
 }
 
 #[no_mangle]
@@ -209,6 +209,6 @@ pub extern "C" fn transaction_drop_kept_tree_ref(
     ensures { λ r. ⌜ Coded (heldSheet (length (now (out .entry))) (dropKeptTreeRefFrom (now (sheet .entry)) bytenr level (record { tree = tree }) own)) r (now (len .exit)) (now (out .entry)) (now (out .exit)) ⌝ }
 {
     let name = BlockRef { tree };
-    let answer = record_drop::drop_kept_tree_ref(sheet, bytenr, level, name, own, out);
-    export_codes::put_edited(answer, len)
+    let answer = transaction::drop_kept_tree_ref(sheet, bytenr, level, name, own, out);
+    crate::put_edited(answer, len)
 }

@@ -1,9 +1,11 @@
 // Numbers and bytes inside byte slices. What each call does is one `written` (specs/Parts.antt), so that calls in a
 // row compose by one law.
+mod appending;
 mod copy;
 mod get;
 mod put;
 
+pub use appending::append;
 pub use copy::copy_at;
 pub use get::get_u32_be;
 pub use get::get_u32_le;

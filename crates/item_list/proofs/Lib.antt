@@ -1,3 +1,4 @@
+pub mod ItemWrites
 pub mod Steps
 pub mod Walks
 pub mod Reading

@@ -1,3 +1,4 @@
+pub mod ItemWrites
 pub mod Steps
 pub mod Seeks
 pub mod Listings

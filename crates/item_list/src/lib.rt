@@ -3,6 +3,7 @@
 mod checking;
 mod finding;
 mod search;
+mod splicing;
 mod stepping;
 
 pub use checking::check;
@@ -11,6 +12,11 @@ pub use finding::bytes_ahead;
 pub use finding::find;
 use format::Key;
 pub use search::seek;
+pub use splicing::append;
+pub use splicing::append_head;
+pub use splicing::put_item;
+pub use splicing::remove_item;
+pub use splicing::room_for;
 pub use stepping::is_past;
 pub use stepping::key_at;
 pub use stepping::step_at;

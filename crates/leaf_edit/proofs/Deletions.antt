@@ -20,7 +20,7 @@ use Rattle.item_list.specs.Steps.{itemsOf}
 use Rattle.item_list.specs.Seeks.{seekIn}
 use Rattle.item_list.proofs.Reading.{Counted}
 use Rattle.item_list.proofs.Places.{Sits, sits, no-cut, Inside, inside}
-use Rattle.item_write.proofs.Writes.{sane-fit}
+use Rattle.item_list.proofs.ItemWrites.{sane-fit}
 
 pub delete-refused : (s : List ℕ) (key : Key) (k : ℕ) → readSheet s ≡ refused k → delete s key ≡ refused k
 unfolding delete onSheet bind

@@ -27,7 +27,7 @@ use Rattle.item_list.specs.Steps.{itemsOf, itemsIn, checkedOf}
 use Rattle.item_list.specs.Seeks.{seekIn}
 use Rattle.item_list.proofs.Reading.{Counted, counted}
 use Rattle.item_list.proofs.Places.{Sits, sits, Gap, gap, inside-gap}
-use Rattle.item_write.proofs.Writes.{sane-fit}
+use Rattle.item_list.proofs.ItemWrites.{sane-fit}
 use Rattle.item_list.proofs.Spaces.{space-is}
 use Rattle.leaf_edit.specs.declared.Slot.the-variants.{Free, Refused}
 use Rattle.leaf_edit.specs.Slots.{slotAt, slotOf}

@@ -1,3 +1,8 @@
+pub mod Splits
+pub mod Leaves
+pub mod Running
+pub mod Filling
+pub mod Together
 pub mod Deletions
 pub mod Insertions
 pub mod Measures

@@ -30,7 +30,7 @@ pub fn delete(sheet: &[u8], key: Key, out: &mut [u8]) -> Edited
             if item_list::is_past(sheet, start, key) {
                 return Edited::Refused(5);
             }
-            return item_write::remove_item(sheet, start, end, count - 1, out);
+            return item_list::remove_item(sheet, start, end, count - 1, out);
         }
     }
 }
@@ -111,7 +111,7 @@ fn put_new(
                     return Edited::Refused(18);
                 }
             }
-            return item_write::put_item(sheet, at, at, count + 1, key, body, out);
+            return item_list::put_item(sheet, at, at, count + 1, key, body, out);
         }
     }
 }

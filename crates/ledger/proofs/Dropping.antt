@@ -20,8 +20,8 @@ use Rattle.format.proofs.Keys.{cut-at-key}
 use Rattle.item_list.specs.Steps.{itemsOf, itemAt}
 use Rattle.transaction.proofs.Spots.{Standing}
 use Rattle.record_edit.specs.declared.RecordAt.{RecordAt}
-use Rattle.drop_write.specs.Stands.{onKey}
-use Rattle.drop_write.proofs.Stands.{on-key}
+use Rattle.transaction.specs.Stands.{onKey}
+use Rattle.transaction.proofs.Stands.{on-key}
 use Rattle.ledger.specs.Dropping.{StandsFor}
 
 module _ {s : List ℕ} {extent number start end n : ℕ} (st : Standing s extent true number start end n) where

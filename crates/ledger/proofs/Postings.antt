@@ -31,9 +31,9 @@ use Rattle.item_list.specs.declared.Wanted.the-variants.{Record}
 use Rattle.item_list.specs.Seeks.{placeIn, recorded, passing}
 use Rattle.item_list.proofs.Reading.{listed, sheet-refused}
 use Rattle.item_list.proofs.Places.{record-missing}
-use Rattle.item_write.proofs.Writes.{answered-no}
-use Rattle.ledger_adds.specs.Known.{BalancedList, HasRecord}
-use Rattle.ledger_adds.specs.Adding.{sharedRef, addChange}
+use Rattle.item_list.proofs.ItemWrites.{answered-no}
+use Rattle.ledger.specs.Known.{BalancedList, HasRecord}
+use Rattle.ledger.specs.Adding.{sharedRef, addChange}
 use Rattle.ledger.specs.Posting.{beforeFive, SharedWanted}
 
 -- ---- the name of a shared reference

@@ -7,7 +7,7 @@ use Rattle.fields.specs.Lists.{cut}
 use Rattle.format.specs.Apply.{recordOf}
 use Rattle.item_list.specs.Steps.{itemsOf}
 use Rattle.record_edit.specs.declared.RecordAt.{RecordAt}
-use Rattle.drop_write.specs.Stands.{StandsAt}
+use Rattle.transaction.specs.Stands.{StandsAt}
 
 -- what stands there is the record that `record_of` finds
 pub record StandsFor (s : List ℕ) (extent : ℕ) (target : RecordAt) : Type 0 where

@@ -1,3 +1,6 @@
+pub mod Known
+pub mod Asked
+pub mod Adding
 pub mod Posting
 pub mod Dropping
 pub mod Calls

@@ -6,7 +6,7 @@ use Rattle.format.specs.declared.SharedRef.{SharedRef}
 use Rattle.format.specs.declared.Change.the-variants.{AddShared}
 use Rattle.inline_refs.specs.declared.wanted.Wanted.{Wanted}
 use Rattle.inline_refs.specs.Scans.{kindOf}
-use Rattle.ledger_adds.specs.Adding.{addChange}
+use Rattle.ledger.specs.Adding.{addChange}
 
 -- questions 3 and 4: the number of the first "no", or 0
 unfoldable pub beforeFive : Bool → Bool → ℕ

@@ -1,9 +1,9 @@
 // A reference dropped from the record of an extent, or from its own item.
+use crate::Stand;
 use format::BlockRef;
 use format::DataRef;
 use format::Edited;
 use format::SharedRef;
-use ledger_adds::Stand;
 use record_edit::RecordAt;
 ghost use mathlib.Core.Bool.{false};
 ghost use lib.ListN.{length};
@@ -12,7 +12,7 @@ ghost use Rattle.format.specs.Items.{heldSheet};
 ghost use Rattle.format.specs.Apply.{onRecord, dropTreeRef};
 ghost use Rattle.format.specs.Ledger.{dropDataRef, dropSharedRef};
 ghost use Rattle.item_list.specs.Steps.{itemsOf};
-ghost use Rattle.ledger_adds.specs.Known.{BalancedList, HasRecord};
+ghost use Rattle.ledger.specs.Known.{BalancedList, HasRecord};
 ghost use Rattle.ledger.specs.Dropping.{StandsFor};
 
 // The record of an extent with its key, as the drops take it.
@@ -35,7 +35,7 @@ pub fn drop_block(sheet: &[u8], stand: Stand, extent: u64, name: BlockRef, out: 
     ensures { λ r. ⌜ Answered (heldSheet (length (now (out .entry))) (onRecord extent (itemsOf (now (sheet .entry))) (dropTreeRef name false (itemsOf (now (sheet .entry)))))) r (now (out .entry)) (now (out .exit)) ⌝ }
 {
     let target = record_at(sheet, stand, extent);
-    record_drop::drop_tree_ref(sheet, target, name, out)
+    transaction::drop_tree_ref(sheet, target, name, out)
 }
 
 pub fn drop_data(sheet: &[u8], stand: Stand, extent: u64, name: DataRef, out: &mut [u8]) -> Edited
@@ -44,7 +44,7 @@ pub fn drop_data(sheet: &[u8], stand: Stand, extent: u64, name: DataRef, out: &m
     ensures { λ r. ⌜ Answered (heldSheet (length (now (out .entry))) (onRecord extent (itemsOf (now (sheet .entry))) (dropDataRef name (itemsOf (now (sheet .entry)))))) r (now (out .entry)) (now (out .exit)) ⌝ }
 {
     let target = record_at(sheet, stand, extent);
-    record_drop::drop_data_ref(sheet, target, name, out)
+    transaction::drop_data_ref(sheet, target, name, out)
 }
 
 pub fn drop_shared(
@@ -59,5 +59,5 @@ pub fn drop_shared(
     ensures { λ r. ⌜ Answered (heldSheet (length (now (out .entry))) (onRecord extent (itemsOf (now (sheet .entry))) (dropSharedRef name (itemsOf (now (sheet .entry)))))) r (now (out .entry)) (now (out .exit)) ⌝ }
 {
     let target = record_at(sheet, stand, extent);
-    record_drop::drop_shared_ref(sheet, target, name, out)
+    transaction::drop_shared_ref(sheet, target, name, out)
 }

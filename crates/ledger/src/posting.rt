@@ -1,11 +1,11 @@
 // One change posted: questions 1 to 5 first, then the change's own.
+use crate::Stand;
 use crate::drops;
 use format::Change;
 use format::Edited;
 use format::SharedRef;
 use inline_refs::Wanted;
 use item_list::Listing;
-use ledger_adds::Stand;
 ghost use mathlib.Core.Path.{_≡_};
 ghost use mathlib.Core.Bool.{_&&_};
 ghost use lib.Dec.{T};
@@ -16,7 +16,7 @@ ghost use Rattle.format.specs.Items.{nodesizeFits, heldSheet};
 ghost use Rattle.format.specs.Names.{balanced};
 ghost use Rattle.format.specs.Ledger.{nameOf, kindFits, changed};
 ghost use Rattle.item_list.specs.Steps.{Listed, itemsOf};
-ghost use Rattle.ledger_adds.specs.Known.{BalancedList, HasRecord};
+ghost use Rattle.ledger.specs.Known.{BalancedList, HasRecord};
 ghost use Rattle.ledger.specs.Posting.{beforeFive, SharedWanted};
 ghost use Rattle.ledger.specs.Calls.{Kept};
 
@@ -91,7 +91,7 @@ fn change_at(sheet: &[u8], stand: Stand, nodesize: u32, change: Change, out: &mu
 {
     match change {
         Change::AddBlock { extent, name } => {
-            return ledger_adds::add(sheet, stand, nodesize, extent, Wanted::Block(name), 1, out);
+            return crate::add(sheet, stand, nodesize, extent, Wanted::Block(name), 1, out);
         }
         Change::AddData {
             extent,
@@ -99,7 +99,7 @@ fn change_at(sheet: &[u8], stand: Stand, nodesize: u32, change: Change, out: &mu
             amount,
         } => {
             let wanted = Wanted::Data(name);
-            return ledger_adds::add(sheet, stand, nodesize, extent, wanted, amount, out);
+            return crate::add(sheet, stand, nodesize, extent, wanted, amount, out);
         }
         Change::AddShared {
             extent,
@@ -107,7 +107,7 @@ fn change_at(sheet: &[u8], stand: Stand, nodesize: u32, change: Change, out: &mu
             amount,
         } => {
             let wanted = shared_wanted(name);
-            return ledger_adds::add(sheet, stand, nodesize, extent, wanted, amount, out);
+            return crate::add(sheet, stand, nodesize, extent, wanted, amount, out);
         }
         Change::DropBlock { extent, name } => {
             return drops::drop_block(sheet, stand, extent, name, out);

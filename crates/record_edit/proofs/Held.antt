@@ -10,7 +10,7 @@ use Rattle.fields.specs.Lists.{all}
 use Rattle.fields.proofs.Lists.{and-true, T-eq}
 use Rattle.format.specs.Questions.{Answer, refused, absent, remove, accepted, ask, bind, held}
 use Rattle.format.specs.Items.{Item, sheetBytes, dataFits, sheetHolds, heldSheet}
-use Rattle.item_write.specs.Writes.{roomFor}
+use Rattle.item_list.specs.ItemWrites.{roomFor}
 use Rattle.record_edit.specs.Records.{heldRecord}
 
 pub held-items : (room count size : ℕ) (items : List Item) (bytes : List ℕ) → sheetBytes items ≡ bytes → length items ≡ count

@@ -17,13 +17,13 @@ use Rattle.format.specs.Questions.{Answer, accepted, ask, bind, lent, editedOf,
 use Rattle.format.specs.Items.{Item, itemBytes}
 use Rattle.format.proofs.Items.{length-itemBytes}
 use Rattle.format.proofs.Outputs.{answered-refused, answered-written}
-use Rattle.item_write.specs.Writes.{headBytes, roomFor}
-use Rattle.item_write.proofs.Writes.{length-head, item-head}
-use Rattle.plan_write.specs.declared.plan.Outcome.the-variants.{Edit, Absent, Remove, Refused}
-use Rattle.plan_write.specs.declared.plan.Plan.{Plan}
-use Rattle.plan_write.specs.Plans.{edited, planned, planAnswer, EditIn}
-use Rattle.plan_write.proofs.Writes.{front-of, written-then}
-use Rattle.plan_write.proofs.Outcomes.{plan-is, length-edited}
+use Rattle.item_list.specs.ItemWrites.{headBytes, roomFor}
+use Rattle.item_list.proofs.ItemWrites.{length-head, item-head}
+use Rattle.backref.specs.declared.plan.Outcome.the-variants.{Edit, Absent, Remove, Refused}
+use Rattle.backref.specs.declared.plan.Plan.{Plan}
+use Rattle.backref.specs.Plans.{edited, planned, planAnswer, EditIn}
+use Rattle.backref.proofs.Writes.{front-of, written-then}
+use Rattle.backref.proofs.Outcomes.{plan-is, length-edited}
 use Rattle.record_edit.specs.declared.Behind.{Behind}
 use Rattle.record_edit.specs.declared.RecordAt.{RecordAt}
 use Rattle.record_edit.specs.Records.{dataOf, editLength, BehindIn, restOf, restLength, sheetLength, editedSheet, heldRecord, heldEdit}

@@ -8,8 +8,8 @@ use lib.ListN.{length, take, drop}
 use Rattle.fields.specs.Parts.{part, spliced}
 use Rattle.format.specs.Questions.{Answer, accepted, ask}
 use Rattle.format.specs.Items.{itemBytes}
-use Rattle.item_write.specs.Writes.{roomFor}
-use Rattle.plan_write.specs.declared.plan.Plan.{Plan}
+use Rattle.item_list.specs.ItemWrites.{roomFor}
+use Rattle.backref.specs.declared.plan.Plan.{Plan}
 use Rattle.record_edit.specs.declared.Behind.{Behind}
 use Rattle.record_edit.specs.declared.RecordAt.{RecordAt}
 

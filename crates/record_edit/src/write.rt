@@ -1,10 +1,10 @@
 // Question 17 where it is asked, question 21, and then the bytes from left to right, once.
 use super::Behind;
 use super::RecordAt;
+use backref::Outcome;
+use backref::Plan;
 use format::Edited;
 use format::Key;
-use plan_write::Outcome;
-use plan_write::Plan;
 ghost use mathlib.Core.Path.{_≡_};
 ghost use mathlib.Core.List.{_++_};
 ghost use Prim.Native.Nat.{_+_, _-_, _≤_};
@@ -12,7 +12,7 @@ ghost use lib.ListN.{length, take};
 ghost use Rattle.fields.specs.Parts.{written};
 ghost use Rattle.format.specs.Questions.{Answered, bind};
 ghost use Rattle.format.specs.Items.{itemBytes};
-ghost use Rattle.plan_write.specs.Plans.{edited, planAnswer, EditIn, PlanIn};
+ghost use Rattle.backref.specs.Plans.{edited, planAnswer, EditIn, PlanIn};
 ghost use Rattle.record_edit.specs.Records.{dataOf, editLength, BehindIn, restOf, restLength, sheetLength, editedSheet, heldEdit};
 
 // The planned body goes to `out` at `at`. Returns the position past it.
@@ -23,7 +23,7 @@ fn append_edit(body: &[u8], plan: Plan, out: &mut [u8], at: usize) -> usize
 {
     let new = plan.new;
     let size = plan.size;
-    plan_write::put_edit(body, plan.from, plan.to, &new[0..size], plan.total, out, at)
+    backref::put_edit(body, plan.from, plan.to, &new[0..size], plan.total, out, at)
 }
 
 // All up to the end of the record, with its planned body.
@@ -39,9 +39,9 @@ fn append_record(
     requires { ⌜ (start ≤ length (now sheet)) × (editLength plan (length (now body)) ≤ 65535) × (start + 21 + editLength plan (length (now body)) ≤ length (now out)) × (length (now sheet) ≤ 262144) ⌝ }
     ensures { λ r. ⌜ (r ≡ start + 21 + editLength plan (length (now (body .entry)))) × (now (out .exit) ≡ written 0 (take start (now (sheet .entry)) ++ itemBytes (record { key = key; bytes = edited plan (now (body .entry)) })) (now (out .entry))) ⌝ }
 {
-    let size = plan_write::plan_length(plan, body.len());
-    let head = item_write::append(sheet, 0, start, out, 0);
-    let inside = item_write::append_head(key, size, out, head);
+    let size = backref::plan_length(plan, body.len());
+    let head = item_list::append(sheet, 0, start, out, 0);
+    let inside = item_list::append_head(key, size, out, head);
     append_edit(body, plan, out, inside)
 }
 
@@ -52,9 +52,9 @@ fn append_rest(sheet: &[u8], end: usize, behind: Behind, out: &mut [u8], at: usi
     ensures { λ _. ⌜ now (out .exit) ≡ written at (restOf behind end (now (sheet .entry))) (now (out .entry)) ⌝ }
 {
     let new = behind.new;
-    let one = item_write::append(sheet, end, behind.from, out, at);
-    let two = item_write::append(&new, 0, behind.size, out, one);
-    item_write::append(sheet, behind.to, sheet.len(), out, two);
+    let one = item_list::append(sheet, end, behind.from, out, at);
+    let two = item_list::append(&new, 0, behind.size, out, one);
+    item_list::append(sheet, behind.to, sheet.len(), out, two);
 }
 
 fn write_record(sheet: &[u8], target: RecordAt, plan: Plan, behind: Behind, out: &mut [u8])
@@ -85,7 +85,7 @@ fn write_held(
     requires { ⌜ (target .start + 21 ≤ target .end) × (length (now sheet) ≤ 262144) ⌝ }
     ensures { λ r. ⌜ Answered (heldEdit (length (now (out .entry))) count limit (editedSheet (now (sheet .entry)) target behind) (edited plan (dataOf (now (sheet .entry)) (target .start) (target .end)))) r (now (out .entry)) (now (out .exit)) ⌝ }
 {
-    let size = plan_write::plan_length(plan, target.end - (target.start + 21));
+    let size = backref::plan_length(plan, target.end - (target.start + 21));
     if limit < size {
         return Edited::Refused(17);
     }
@@ -94,7 +94,7 @@ fn write_held(
     }
     let rest = behind.from - target.end + behind.size + (sheet.len() - behind.to);
     let long = target.start + 21 + size + rest;
-    if item_write::room_for(out.len(), long, count) {
+    if item_list::room_for(out.len(), long, count) {
         write_record(sheet, target, plan, behind, out);
         return Edited::Written(long);
     }

@@ -16,9 +16,9 @@ use Rattle.format.specs.Bodies.{sharedKind, raiseTotal, addInlineShared}
 use Rattle.format.specs.Items.{Item, readSheet, nodesizeFits, heldSheet, putBack}
 use Rattle.format.specs.Apply.{inlineLimit, sharedBody, applySharedAdd, applySharedAddTo}
 use Rattle.item_list.specs.Steps.{itemAt}
-use Rattle.item_write.proofs.Writes.{answered-no}
-use Rattle.plan_write.specs.declared.plan.Plan.{Plan}
-use Rattle.plan_write.specs.Plans.{planAnswer, Planned}
+use Rattle.item_list.proofs.ItemWrites.{answered-no}
+use Rattle.backref.specs.declared.plan.Plan.{Plan}
+use Rattle.backref.specs.Plans.{planAnswer, Planned}
 use Rattle.record_edit.specs.Records.{dataOf, heldEdit}
 use Rattle.transaction.specs.declared.Spot.the-variants.{Refused}
 use Rattle.transaction.specs.Spots.{spotOf, withBody}

@@ -21,10 +21,10 @@ use Rattle.format.specs.Bodies.{raiseTotal, addInlineTreeRef, addInlineData}
 use Rattle.format.specs.Items.{Item, readSheet, nodesizeFits, heldSheet, putBack}
 use Rattle.format.specs.Apply.{inlineLimit, keyedBody, applyKeyedAdd, applyKeyedAddTo}
 use Rattle.item_list.specs.Steps.{itemAt, itemsOf}
-use Rattle.item_write.specs.Writes.{heldBytes}
-use Rattle.item_write.proofs.Writes.{answered-no, answered-by}
-use Rattle.plan_write.specs.declared.plan.Plan.{Plan}
-use Rattle.plan_write.specs.Plans.{planAnswer, Planned}
+use Rattle.item_list.specs.ItemWrites.{heldBytes}
+use Rattle.item_list.proofs.ItemWrites.{answered-no, answered-by}
+use Rattle.backref.specs.declared.plan.Plan.{Plan}
+use Rattle.backref.specs.Plans.{planAnswer, Planned}
 use Rattle.record_edit.specs.Records.{dataOf, heldEdit}
 use Rattle.transaction.specs.declared.Spot.the-variants.{Refused}
 use Rattle.transaction.specs.Spots.{spotOf, withBody}

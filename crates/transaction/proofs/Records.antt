@@ -13,8 +13,8 @@ use Rattle.format.specs.Questions.{Answer, refused, absent, remove, accepted, a
 use Rattle.format.specs.Items.{Item, readSheet, itemBytes, heldSheet, putBack}
 use Rattle.format.specs.Apply.{recordNumber}
 use Rattle.item_list.specs.Steps.{itemAt}
-use Rattle.plan_write.specs.declared.plan.Plan.{Plan}
-use Rattle.plan_write.specs.Plans.{planAnswer}
+use Rattle.backref.specs.declared.plan.Plan.{Plan}
+use Rattle.backref.specs.Plans.{planAnswer}
 use Rattle.record_edit.specs.declared.Behind.{Behind}
 use Rattle.record_edit.specs.declared.RecordAt.{RecordAt}
 use Rattle.record_edit.specs.Records.{dataOf, editedSheet, heldRecord, heldEdit}

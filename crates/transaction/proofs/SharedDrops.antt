@@ -22,11 +22,11 @@ use Rattle.format.specs.Items.{Item, readSheet, heldSheet, putBack}
 use Rattle.format.specs.Apply.{sharedRest, applySharedDrop, applySharedDropTo}
 use Rattle.format.proofs.Answers.{ask-ok, bind-ok, bind-next, accepted-inj}
 use Rattle.item_list.specs.Steps.{itemAt}
-use Rattle.item_write.proofs.Writes.{answered-no}
-use Rattle.plan_write.specs.declared.plan.Plan.{Plan}
-use Rattle.plan_write.specs.Plans.{planAnswer, Planned, PlannedTaken}
-use Rattle.plan_write.specs.Steps.{Reduces, Needs}
-use Rattle.plan_write.proofs.Reductions.{reduces-whole, needs-whole}
+use Rattle.item_list.proofs.ItemWrites.{answered-no}
+use Rattle.backref.specs.declared.plan.Plan.{Plan}
+use Rattle.backref.specs.Plans.{planAnswer, Planned, PlannedTaken}
+use Rattle.backref.specs.Steps.{Reduces, Needs}
+use Rattle.backref.proofs.Reductions.{reduces-whole, needs-whole}
 use Rattle.backref.proofs.Takings.{taken-says, taken-whole}
 use Rattle.record_edit.specs.Records.{dataOf, heldEdit}
 use Rattle.transaction.specs.declared.Spot.the-variants.{Refused}

@@ -28,7 +28,7 @@ use Rattle.item_list.specs.Seeks.{placeIn, recorded, passing}
 use Rattle.item_list.specs.Listings.{listedAt, listingOf}
 use Rattle.item_list.proofs.Reading.{Counted, counted}
 use Rattle.item_list.proofs.Places.{Placed, placed, missing, Inside, inside}
-use Rattle.item_write.proofs.Writes.{sane-fit}
+use Rattle.item_list.proofs.ItemWrites.{sane-fit}
 use Rattle.record_edit.specs.Records.{dataOf}
 use Rattle.record_edit.proofs.Held.{all-but}
 use Rattle.record_edit.proofs.Places.{item-there}

@@ -1,2 +1,5 @@
+pub mod Counts
+pub mod Stands
+pub mod Edits
 pub mod Spots
 pub mod Keyed

@@ -1,11 +1,11 @@
 // apply_keyed_add and apply_shared_add.
 use super::Spot;
 use super::stand;
+use backref::Plan;
 use format::Edited;
 use format::Key;
 use format::Keyed;
 use format::SharedRef;
-use plan_write::Plan;
 ghost use mathlib.Core.Path.{_≡_};
 ghost use mathlib.Core.Bool.{_&&_};
 ghost use lib.ListN.{length};
@@ -13,7 +13,7 @@ ghost use Rattle.format.specs.Questions.{Answered};
 ghost use Rattle.format.specs.Bodies.{sharedKind};
 ghost use Rattle.format.specs.Items.{nodesizeFits, heldSheet};
 ghost use Rattle.format.specs.Apply.{inlineLimit, sharedBody, applyKeyedAddTo, applySharedAddTo};
-ghost use Rattle.plan_write.specs.Plans.{Planned};
+ghost use Rattle.backref.specs.Plans.{Planned};
 ghost use Rattle.transaction.specs.Keyed.{unread, keyedPlan, larger, limitFor};
 
 // "(nodesize - 101) / 16, rounded down, minus 25"
@@ -60,7 +60,7 @@ pub fn plan_shared(key: Key, body: &[u8], name: SharedRef, count: u32, as_item: 
     ensures { λ r. ⌜ Planned r (now (body .entry)) (sharedBody (record { key = key; bytes = now (body .entry) }) name count «as_item») ⌝ }
 {
     if as_item {
-        return backref_totals::plan_raise_total(body, count as u64);
+        return backref::plan_raise_total(body, count as u64);
     }
     backref::plan_add_shared(key.kind, body, name, count)
 }
@@ -112,7 +112,7 @@ pub fn plan_keyed(key: Key, body: &[u8], keyed: Keyed, count: u32, as_item: bool
     ensures { λ r. ⌜ Planned r (now (body .entry)) (keyedPlan (record { key = key; bytes = now (body .entry) }) keyed count «as_item») ⌝ }
 {
     if as_item {
-        return backref_totals::plan_raise_total(body, count as u64);
+        return backref::plan_raise_total(body, count as u64);
     }
     match keyed {
         Keyed::Block(name) => backref::plan_add_tree(key.kind, body, name),
@@ -142,7 +142,7 @@ pub fn apply_keyed_add(
             count: items,
         } => {
             if is_unread(keyed, count, as_item) {
-                return item_write::remove_item(sheet, 0, 0, items, out);
+                return item_list::remove_item(sheet, 0, 0, items, out);
             }
             let key = item_list::key_at(sheet, start);
             let plan = plan_keyed(key, &sheet[start + 21..end], keyed, count, as_item);

@@ -1,27 +1,27 @@
 // apply_shared_drop.
 use super::Spot;
 use super::stand;
+use backref::Plan;
 use format::Edited;
 use format::Key;
 use format::SharedRef;
-use plan_write::Plan;
 ghost use lib.ListN.{length};
 ghost use Rattle.format.specs.Questions.{Answered, bind};
 ghost use Rattle.format.specs.Bodies.{reduceTotal};
 ghost use Rattle.format.specs.Items.{heldSheet};
 ghost use Rattle.format.specs.Apply.{sharedRest, applySharedDropTo};
-ghost use Rattle.plan_write.specs.Plans.{Planned};
+ghost use Rattle.backref.specs.Plans.{Planned};
 
 // The record's new body. A missing reference is refusal 5; with the item flag only the total moves.
 fn plan_drop_shared(key: Key, body: &[u8], name: SharedRef, count: u32, as_item: bool) -> Plan
     ensures { λ r. ⌜ Planned r (now (body .entry)) (bind (sharedRest (record { key = key; bytes = now (body .entry) }) name «as_item») (λ rest. reduceTotal rest count)) ⌝ }
 {
     if as_item {
-        return backref_totals::plan_reduce_total(body, count as u64);
+        return backref::plan_reduce_total(body, count as u64);
     }
     let taken = backref::plan_take_shared(key.kind, body, name);
-    let present = plan_write::plan_needed(taken);
-    plan_write::plan_reduced(present, count as u64)
+    let present = backref::plan_needed(taken);
+    backref::plan_reduced(present, count as u64)
 }
 
 // A shared reference out of an extent's record, whole, and the count that was passed off the total.

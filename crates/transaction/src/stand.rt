@@ -1,10 +1,10 @@
 // An extent's record, and another body put into it.
 use super::Spot;
+use backref::Plan;
 use format::Edited;
 use format::Told;
 use item_list::Listing;
 use item_list::Wanted;
-use plan_write::Plan;
 use record_edit::Behind;
 use record_edit::RecordAt;
 ghost use mathlib.Core.Path.{_≡_};
@@ -14,7 +14,7 @@ ghost use lib.ListN.{length};
 ghost use Rattle.format.specs.Questions.{Answered, bind, toldOf};
 ghost use Rattle.format.specs.Items.{readSheet};
 ghost use Rattle.format.specs.Apply.{recordNumber};
-ghost use Rattle.plan_write.specs.Plans.{planAnswer, PlanIn};
+ghost use Rattle.backref.specs.Plans.{planAnswer, PlanIn};
 ghost use Rattle.record_edit.specs.Records.{dataOf, heldEdit};
 ghost use Rattle.transaction.specs.Spots.{spotOf, withBody};
 

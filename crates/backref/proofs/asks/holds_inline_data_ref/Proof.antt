@@ -1,7 +1,7 @@
 use mathlib.Core.Path.{sym, _∙_}
 use denote.Ref.{now}
 use Rattle.inline_refs.specs.declared.wanted.Wanted.the-variants.{Data}
-use Rattle.backref_plan.proofs.Sites.{scan-reads}
+use Rattle.backref.proofs.Sites.{scan-reads}
 use Rattle.backref.proofs.Told.{holds-fault, holds-no, holds-yes}
 use borrow.Author.Needs.{needs}
 use Rattle.backref.proofs.asks.holds_inline_data_ref.Statement.{statement}

@@ -1,4 +1,4 @@
-use Rattle.plan_write.proofs.Answers.{answered}
+use Rattle.backref.proofs.PlanAnswers.{answered}
 use Rattle.format.specs.Bodies.{addInlineDataRef}
 use borrow.Author.Needs.{needs}
 use Rattle.backref.proofs.calls.add_inline_data_ref.Statement.{statement}

@@ -1,4 +1,4 @@
-use Rattle.plan_write.proofs.Answers.{answered}
+use Rattle.backref.proofs.PlanAnswers.{answered}
 use borrow.Author.Needs.{needs}
 use Rattle.backref.proofs.calls.add_keyed.Statement.{statement}
 use Rattle.backref.proofs.calls.add_keyed.Tie as tie

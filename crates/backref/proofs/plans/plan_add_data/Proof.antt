@@ -1,6 +1,6 @@
 use Rattle.format.specs.Bodies.{addInlineData}
 use Rattle.inline_refs.specs.Scans.{kindOf, fieldsOf}
-use Rattle.backref_plan.specs.Adds.{spotOf, addInline}
+use Rattle.backref.specs.Adds.{spotOf, addInline}
 use borrow.Author.Needs.{needs}
 use Rattle.backref.proofs.plans.plan_add_data.Statement.{statement}
 use Rattle.backref.proofs.plans.plan_add_data.Tie as tie

@@ -1,7 +1,7 @@
 use Rattle.format.specs.References.{placeOf}
 use Rattle.format.specs.Bodies.{addInlineTreeRef}
 use Rattle.inline_refs.specs.Scans.{kindOf, fieldsOf}
-use Rattle.backref_plan.specs.Adds.{ownPlace, spotOf, addInline}
+use Rattle.backref.specs.Adds.{ownPlace, spotOf, addInline}
 use borrow.Author.Needs.{needs}
 use Rattle.backref.proofs.plans.plan_add_tree.Statement.{statement}
 use Rattle.backref.proofs.plans.plan_add_tree.Tie as tie

@@ -1,7 +1,7 @@
 use mathlib.Core.Path.{refl, sym}
 use Rattle.format.specs.References.{placeOf}
 use Rattle.inline_refs.specs.Scans.{kindOf, fieldsOf}
-use Rattle.backref_plan.specs.Adds.{ownPlace}
+use Rattle.backref.specs.Adds.{ownPlace}
 use Rattle.backref.proofs.Named.{other-kind}
 use Rattle.backref.proofs.plans.wanted_of.Statement.{statement}
 use Rattle.backref.proofs.plans.wanted_of.Tie as tie

@@ -1,6 +1,6 @@
 use denote.Ref.{now}
 use native.Mathlib.Omega.{arith}
-use Rattle.balance_record.proofs.Admits.{not-true, not-false}
+use Rattle.balance.proofs.Admits.{not-true, not-false}
 use Rattle.balance.proofs.Refers.{ref-known, ref-owner, span-known, stride-is, name-light, name-twice, name-good}
 use Rattle.balance.proofs.naming.take_name.Statement.{statement}
 use Rattle.balance.proofs.naming.take_name.Tie as tie

@@ -1,5 +1,5 @@
 use native.Mathlib.Omega.{arith}
-use Rattle.balance_record.proofs.Admits.{payload-178, known-178}
+use Rattle.balance.proofs.Admits.{payload-178, known-178}
 use Rattle.balance.proofs.Forms.{data-short, data-elsewhere, data-form}
 use borrow.Author.Needs.{needs}
 use Rattle.balance.proofs.reference.data_name.Statement.{statement}

@@ -9,7 +9,7 @@ use Rattle.format.specs.Items.{Item}
 use Rattle.format.specs.Names.{balanced}
 use Rattle.item_list.specs.Steps.{itemsOf}
 use Rattle.item_list.proofs.Walks.{Walked, rest-all, rest-end, rest-broken, rest-item}
-use Rattle.balance_laws.specs.Tally.{pass}
+use Rattle.balance.specs.Tally.{pass}
 use Rattle.balance.specs.Groups.{tallyOf, Kept}
 use Rattle.balance.proofs.Turns.{empty-kept, turned-next, turned-bad, item-whole, sheet-short, pass-all, pass-end, pass-on, pass-off}
 use borrow.Author.Needs.{needs}

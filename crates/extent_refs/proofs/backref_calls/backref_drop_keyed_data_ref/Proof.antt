@@ -1,5 +1,5 @@
 use borrow.Author.Needs.{needs}
-use Rattle.export_codes.proofs.Answers.{coded}
+use Rattle.extent_refs.proofs.Answers.{coded}
 use Rattle.extent_refs.proofs.backref_calls.backref_drop_keyed_data_ref.Statement.{statement}
 use Rattle.extent_refs.proofs.backref_calls.backref_drop_keyed_data_ref.Tie as tie
 

@@ -1,5 +1,5 @@
 use borrow.Author.Needs.{needs}
-use Rattle.export_codes.proofs.Answers.{coded-number}
+use Rattle.extent_refs.proofs.Answers.{coded-number}
 use Rattle.extent_refs.proofs.backref_calls.backref_flags.Statement.{statement}
 use Rattle.extent_refs.proofs.backref_calls.backref_flags.Tie as tie
 

@@ -1,5 +1,5 @@
 use borrow.Author.Needs.{needs}
-use Rattle.export_codes.proofs.Answers.{coded-taken}
+use Rattle.extent_refs.proofs.Answers.{coded-taken}
 use Rattle.extent_refs.proofs.backref_calls.backref_take_inline_shared.Statement.{statement}
 use Rattle.extent_refs.proofs.backref_calls.backref_take_inline_shared.Tie as tie
 

@@ -1,5 +1,5 @@
 use borrow.Author.Needs.{needs}
-use Rattle.export_codes.proofs.Answers.{coded}
+use Rattle.extent_refs.proofs.Answers.{coded}
 use Rattle.extent_refs.proofs.leaf_edit_calls.leaf_edit_split.Statement.{statement}
 use Rattle.extent_refs.proofs.leaf_edit_calls.leaf_edit_split.Tie as tie
 

@@ -1,9 +1,9 @@
 use denote.Ref.{now}
 use lib.ListN.{length}
 use borrow.Author.Needs.{needs}
-use Rattle.export_codes.specs.Postings.{changeOf}
-use Rattle.export_codes.proofs.Answers.{coded}
-use Rattle.export_codes.proofs.Postings.{answered-in}
+use Rattle.extent_refs.specs.Postings.{changeOf}
+use Rattle.extent_refs.proofs.Answers.{coded}
+use Rattle.extent_refs.proofs.Postings.{answered-in}
 use Rattle.extent_refs.proofs.ledger_calls.ledger_post.Statement.{statement}
 use Rattle.extent_refs.proofs.ledger_calls.ledger_post.Tie as tie
 

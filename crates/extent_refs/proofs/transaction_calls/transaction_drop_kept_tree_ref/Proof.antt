@@ -1,5 +1,5 @@
 use borrow.Author.Needs.{needs}
-use Rattle.export_codes.proofs.Answers.{coded}
+use Rattle.extent_refs.proofs.Answers.{coded}
 use Rattle.extent_refs.proofs.transaction_calls.transaction_drop_kept_tree_ref.Statement.{statement}
 use Rattle.extent_refs.proofs.transaction_calls.transaction_drop_kept_tree_ref.Tie as tie
 

@@ -1,5 +1,5 @@
 use borrow.Author.Needs.{needs}
-use Rattle.export_codes.proofs.Answers.{coded-bool}
+use Rattle.extent_refs.proofs.Answers.{coded-bool}
 use Rattle.extent_refs.proofs.transaction_calls.transaction_held_only_by.Statement.{statement}
 use Rattle.extent_refs.proofs.transaction_calls.transaction_held_only_by.Tie as tie
 

@@ -1,5 +1,5 @@
 use borrow.Author.Needs.{needs}
-use Rattle.export_codes.proofs.Answers.{coded-key}
+use Rattle.extent_refs.proofs.Answers.{coded-key}
 use Rattle.extent_refs.proofs.transaction_calls.transaction_shared_add_key.Statement.{statement}
 use Rattle.extent_refs.proofs.transaction_calls.transaction_shared_add_key.Tie as tie
 

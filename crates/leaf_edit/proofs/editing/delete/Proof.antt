@@ -8,7 +8,7 @@ use Rattle.item_list.specs.declared.Wanted.the-variants.{AtOrPast}
 use Rattle.item_list.specs.Seeks.{passing}
 use Rattle.item_list.proofs.Reading.{Located, located, lacking, listing-refused}
 use Rattle.item_list.proofs.Places.{key-missing, key-room, key-past, key-here}
-use Rattle.item_write.proofs.Writes.{answered-no, answered-by}
+use Rattle.item_list.proofs.ItemWrites.{answered-no, answered-by}
 use Rattle.leaf_edit.proofs.Deletions.{delete-refused, delete-absent, Deletion, deletion}
 use borrow.Author.Needs.{needs}
 use Rattle.leaf_edit.proofs.editing.delete.Statement.{statement}

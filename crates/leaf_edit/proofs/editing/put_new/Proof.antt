@@ -9,7 +9,7 @@ use mathlib.Core.Logic.{⊎-elim}
 use Rattle.fields.proofs.Numbers.{areBytes-in}
 use Rattle.format.specs.Questions.{accepted}
 use Rattle.format.specs.Items.{Item, readSheet, dataFits}
-use Rattle.item_write.proofs.Writes.{answered-no, answered-by}
+use Rattle.item_list.proofs.ItemWrites.{answered-no, answered-by}
 use Rattle.leaf_edit.specs.Slots.{slotOf}
 use Rattle.leaf_edit.proofs.Insertions.{Insertable, slot-free, sizesFit, putNew, put-refused, put-fits, put-large, put-within, put-unbounded}
 use borrow.Author.Needs.{needs}

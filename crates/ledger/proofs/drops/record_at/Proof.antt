@@ -3,7 +3,7 @@ use native.Mathlib.Omega.{arith}
 use denote.Ref.{now}
 use Rattle.fields.proofs.Numbers.{areBytes-in}
 use Rattle.transaction.proofs.Spots.{Standing}
-use Rattle.ledger_adds.proofs.Standings.{stood}
+use Rattle.ledger.proofs.Standings.{stood}
 use Rattle.ledger.proofs.Dropping.{stands-for}
 use Rattle.ledger.proofs.drops.record_at.Statement.{statement}
 use Rattle.ledger.proofs.drops.record_at.Tie as tie

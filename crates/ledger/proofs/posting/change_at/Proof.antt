@@ -6,7 +6,7 @@ use lib.ListN.{length}
 use Rattle.format.specs.Ledger.{changed}
 use Rattle.inline_refs.specs.Scans.{kindOf}
 use Rattle.item_list.specs.Steps.{itemsOf}
-use Rattle.ledger_adds.specs.Adding.{addChange}
+use Rattle.ledger.specs.Adding.{addChange}
 use Rattle.ledger.proofs.Postings.{as-change, entered-as, fits-as, not-block}
 use borrow.Author.Needs.{needs}
 use Rattle.ledger.proofs.posting.change_at.Statement.{statement}

@@ -1,7 +1,7 @@
 use native.Mathlib.Omega.{arith}
 use lib.ListN.{length}
 use denote.Ref.{now}
-use Rattle.plan_write.proofs.Outcomes.{put-asks, put-edited}
+use Rattle.backref.proofs.Outcomes.{put-asks, put-edited}
 use borrow.Author.Needs.{needs}
 use Rattle.record_edit.proofs.write.append_edit.Statement.{statement}
 use Rattle.record_edit.proofs.write.append_edit.Tie as tie

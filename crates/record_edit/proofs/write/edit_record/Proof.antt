@@ -1,6 +1,6 @@
 use denote.Ref.{now}
 use lib.ListN.{length}
-use Rattle.plan_write.proofs.Outcomes.{inside-edit}
+use Rattle.backref.proofs.Outcomes.{inside-edit}
 use Rattle.record_edit.specs.Records.{dataOf, editedSheet, heldEdit}
 use Rattle.record_edit.proofs.Writes.{did-edit, did-nothing, did-remove, did-refuse}
 use borrow.Author.Needs.{needs}

@@ -1,7 +1,7 @@
 use mathlib.Core.Path.{refl, sym, _∙_}
 use denote.Ref.{now}
 use lib.ListN.{length}
-use Rattle.item_write.proofs.Writes.{room-out}
+use Rattle.item_list.proofs.ItemWrites.{room-out}
 use Rattle.record_edit.proofs.Writes.{plan-fits, held-fits, over-limit, body-long, no-room, all-written}
 use borrow.Author.Needs.{needs}
 use Rattle.record_edit.proofs.write.write_held.Statement.{statement}

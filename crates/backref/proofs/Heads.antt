@@ -1,0 +1,129 @@
+-- Laws of the calls that read no references. Assumes nothing.
+use mathlib.Core.Path.{_≡_, refl, sym, ap, subst, _∙_}
+use mathlib.Core.Bool.{Bool, true, false}
+use mathlib.Core.List.{List, [], _++_, append-nil}
+use Prim.Native.Nat.{ℕ, _≤_, _<_}
+use native.Mathlib.Omega.{arith}
+use lib.Bits.{bitOr}
+use lib.Dec.{T, leb}
+use lib.ListN.{length, take, drop, replicate, take-append-drop}
+use borrow.Author.Tests.{le-leb, lt-leb, leb-true}
+use Rattle.fields.specs.Numbers.{le, leBytes, areBytes}
+use Rattle.fields.specs.Parts.{part, written, spliced}
+use Rattle.fields.proofs.Numbers.{length-leBytes}
+use Rattle.format.specs.declared.Told.the-variants.{Value, Refused as Untold}
+use Rattle.format.specs.Questions.{Answer, refused, accepted, ask, bind, toldOf}
+use Rattle.format.specs.References.{totalOf, flagsOf}
+use Rattle.format.specs.Bodies.{bodyFits, onHead, onTotal, flags, withFlags}
+use Rattle.backref.specs.declared.plan.Outcome.the-variants.{Edit, Refused}
+use Rattle.backref.specs.declared.plan.Plan.{Plan}
+use Rattle.backref.specs.Plans.{edited, Planned}
+use Rattle.backref.specs.Heads.{headOf}
+use Rattle.backref.proofs.Outcomes.{plan-edit, plan-refused}
+use Rattle.backref.proofs.PlannedTotals.{rewritten, word-front}
+
+-- ---- questions 3 and 6
+
+module _ (body : List ℕ) where
+  pub head-long : 65535 < length body → 3 ≡ headOf body
+  unfolding headOf bodyFits
+  head-long h = simp (lt-leb _ _ h)
+
+  pub head-short : length body ≤ 65535 → length body < 24 → 6 ≡ headOf body
+  unfolding headOf bodyFits
+  head-short h k = simp (le-leb _ _ h, lt-leb _ _ k)
+
+  pub head-whole : length body ≤ 65535 → 24 ≤ length body → 0 ≡ headOf body
+  unfolding headOf bodyFits
+  head-whole h k = simp (le-leb _ _ h, le-leb _ _ k)
+
+  pub record Head (n : ℕ) : Type 1 where
+    pub refuses : {A : Type 0} (next : Answer A) → (n ≡ 0 → ⊥) → onHead body next ≡ refused n
+    pub passes : {A : Type 0} (next : Answer A) → n ≡ 0 → onHead body next ≡ next
+    pub fits : n ≡ 0 → length body ≤ 65535
+    pub long : n ≡ 0 → 24 ≤ length body
+
+  heads : Head (headOf body)
+  unfolding headOf onHead ask bodyFits
+  heads = go (leb (length body) 65535) refl (leb 24 (length body)) refl
+    where
+      go : (x : Bool) → leb (length body) 65535 ≡ x → (y : Bool) → leb 24 (length body) ≡ y → Head (headOf body)
+      go true a true b = rw (a, b) (record {
+        refuses = λ next h. absurd (h refl);
+        passes = λ next h. rw (a, b) refl;
+        fits = λ h. leb-true _ _ a;
+        long = λ h. leb-true _ _ b;
+      })
+      go true a false b = rw (a, b) (record {
+        refuses = λ next h. rw (a, b) refl;
+        passes = λ next h. absurd (omega arith);
+        fits = λ h. absurd (omega arith);
+        long = λ h. absurd (omega arith);
+      })
+      go false a y b = rw a (record {
+        refuses = λ next h. rw a refl;
+        passes = λ next h. absurd (omega arith);
+        fits = λ h. absurd (omega arith);
+        long = λ h. absurd (omega arith);
+      })
+
+  pub head : (n : ℕ) → n ≡ headOf body → Head n
+  head n e = subst Head (sym e) heads
+
+-- ---- totals
+
+-- another total and nothing else
+total-only : (t : ℕ) (body : List ℕ) → written 0 (leBytes 8 t) body ≡ written 0 (leBytes 8 t) (spliced 8 8 [] body)
+total-only t body =
+    ap (written 0 (leBytes 8 t)) (sym (take-append-drop 8 body) ∙ ap (λ (l : List ℕ). l ++ drop 8 body) (sym (append-nil (take 8 body))))
+
+abbrev pub totalPlan : ℕ → Plan
+totalPlan t = record { outcome = Edit; from = 8; to = 8; new = replicate 32 0; size = 0; total = t; count = 0 }
+
+module _ (body : List ℕ) (n : ℕ) (q : n ≡ headOf body) (p : Plan) where
+  pub total-plan : (t : ℕ) (next : ℕ → Answer ℕ) → n ≡ 0 → p ≡ totalPlan t → next (totalOf body) ≡ accepted t → Planned p body (onTotal body next)
+  unfolding onTotal edited bind
+  total-plan t next z e h =
+      subst (λ (x : Plan). Planned x body (onTotal body next)) (sym e)
+      (plan-edit (totalPlan t) body (onTotal body next) (written 0 (leBytes 8 t) body) refl
+      (record { low = omega arith; order = omega arith; high = omega (arith, head body n q .long z); fits = head body n q .fits z; small = omega arith; full = refl })
+      (head body n q .passes _ z ∙ ap (λ (x : Answer ℕ). bind x (λ total. accepted (written 0 (leBytes 8 total) body))) h)
+      (total-only t body))
+
+  pub total-refused : (m : ℕ) (next : ℕ → Answer ℕ) → n ≡ 0 → p .outcome ≡ Refused m → next (totalOf body) ≡ refused m → Planned p body (onTotal body next)
+  unfolding onTotal bind
+  total-refused m next z e h =
+      plan-refused p body (onTotal body next) m e
+      (head body n q .passes _ z ∙ ap (λ (x : Answer ℕ). bind x (λ total. accepted (written 0 (leBytes 8 total) body))) h)
+
+  pub head-refused : (next : Answer (List ℕ)) → (n ≡ 0 → ⊥) → p .outcome ≡ Refused n → Planned p body (onHead body next)
+  head-refused next z e = plan-refused p body (onHead body next) n e (head body n q .refuses next z)
+
+-- ---- flags
+
+module _ (body : List ℕ) (n : ℕ) (q : n ≡ headOf body) where
+  pub flags-refused : (n ≡ 0 → ⊥) → Untold n ≡ toldOf (flags body)
+  unfolding toldOf flags
+  flags-refused h = sym (ap toldOf (head body n q .refuses (accepted (flagsOf body)) h))
+
+  pub flags-are : (f : ℕ) → n ≡ 0 → f ≡ le (part 16 8 body) → Value f ≡ toldOf (flags body)
+  unfolding toldOf flags flagsOf
+  flags-are f z e = ap Value e ∙ sym (ap toldOf (head body n q .passes (accepted (flagsOf body)) z))
+
+pub flags-plan : (body : List ℕ) (n t f set : ℕ) (p : Plan) (new : List ℕ) → n ≡ headOf body → n ≡ 0 → T (areBytes body) → t ≡ le (part 0 8 body)
+    → f ≡ le (part 16 8 body) → new ≡ written 0 (leBytes 8 (bitOr f set)) (replicate 32 0)
+    → p ≡ record { outcome = Edit; from = 16; to = 24; new = new; size = 8; total = t; count = 0 }
+    → Planned p body (withFlags body set)
+unfolding withFlags flagsOf edited
+flags-plan body n t f set p new q z b e₁ e₂ e₃ e =
+    let plan : Plan = record { outcome = Edit; from = 16; to = 24; new = new; size = 8; total = t; count = 0 } in
+    let h = head body n q in
+    let long : 24 ≤ length body = h .long z in
+    let word : List ℕ = leBytes 8 (bitOr f set) in
+    let n8 : length word ≡ 8 = length-leBytes 8 (bitOr f set) in
+    let new-is = word-front word new 8 n8 (omega arith) e₃ in
+    subst (λ (x : Plan). Planned x body (withFlags body set)) (sym e)
+    (plan-edit plan body (withFlags body set) (written 16 word body) refl
+    (record { low = omega arith; order = omega arith; high = long; fits = h .fits z; small = omega arith; full = new-is .1 })
+    (h .passes _ z ∙ ap (λ (x : ℕ). accepted (written 16 (leBytes 8 (bitOr x set)) body)) (sym e₂))
+    (rewritten body word new t 16 8 b e₁ (omega arith) long n8 (new-is .0)))

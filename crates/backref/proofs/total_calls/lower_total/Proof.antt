@@ -1,0 +1,13 @@
+use Rattle.backref.proofs.PlanAnswers.{answered}
+use borrow.Author.Needs.{needs}
+use Rattle.backref.proofs.total_calls.lower_total.Statement.{statement}
+use Rattle.backref.proofs.total_calls.lower_total.Tie as tie
+
+returns : tie.Need-returns
+returns c =
+    let write = c .before .before in
+    answered _ (write .before .before .plan-lower-total .ensures .0) (write .write-same .ensures)
+
+pub lower-total-spec : {M : Type 1} → statement M
+lower-total-spec =
+    tie.close (tie.spec (λ c κs. search needs) (λ c κs. search needs) (λ c. search needs) returns)

@@ -1,0 +1,98 @@
+// Plans that read no references: the item's type plays no part in them.
+use crate::Outcome;
+use crate::Plan;
+ghost use mathlib.Core.Path.{_≡_};
+ghost use Prim.Native.Nat.{_+_};
+ghost use lib.ListN.{replicate};
+ghost use Rattle.fields.specs.Numbers.{leBytes};
+ghost use Rattle.fields.specs.Parts.{written};
+ghost use Rattle.format.specs.Bodies.{raiseTotal, lowerTotal, reduceTotal, withFlags};
+ghost use Rattle.backref.specs.Plans.{Planned};
+ghost use Rattle.backref.specs.Heads.{headOf};
+
+// Questions 3 and 6 of a call that reads no references: 0, or the one that is answered "no".
+pub fn head_fault(body: &[u8]) -> u32
+    ensures { λ r. ⌜ r ≡ headOf (now (body .entry)) ⌝ }
+{
+    if 65535 < body.len() {
+        return 3;
+    }
+    if body.len() < 24 {
+        return 6;
+    }
+    0
+}
+
+// Another total.
+fn set_total(total: u64) -> Plan
+    ensures { λ r. ⌜ r ≡ record { outcome = Outcome.Edit; from = 8; to = 8; new = replicate 32 0; size = 0; total = total; count = 0 } ⌝ }
+{
+    crate::edit(8, 8, [0; 32], 0, total, 0)
+}
+
+pub fn plan_raise_total(body: &[u8], amount: u64) -> Plan
+    ensures { λ r. ⌜ Planned r (now (body .entry)) (raiseTotal (now (body .entry)) amount) ⌝ }
+    ensures { λ r. ⌜ r .from + r .size ≡ r .to ⌝ }
+{
+    let fault = head_fault(body);
+    if fault != 0 {
+        return crate::refuse(fault);
+    }
+    let total = fields::get_u64_le(body, 0);
+    if 18446744073709551615 - amount < total {
+        return crate::refuse(12);
+    }
+    set_total(total + amount)
+}
+
+pub fn plan_lower_total(body: &[u8]) -> Plan
+    ensures { λ r. ⌜ Planned r (now (body .entry)) (lowerTotal (now (body .entry))) ⌝ }
+    ensures { λ r. ⌜ r .from + r .size ≡ r .to ⌝ }
+{
+    let fault = head_fault(body);
+    if fault != 0 {
+        return crate::refuse(fault);
+    }
+    let total = fields::get_u64_le(body, 0);
+    if total < 2 {
+        return crate::refuse(13);
+    }
+    set_total(total - 1)
+}
+
+pub fn plan_reduce_total(body: &[u8], amount: u64) -> Plan
+    ensures { λ r. ⌜ Planned r (now (body .entry)) (reduceTotal (now (body .entry)) amount) ⌝ }
+    ensures { λ r. ⌜ r .from + r .size ≡ r .to ⌝ }
+{
+    let fault = head_fault(body);
+    if fault != 0 {
+        return crate::refuse(fault);
+    }
+    let total = fields::get_u64_le(body, 0);
+    if total < amount {
+        return crate::refuse(14);
+    }
+    set_total(total - amount)
+}
+
+// A number of eight bytes in front of zeros.
+fn word_bytes(word: u64) -> [u8; 32]
+    ensures { λ r. ⌜ r ≡ written 0 (leBytes 8 word) (replicate 32 0) ⌝ }
+{
+    let mut new = [0; 32];
+    fields::put_u64_le(&mut new, 0, word);
+    new
+}
+
+pub fn plan_with_flags(body: &[u8], set: u64) -> Plan
+    ensures { λ r. ⌜ Planned r (now (body .entry)) (withFlags (now (body .entry)) set) ⌝ }
+    ensures { λ r. ⌜ r .from + r .size ≡ r .to ⌝ }
+{
+    let fault = head_fault(body);
+    if fault != 0 {
+        return crate::refuse(fault);
+    }
+    let total = fields::get_u64_le(body, 0);
+    let flags = fields::get_u64_le(body, 16) | set;
+    crate::edit(16, 24, word_bytes(flags), 8, total, 0)
+}

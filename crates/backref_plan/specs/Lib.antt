@@ -1,2 +1,0 @@
-pub mod Adds
-pub mod Takes

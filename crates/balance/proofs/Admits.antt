@@ -1,0 +1,357 @@
+-- One more reference of a record, as code tests it. Assumes nothing.
+use mathlib.Core.Path.{_≡_, refl, sym, ap, ap₂, _∙_, subst}
+use Prim.Native.Nat.{ℕ, zero, suc, _+_, _-_, _*_, _≤_, _<_}
+use native.Mathlib.Omega.{arith}
+use mathlib.Core.Logic.{_⊎_, inl, inr}
+use mathlib.Core.Bool.{Bool, true, false, not, _&&_, _||_, cond}
+use mathlib.Core.List.{List, [], _∷_, _++_}
+use lib.Dec.{T, leb, eqb}
+use lib.ListN.{drop}
+use borrow.Author.Tests.{eq-eqb, ne-eqb, le-leb, lt-leb, lt-ltb, le-ltb}
+use Rattle.fields.specs.Lists.{all, same}
+use Rattle.fields.specs.Numbers.{words}
+use Rattle.fields.proofs.Lists.{and-false, lt-or}
+use Rattle.format.specs.References.{rowIn, known, payloadLength, countPosition, counted, fieldCount, Ref, refAt, place, falls}
+use Rattle.format.specs.Bodies.{named}
+use Rattle.distinct_triples.specs.Triples.{dataSize, tripleOf, Distinct}
+use Rattle.distinct_triples.proofs.Orders.{none-twice}
+use Rattle.balance.specs.SideBySide.{spanRefs}
+use Rattle.balance.specs.Runs.{Run, start, joins, kept, after, apart, weighs, admits}
+use Rattle.balance.proofs.SideBySide.{span-snoc}
+use Rattle.balance.specs.declared.record.Run.{Run as Passed}
+use Rattle.balance.specs.declared.record.Admitted.{Admitted}
+use Rattle.balance.specs.declared.record.Admitted.the-variants.{Yes, No}
+use Rattle.balance.specs.Spans.{clear, runOf, Reaches, Apart, Admitting}
+
+pub payload-178 : payloadLength 178 ≡ 28
+unfolding payloadLength rowIn
+payload-178 = refl
+
+pub not-true : (b c : Bool) → b ≡ not c → b ≡ true → c ≡ false
+not-true b true e t = let z : T false = subst T (sym t ∙ e) tt in absurd z
+not-true b false e t = refl
+
+pub not-false : (b c : Bool) → b ≡ not c → b ≡ false → c ≡ true
+not-false b true e t = refl
+not-false b false e t = let z : T false = subst T (sym e ∙ t) tt in absurd z
+
+pub known-178 : T (known 178)
+unfolding known rowIn
+known-178 = tt
+
+pub fields-178 : (l : List ℕ) → refAt 178 l .fields ≡ words 3 l
+unfolding refAt fieldCount counted countPosition rowIn
+fields-178 l = refl
+
+-- ---- triples side by side
+
+module _ (body : List ℕ) (at p left : ℕ) (name : List ℕ) (is : name ≡ words 3 (drop (at + 1) body)) where
+  names-same : (b : Bool) → b ≡ named 178 name (refAt 178 (drop (p + 1) body))
+      → b ≡ same (refAt 178 (drop (p + 1) body) .fields) (refAt 178 (drop (at + 1) body) .fields)
+  unfolding named refAt
+  names-same b e = e ∙ rw (fields-178 (drop (at + 1) body), is) refl
+
+  pub clear-hit : (b : Bool) → 0 < left → b ≡ named 178 name (refAt 178 (drop (p + 1) body)) → b ≡ true → clear body at p left ≡ false
+  unfolding clear spanRefs
+  clear-hit b h e t =
+      let z : left ≡ suc (left - 1) = omega arith in
+      rw z (simp (sym (names-same b e) ∙ t))
+
+  clear-step : (b : Bool) (m : ℕ) → b ≡ named 178 name (refAt 178 (drop (p + 1) body)) → b ≡ false
+      → clear body at p (suc m) ≡ clear body at (p + dataSize) m
+  unfolding clear spanRefs
+  clear-step b m e t = simp (sym (names-same b e) ∙ t, payload-178) refl
+
+  pub clear-miss : (b : Bool) → 0 < left → b ≡ named 178 name (refAt 178 (drop (p + 1) body)) → b ≡ false
+      → clear body at (p + dataSize) (left - 1) ≡ clear body at p left
+  clear-miss b h e t =
+      let z : left ≡ suc (left - 1) = omega arith in
+      sym (ap (clear body at p) z ∙ clear-step b (left - 1) e t)
+
+pub clear-none : (body : List ℕ) (at p : ℕ) → clear body at p 0 ≡ true
+unfolding clear spanRefs
+clear-none body at p = refl
+
+-- those that are known to differ from one another differ from one more of them
+module _ (body : List ℕ) (from n known : ℕ) (d : Distinct body from known) (h : n < known) where
+  differs : (i : ℕ) → i < n → same (refAt 178 (drop (from + dataSize * i + 1) body) .fields) (refAt 178 (drop (from + dataSize * n + 1) body) .fields) ≡ false
+  unfolding tripleOf
+  differs i l = ap₂ same (fields-178 _) (fields-178 _) ∙ d .differ i n l h
+
+  clear-from : (m i : ℕ) → i + m ≡ n → clear body (from + dataSize * n) (from + dataSize * i) m ≡ true
+  unfolding clear spanRefs
+  clear-from zero i e = refl
+  clear-from (suc m) i e =
+      let l : i < n = omega arith in
+      let p : from + dataSize * i + dataSize ≡ from + dataSize * suc i = omega arith in
+      let f : suc i + m ≡ n = omega arith in
+      simp (differs i l, payload-178, p) (clear-from m (suc i) f)
+
+  pub clear-by : (at : ℕ) → from + dataSize * n ≡ at → clear body at from n ≡ true
+  clear-by at e =
+      let z : from + dataSize * 0 ≡ from = omega arith in
+      let f : 0 + n ≡ n = omega arith in
+      subst (λ (q : ℕ). clear body q from n ≡ true) e (subst (λ (q : ℕ). clear body (from + dataSize * n) q n ≡ true) z (clear-from n 0 f))
+
+-- ---- the answer, from the tests
+
+module _ (run : Run) (r : Ref) where
+  pub admits-lower : r .kind < run .kind → admits run r ≡ false
+  unfolding admits after
+  admits-lower h =
+      let a : r .kind ≤ run .kind = omega arith in
+      let b : run .kind ≡ r .kind → ⊥ = (λ e. omega arith) in
+      simp (le-ltb _ _ a, ne-eqb _ _ b)
+
+  pub admits-light : (r .kind ≡ 172 → ⊥) → r .weight ≡ 0 → admits run r ≡ false
+  unfolding admits weighs
+  admits-light h e =
+      let w : leb 1 (r .weight) ≡ false = lt-leb 1 (r .weight) (omega arith) in
+      simp (ne-eqb _ _ h, w) (never (after run r) (apart run r))
+    where
+      never : (a b : Bool) → (a && (b && false)) ≡ false
+      never true true = refl
+      never true false = refl
+      never false b = refl
+
+  not-joins-kind : (run .kind ≡ r .kind → ⊥) → joins run r ≡ false
+  unfolding joins
+  not-joins-kind h =
+      let k : r .kind ≡ run .kind → ⊥ = (λ e. h (sym e)) in
+      simp (ne-eqb _ _ k) (and-false (eqb (run .kind) 178))
+
+  not-joins-spot : (place r ≡ run .spot → ⊥) → joins run r ≡ false
+  unfolding joins
+  not-joins-spot h = simp (ne-eqb _ _ h) (never (eqb (run .kind) 178) (eqb (r .kind) (run .kind)))
+    where
+      never : (a b : Bool) → (a && (b && false)) ≡ false
+      never true true = refl
+      never true false = refl
+      never false b = refl
+
+  not-joins-178 : (run .kind ≡ 178 → ⊥) → joins run r ≡ false
+  unfolding joins
+  not-joins-178 h = simp (ne-eqb _ _ h)
+
+  kept-alone : joins run r ≡ false → record { kind = r .kind; spot = place r; back = r ∷ [] } ≡ kept run r
+  unfolding kept
+  kept-alone j = simp j
+
+  -- a new run
+  owner-after : (run .kind < r .kind) ⊎ (r .kind ≤ run .kind) → run .kind ≤ r .kind → r .kind ≡ 172 → after run r ≡ true
+  unfolding after falls
+  owner-after (inl k) h e = simp (lt-ltb _ _ k)
+  owner-after (inr k) h e =
+      let q : run .kind ≡ r .kind = omega arith in
+      let z : run .kind ≡ 172 = omega arith in
+      simp (le-ltb _ _ k, eq-eqb _ _ q, eq-eqb _ _ z)
+
+  abbrev pub Begins : Type 0
+  Begins = (admits run r ≡ true) × (record { kind = r .kind; spot = place r; back = r ∷ [] } ≡ kept run r)
+
+  pub admits-owner : run .kind ≤ r .kind → r .kind ≡ 172 → Begins
+  unfolding admits apart weighs
+  admits-owner h e =
+      let no178 : run .kind ≡ 178 → ⊥ = (λ q. omega arith) in
+      let j : joins run r ≡ false = not-joins-178 no178 in
+      (simp (j, eq-eqb _ _ e, owner-after (lt-or (run .kind) (r .kind)) h e), kept-alone j)
+
+  pub admits-higher : run .kind < r .kind → 0 < r .weight → Begins
+  unfolding admits apart weighs after
+  admits-higher h w =
+      let ne : run .kind ≡ r .kind → ⊥ = (λ q. omega arith) in
+      let j : joins run r ≡ false = not-joins-kind ne in
+      let l : leb 1 (r .weight) ≡ true = le-leb 1 (r .weight) (omega arith) in
+      (simp (j, lt-ltb _ _ h, l) (yes (eqb (r .kind) 172)), kept-alone j)
+    where
+      yes : (c : Bool) → (c || true) ≡ true
+      yes true = refl
+      yes false = refl
+
+  pub admits-falls : run .kind ≡ r .kind → (r .kind ≡ 172 → ⊥) → place r < run .spot → 0 < r .weight → Begins
+  unfolding admits apart weighs after falls
+  admits-falls q owner h w =
+      let ne : place r ≡ run .spot → ⊥ = (λ e. omega arith) in
+      let j : joins run r ≡ false = not-joins-spot ne in
+      let l : leb 1 (r .weight) ≡ true = le-leb 1 (r .weight) (omega arith) in
+      let n : run .kind ≡ 172 → ⊥ = (λ e. owner (sym q ∙ e)) in
+      let o : place r ≤ run .spot = omega arith in
+      let b : leb (place r) (run .spot) ≡ true = le-leb _ _ o in
+      let u : run .kind ≤ r .kind = omega arith in
+      let v : r .kind ≤ run .kind = omega arith in
+      (simp (j, le-ltb _ _ v, eq-eqb _ _ q, ne-eqb _ _ n, ne-eqb _ _ owner, lt-ltb _ _ h, b, l) (yes (eqb (run .kind) 178)), kept-alone j)
+    where
+      yes : (c : Bool) → (cond c true true && true) ≡ true
+      yes true = refl
+      yes false = refl
+
+  -- of one type, no lower place
+  pub admits-stays : run .kind ≡ r .kind → (r .kind ≡ 172 → ⊥) → (r .kind ≡ 178 → ⊥) → run .spot ≤ place r → admits run r ≡ false
+  unfolding admits after falls
+  admits-stays q owner no178 h =
+      let n : run .kind ≡ 172 → ⊥ = (λ e. owner (sym q ∙ e)) in
+      let m : run .kind ≡ 178 → ⊥ = (λ e. no178 (sym q ∙ e)) in
+      let v : r .kind ≤ run .kind = omega arith in
+      simp (le-ltb _ _ v, eq-eqb _ _ q, ne-eqb _ _ n, ne-eqb _ _ m, le-ltb _ _ h)
+
+  module _ (q : run .kind ≡ r .kind) (d : r .kind ≡ 178) where
+    pub admits-rises : run .spot < place r → admits run r ≡ false
+    unfolding admits after falls
+    admits-rises h =
+        let n : run .kind ≡ 172 → ⊥ = (λ e. omega arith) in
+        let m : run .kind ≡ 178 = q ∙ d in
+        let v : r .kind ≤ run .kind = omega arith in
+        simp (le-ltb _ _ v, eq-eqb _ _ q, ne-eqb _ _ n, eq-eqb _ _ m, lt-leb _ _ h)
+
+    module _ (s : place r ≡ run .spot) where
+      joins-yes : joins run r ≡ true
+      unfolding joins
+      joins-yes = let m : run .kind ≡ 178 = q ∙ d in simp (eq-eqb _ _ m, eq-eqb _ _ (sym q), eq-eqb _ _ s)
+
+      pub admits-twice : all (λ x. not (same (x .fields) (r .fields))) (run .back) ≡ false → admits run r ≡ false
+      unfolding admits apart
+      admits-twice a = simp (joins-yes, a) (never (after run r))
+        where
+          never : (c : Bool) → (c && false) ≡ false
+          never true = refl
+          never false = refl
+
+      pub admits-joins : all (λ x. not (same (x .fields) (r .fields))) (run .back) ≡ true → 0 < r .weight
+          → (admits run r ≡ true) × (record { kind = run .kind; spot = run .spot; back = run .back ++ r ∷ [] } ≡ kept run r)
+      unfolding admits after falls apart weighs kept
+      admits-joins a w =
+          let n : run .kind ≡ 172 → ⊥ = (λ e. omega arith) in
+          let m : run .kind ≡ 178 = q ∙ d in
+          let v : r .kind ≤ run .kind = omega arith in
+          let o : place r ≤ run .spot = omega arith in
+          let b : leb (place r) (run .spot) ≡ true = le-leb _ _ o in
+          let l : leb 1 (r .weight) ≡ true = le-leb 1 (r .weight) (omega arith) in
+          (simp (joins-yes, a, le-ltb _ _ v, eq-eqb _ _ q, ne-eqb _ _ n, eq-eqb _ _ m, b, l) (yes (eqb (r .kind) 172)), simp joins-yes)
+        where
+          yes : (c : Bool) → (c || true) ≡ true
+          yes true = refl
+          yes false = refl
+
+-- ---- what code answers, from what it tested
+
+module _ (body : List ℕ) (p : Passed) (at kind start : ℕ) (s : start ≡ at + 1) (reach : Reaches p at) where
+  abbrev here : Ref
+  here = refAt kind (drop start body)
+
+  pub says-lower : kind < p .kind → Admitting body p here (start + payloadLength kind) No
+  unfolding runOf refAt Admitting
+  says-lower h = admits-lower (runOf body p) here h
+
+  module _ (weight spot : ℕ) (w : weight ≡ here .weight) (o : spot ≡ place here) where
+    abbrev pub alone : Passed
+    alone = record { kind = kind; spot = spot; from = at; n = 1; known = 0 }
+
+    alone-is : runOf body alone ≡ record { kind = here .kind; spot = place here; back = here ∷ [] }
+    unfolding runOf spanRefs refAt
+    alone-is = λ i. record { kind = kind; spot = o i; back = refAt kind (drop (sym s i) body) ∷ [] }
+
+    alone-reaches : Reaches alone (start + payloadLength kind)
+    alone-reaches e = rw (e, payload-178) (omega arith)
+
+    says-alone : Begins (runOf body p) here → Admitting body p here (start + payloadLength kind) (Yes alone weight)
+    unfolding Admitting
+    says-alone b = (b .0, (alone-is ∙ b .1, (alone-reaches, (w, none-twice body at))))
+
+    pub says-owner : p .kind ≤ kind → kind ≡ 172 → Admitting body p here (start + payloadLength kind) (Yes alone weight)
+    unfolding runOf refAt Admitting
+    says-owner h e = says-alone (admits-owner (runOf body p) here h e)
+
+    module _ (owner : kind ≡ 172 → ⊥) where
+      pub says-light : weight ≡ 0 → Admitting body p here (start + payloadLength kind) No
+      unfolding runOf refAt Admitting
+      says-light e = admits-light (runOf body p) here owner (sym w ∙ e)
+
+      module _ (heavy : weight ≡ 0 → ⊥) where
+        some-weight : 0 < here .weight
+        some-weight = rw (← w) (omega arith)
+
+        pub says-higher : p .kind < kind → Admitting body p here (start + payloadLength kind) (Yes alone weight)
+        unfolding runOf refAt Admitting
+        says-higher h = says-alone (admits-higher (runOf body p) here h some-weight)
+
+        module _ (same-kind : p .kind ≡ kind) where
+          pub says-falls : spot < p .spot → Admitting body p here (start + payloadLength kind) (Yes alone weight)
+          unfolding runOf refAt Admitting
+          says-falls h = says-alone (admits-falls (runOf body p) here same-kind owner (rw (← o) h) some-weight)
+
+          pub says-stays : (kind ≡ 178 → ⊥) → p .spot ≤ spot → Admitting body p here (start + payloadLength kind) No
+          unfolding runOf refAt Admitting
+          says-stays n h = admits-stays (runOf body p) here same-kind owner n (rw (← o) h)
+
+          module _ (d : kind ≡ 178) where
+            pub says-rises : p .spot < spot → Admitting body p here (start + payloadLength kind) No
+            unfolding runOf refAt Admitting
+            says-rises h = admits-rises (runOf body p) here same-kind d (rw (← o) h)
+
+            module _ (e : spot ≡ p .spot) where
+              spot-is : place here ≡ runOf body p .spot
+              unfolding runOf
+              spot-is = sym o ∙ e
+
+              clear-is : (b : Bool) → clear body at (p .from) (p .n) ≡ b
+                  → all (λ x. not (same (x .fields) (here .fields))) (runOf body p .back) ≡ b
+              unfolding runOf clear refAt
+              clear-is b c =
+                  let k : p .kind ≡ 178 = same-kind ∙ d in
+                  (λ i. all (λ x. not (same (x .fields) (refAt (d i) (drop (s i) body) .fields))) (spanRefs (k i) body (p .from) (p .n))) ∙ c
+
+              pub says-twice : clear body at (p .from) (p .n) ≡ false → Admitting body p here (start + payloadLength kind) No
+              unfolding runOf refAt Admitting
+              says-twice c = admits-twice (runOf body p) here same-kind d spot-is (clear-is false c)
+
+              abbrev pub grown : ℕ → Passed
+              grown k = record { kind = kind; spot = spot; from = p .from; n = p .n + 1; known = k }
+
+              ends-here : p .from + p .n * (1 + payloadLength (p .kind)) + 1 ≡ start
+              ends-here =
+                  let k : p .kind ≡ 178 = same-kind ∙ d in
+                  let z : p .n * (1 + payloadLength (p .kind)) ≡ p .n * dataSize = ap (λ (j : ℕ). p .n * (1 + payloadLength j)) k ∙ ap (λ (j : ℕ). p .n * (1 + j)) payload-178 in
+                  omega (arith, reach k)
+
+              grown-is : (k : ℕ) → runOf body (grown k) ≡ record { kind = runOf body p .kind; spot = runOf body p .spot; back = runOf body p .back ++ here ∷ [] }
+              unfolding runOf
+              grown-is k =
+                  (λ i. record { kind = sym same-kind i; spot = e i; back = spanRefs (sym same-kind i) body (p .from) (p .n + 1) })
+                  ∙ ap (λ (l : List Ref). record { kind = p .kind; spot = p .spot; back = l })
+                  (span-snoc (p .kind) body (p .from) (p .n)
+                  ∙ (λ i. spanRefs (p .kind) body (p .from) (p .n) ++ refAt (same-kind i) (drop (ends-here i) body) ∷ []))
+
+              grown-reaches : (k : ℕ) → Reaches (grown k) (start + payloadLength kind)
+              grown-reaches k z = rw (d, payload-178) (omega (arith, reach (same-kind ∙ d)))
+
+              pub says-joins : (k : ℕ) → Distinct body (p .from) k → clear body at (p .from) (p .n) ≡ true
+                  → Admitting body p here (start + payloadLength kind) (Yes (grown k) weight)
+              unfolding runOf refAt Admitting
+              says-joins k a c =
+                  let j = admits-joins (runOf body p) here same-kind d spot-is (clear-is true c) some-weight in
+                  (j .0, (grown-is k ∙ j .1, (grown-reaches k, (w, a))))
+
+-- ---- and back
+
+pub admitted-yes : (body : List ℕ) (p : Passed) (r : Ref) (next : ℕ) (a : Admitted) (q : Passed) (weight : ℕ) → a ≡ Yes q weight → Admitting body p r next a
+    → (admits (runOf body p) r ≡ true) × ((runOf body q ≡ kept (runOf body p) r) × (Reaches q next × ((weight ≡ r .weight) × Apart body q)))
+unfolding Admitting
+admitted-yes body p r next a q weight e h = subst (Admitting body p r next) e h
+
+pub admitted-no : (body : List ℕ) (p : Passed) (r : Ref) (next : ℕ) (a : Admitted) → a ≡ No → Admitting body p r next a → admits (runOf body p) r ≡ false
+unfolding Admitting
+admitted-no body p r next a e h = subst (Admitting body p r next) e h
+
+-- ---- a type that is known to be 178
+
+pub no-172 : _≡_ {A = ℕ} 178 172 → ⊥
+no-172 e = omega arith
+
+pub at-178 : (body : List ℕ) (start kind weight spot : ℕ) → kind ≡ 178 → weight ≡ refAt kind (drop start body) .weight → spot ≡ place (refAt kind (drop start body))
+    → (weight ≡ refAt 178 (drop start body) .weight) × (spot ≡ place (refAt 178 (drop start body)))
+at-178 body start kind weight spot e w o =
+    subst (λ (k : ℕ). (weight ≡ refAt k (drop start body) .weight) × (spot ≡ place (refAt k (drop start body)))) e (w, o)
+
+pub as-178 : (body : List ℕ) (p : Passed) (start kind : ℕ) (r : Admitted) → kind ≡ 178
+    → Admitting body p (refAt 178 (drop start body)) (start + payloadLength 178) r → Admitting body p (refAt kind (drop start body)) (start + payloadLength kind) r
+as-178 body p start kind r e h = subst (λ (k : ℕ). Admitting body p (refAt k (drop start body)) (start + payloadLength k) r) (sym e) h

@@ -1,0 +1,59 @@
+-- The pass over a record's references, a step at a time. Assumes nothing.
+use mathlib.Core.Path.{_≡_, refl, sym, ap, ap₂, _∙_}
+use Prim.Native.Nat.{ℕ, _+_}
+use native.Mathlib.Omega.{arith}
+use mathlib.Core.Bool.{true, false}
+use mathlib.Core.List.{List, [], _∷_}
+use lib.ListN.{drop}
+use Rattle.fields.specs.Lists.{sum}
+use Rattle.format.specs.Questions.{Answer, refused, absent, remove, accepted, bind}
+use Rattle.format.specs.References.{Ref, refAt}
+use Rattle.inline_refs.specs.Steps.{readFrom}
+use Rattle.inline_refs.proofs.Steps.{At}
+use Rattle.balance.specs.SideBySide.{spanRefs}
+use Rattle.balance.specs.Runs.{Run, kept, admits, sound}
+use Rattle.balance.specs.Tally.{weightIn}
+use Rattle.balance.specs.declared.record.Weighed.the-variants.{Of, Bad}
+use Rattle.balance.specs.Spans.{runOf, weighing, weighedOf}
+
+pub weigh-start : (body : List ℕ) (from : ℕ) (a : Answer (List Ref))
+    → weighing (runOf body (record { kind = 0; spot = 0; from = from; n = 0; known = 0 })) 0 a ≡ weighedOf a
+unfolding weighedOf runOf spanRefs
+weigh-start body from a = refl
+
+more : (run : Run) (weight : ℕ) (r : Ref) (a : Answer (List Ref)) → admits run r ≡ true
+    → weighing (kept run r) (weight + r .weight) a ≡ weighing run weight (bind a (λ refs. accepted (r ∷ refs)))
+unfolding weighing bind sound
+more run weight r (refused n) e = refl
+more run weight r absent e = refl
+more run weight r remove e = refl
+more run weight r (accepted refs) e =
+    let z : weight + r .weight + sum weightIn refs ≡ weight + (r .weight + sum weightIn refs) = omega arith in
+    rw (e, z) refl
+
+fewer : (run : Run) (weight : ℕ) (r : Ref) (a : Answer (List Ref)) → admits run r ≡ false
+    → Bad ≡ weighing run weight (bind a (λ refs. accepted (r ∷ refs)))
+unfolding weighing bind sound
+fewer run weight r (refused n) e = refl
+fewer run weight r absent e = refl
+fewer run weight r remove e = refl
+fewer run weight r (accepted refs) e = rw e refl
+
+module _ (s : List ℕ) (at k p n q next : ℕ) (h : At s at k p n q next) (run : Run) (weight : ℕ) where
+  pub weigh-step : (grown : Run) (w : ℕ) → admits run (refAt k (drop p s)) ≡ true → grown ≡ kept run (refAt k (drop p s)) → w ≡ refAt k (drop p s) .weight
+      → weighing grown (weight + w) (readFrom s next) ≡ weighing run weight (readFrom s at)
+  weigh-step grown w a g e =
+      ap₂ (λ (x : Run) (y : ℕ). weighing x (weight + y) (readFrom s next)) g e
+      ∙ more run weight (refAt k (drop p s)) (readFrom s next) a
+      ∙ ap (weighing run weight) (sym (h .reads))
+
+  pub weigh-no : admits run (refAt k (drop p s)) ≡ false → Bad ≡ weighing run weight (readFrom s at)
+  weigh-no a = fewer run weight (refAt k (drop p s)) (readFrom s next) a ∙ ap (weighing run weight) (sym (h .reads))
+
+pub weigh-end : (run : Run) (weight : ℕ) (a : Answer (List Ref)) → a ≡ accepted [] → Of weight ≡ weighing run weight a
+unfolding weighing sound
+weigh-end run weight a e = rw e (ap Of (omega arith))
+
+pub weigh-fault : (run : Run) (weight number : ℕ) (a : Answer (List Ref)) → a ≡ refused number → Bad ≡ weighing run weight a
+unfolding weighing
+weigh-fault run weight number a e = rw e refl

@@ -1,0 +1,54 @@
+-- The pass over a record's references as code makes it. Assumes nothing.
+use mathlib.Core.Path.{_≡_}
+use mathlib.Core.Bool.{Bool, true, false, not, cond}
+use mathlib.Core.List.{List}
+use Prim.Native.Nat.{ℕ, _+_, _*_, _≤_}
+use lib.ListN.{drop}
+use Rattle.fields.specs.Lists.{sum, all, same}
+use Rattle.format.specs.Questions.{Answer, refused, absent, remove, accepted}
+use Rattle.format.specs.References.{Ref, refAt}
+use Rattle.distinct_triples.specs.Triples.{dataSize, Distinct}
+use Rattle.balance.specs.SideBySide.{spanRefs}
+use Rattle.balance.specs.Runs.{Run, start, kept, admits, sound}
+use Rattle.balance.specs.Tally.{weightIn}
+use Rattle.balance.specs.declared.record.Run.{Run as Passed}
+use Rattle.balance.specs.declared.record.Admitted.{Admitted}
+use Rattle.balance.specs.declared.record.Admitted.the-variants.{Yes, No}
+use Rattle.balance.specs.declared.record.Weighed.{Weighed}
+use Rattle.balance.specs.declared.record.Weighed.the-variants.{Of, Bad}
+
+-- the triple of the data reference at `at` is none of theirs
+unfoldable pub clear : List ℕ → ℕ → ℕ → ℕ → Bool
+clear body at from n = all (λ s. not (same (s .fields) (refAt 178 (drop (at + 1) body) .fields))) (spanRefs 178 body from n)
+
+unfoldable pub runOf : List ℕ → Passed → Run
+runOf body p = record { kind = p .kind; spot = p .spot; back = spanRefs (p .kind) body (p .from) (p .n) }
+
+-- the data references passed end where the next one stands
+abbrev pub Reaches : Passed → ℕ → Type 0
+Reaches p at = p .kind ≡ 178 → p .from + dataSize * p .n ≡ at
+
+-- the triples of so many from the first on differ
+abbrev pub Apart : List ℕ → Passed → Type 0
+Apart body p = Distinct body (p .from) (p .known)
+
+-- what the answer says of the reference that ends at `next`
+unfoldable pub Admitting : List ℕ → Passed → Ref → ℕ → Admitted → Type 0
+Admitting body p r next No = admits (runOf body p) r ≡ false
+Admitting body p r next (Yes q weight) =
+    (admits (runOf body p) r ≡ true) × ((runOf body q ≡ kept (runOf body p) r) × (Reaches q next × ((weight ≡ r .weight) × Apart body q)))
+
+-- the weight of the references that are left, after those of a run and their weight
+unfoldable pub weighing : Run → ℕ → Answer (List Ref) → Weighed
+weighing run weight (refused number) = Bad
+weighing run weight absent = Bad
+weighing run weight remove = Bad
+weighing run weight (accepted refs) = cond (sound run refs) (Of (weight + sum weightIn refs)) Bad
+
+unfoldable pub weighedOf : Answer (List Ref) → Weighed
+weighedOf answer = weighing start 0 answer
+
+-- each reference weighs less than 2 ^ 32
+abbrev pub Light : ℕ → Weighed → Type 0
+Light size (Of weight) = weight ≤ 4294967296 * size
+Light size Bad = Unit {0}

@@ -1,0 +1,62 @@
+-- A balanced sheet as one pass over its items, which keeps what it must of the extent at hand. Assumes nothing.
+use mathlib.Core.Bool.{Bool, true, false, not, _&&_, _||_, cond}
+use mathlib.Core.List.{List, [], _∷_}
+use mathlib.Core.Option.{Option, none, some}
+use Prim.Native.Nat.{ℕ, _+_}
+use lib.Dec.{leb, eqb}
+use Rattle.fields.specs.Lists.{sum, all}
+use Rattle.format.specs.References.{Ref}
+use Rattle.format.specs.Bodies.{named}
+use Rattle.format.specs.Items.{Item}
+use Rattle.format.specs.Names.{View, extentRecord, reference, unrelated, malformed, viewOf}
+use Rattle.balance.specs.Runs.{start, sound}
+
+-- of the extent at hand: whether its record stood, the record's references and total, and the weight of all references so far
+pub record Tally : Type 0 where
+  pub extent : ℕ
+  pub marked : Bool
+  pub refs : List Ref
+  pub total : ℕ
+  pub weight : ℕ
+
+abbrev pub fresh : ℕ → Tally
+fresh extent = record { extent = extent; marked = false; refs = []; total = 0; weight = 0 }
+
+abbrev pub weightIn : Ref → ℕ
+weightIn r = r .weight
+
+unfoldable pub closed : Tally → Bool
+closed t = eqb (t .total) (t .weight)
+
+-- no inline reference has the name
+unfoldable pub unnamed : List Ref → Ref → Bool
+unnamed refs r = all (λ s. not (named (r .kind) (r .fields) s)) refs
+
+-- an item of the extent at hand
+unfoldable pub taken : Tally → View → Option Tally
+taken t (extentRecord b) =
+    cond (not (t .marked) && sound start (b .refs))
+    (some (record { extent = t .extent; marked = true; refs = b .refs; total = b .total; weight = sum weightIn (b .refs) })) none
+taken t (reference r) =
+    cond (t .marked && (leb 1 (r .weight) && unnamed (t .refs) r))
+    (some (record { extent = t .extent; marked = t .marked; refs = t .refs; total = t .total; weight = t .weight + r .weight })) none
+taken t unrelated = some t
+taken t malformed = none
+
+unfoldable pub here : Tally → Item → Bool
+here t i = eqb (i .key .objectid) (t .extent)
+
+-- the extent of an item is at hand, or the last one is closed
+unfoldable pub entered : Tally → Item → Bool
+entered t i = here t i || closed t
+
+unfoldable pub entry : Tally → Item → Tally
+entry t i = cond (here t i) t (fresh (i .key .objectid))
+
+abbrev pub onward : (Tally → Bool) → Option Tally → Bool
+onward rest none = false
+onward rest (some t) = rest t
+
+unfoldable pub pass : List Item → Tally → Bool
+pass [] t = closed t
+pass (i ∷ items) t = entered t i && onward (pass items) (taken (entry t i) (viewOf i))

@@ -1,7 +1,0 @@
-pub mod SideBySide
-pub mod Sorted
-pub mod Parts
-pub mod Says
-pub mod Extents
-pub mod Taking
-pub mod Passing

@@ -1,3 +1,0 @@
-pub mod SideBySide
-pub mod Runs
-pub mod Tally

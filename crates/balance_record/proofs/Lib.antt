@@ -1,2 +1,0 @@
-pub mod Admits
-pub mod Weighs

@@ -1,4 +1,0 @@
-// Copies of lent bytes of any length, in blocks.
-mod appending;
-
-pub use appending::append;

@@ -1,6 +1,0 @@
-pub mod Stands
-pub mod Plans
-pub mod Turns
-pub mod Rewrites
-pub mod Behind
-pub mod Puts

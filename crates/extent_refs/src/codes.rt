@@ -1,0 +1,120 @@
+// Answers as numbers: the code is returned, the result's numbers are lent, and they are 0 without a result.
+ghost use mathlib.Core.Path.{_≡_};
+ghost use Rattle.extent_refs.specs.Exports.{editedCode, editedSize, takenCode, takenSize, takenCount, toldCode, toldNumber, filedCode, filedObjectid, filedKind, filedOffset, judgedCode, judgedNumber, pickedCode, pickedKind, pickedOffset, pickedStart, pickedLen};
+use format::Edited;
+use format::Filed;
+use format::Judged;
+use format::Picked;
+use format::Taken;
+use format::Told;
+
+const ACCEPTED: u32 = 0;
+
+const ABSENT: u32 = 100;
+
+const REMOVE: u32 = 101;
+
+pub fn put_edited(answer: Edited, len: &mut u64) -> u32
+    ensures { λ r. ⌜ (r ≡ editedCode answer) × (now (len .exit) ≡ editedSize answer) ⌝ }
+{
+    *len = 0;
+    match answer {
+        Edited::Written(size) => {
+            *len = size as u64;
+            ACCEPTED
+        }
+        Edited::Absent => ABSENT,
+        Edited::Remove => REMOVE,
+        Edited::Refused(number) => number,
+    }
+}
+
+pub fn put_taken(answer: Taken, size: &mut u64, count: &mut u64) -> u32
+    ensures { λ r. ⌜ (r ≡ takenCode answer) × (now (size .exit) ≡ takenSize answer) × (now (count .exit) ≡ takenCount answer) ⌝ }
+{
+    *size = 0;
+    *count = 0;
+    match answer {
+        Taken::Written {
+            size: written,
+            count: counted,
+        } => {
+            *size = written as u64;
+            *count = counted as u64;
+            ACCEPTED
+        }
+        Taken::Absent => ABSENT,
+        Taken::Refused(number) => number,
+    }
+}
+
+pub fn put_told(answer: Told, value: &mut u64) -> u32
+    ensures { λ r. ⌜ (r ≡ toldCode answer) × (now (value .exit) ≡ toldNumber answer) ⌝ }
+{
+    *value = 0;
+    match answer {
+        Told::Value(number) => {
+            *value = number;
+            ACCEPTED
+        }
+        Told::Refused(number) => number,
+    }
+}
+
+pub fn put_filed(answer: Filed, objectid: &mut u64, kind: &mut u64, offset: &mut u64) -> u32
+    ensures { λ r. ⌜ (r ≡ filedCode answer) × (now (objectid .exit) ≡ filedObjectid answer) × (now (kind .exit) ≡ filedKind answer) × (now (offset .exit) ≡ filedOffset answer) ⌝ }
+{
+    *objectid = 0;
+    *kind = 0;
+    *offset = 0;
+    match answer {
+        Filed::Under(key) => {
+            *objectid = key.objectid;
+            *kind = key.kind as u64;
+            *offset = key.offset;
+            ACCEPTED
+        }
+        Filed::Refused(number) => number,
+    }
+}
+
+pub fn put_judged(answer: Judged, value: &mut u64) -> u32
+    ensures { λ r. ⌜ (r ≡ judgedCode answer) × (now (value .exit) ≡ judgedNumber answer) ⌝ }
+{
+    *value = 0;
+    match answer {
+        Judged::Says(judgement) => {
+            if judgement {
+                *value = 1;
+                return ACCEPTED;
+            }
+            ACCEPTED
+        }
+        Judged::Refused(number) => number,
+    }
+}
+
+pub fn put_picked(
+    answer: Picked,
+    kind: &mut u64,
+    offset: &mut u64,
+    start: &mut u64,
+    len: &mut u64,
+) -> u32
+    ensures { λ r. ⌜ (r ≡ pickedCode answer) × (now (kind .exit) ≡ pickedKind answer) × (now (offset .exit) ≡ pickedOffset answer) × (now (start .exit) ≡ pickedStart answer) × (now (len .exit) ≡ pickedLen answer) ⌝ }
+{
+    *kind = 0;
+    *offset = 0;
+    *start = 0;
+    *len = 0;
+    match answer {
+        Picked::Ref(reference) => {
+            *kind = reference.kind as u64;
+            *offset = reference.offset;
+            *start = reference.start as u64;
+            *len = reference.len as u64;
+            ACCEPTED
+        }
+        Picked::Refused(number) => number,
+    }
+}

@@ -1,3 +1,0 @@
-pub mod Running
-pub mod Filling
-pub mod Together

@@ -1,0 +1,166 @@
+-- A reference added to the record of an extent: from the record's place and the planned body to the change. Assumes nothing.
+use mathlib.Core.Path.{_≡_, refl, sym, ap, _∙_, subst}
+use mathlib.Core.Bool.{Bool, true, false, _||_}
+use mathlib.Core.List.{List}
+use Prim.Native.Nat.{ℕ, zero, suc, _+_, _-_}
+use native.Mathlib.Omega.{arith}
+use lib.Dec.{leb}
+use lib.ListN.{length}
+use Rattle.fields.specs.Lists.{all}
+use Rattle.format.specs.declared.Key.{Key}
+use Rattle.format.specs.declared.Keyed.{Keyed}
+use Rattle.format.specs.declared.Keyed.the-variants.{Block as KeyedBlock, Data as KeyedData}
+use Rattle.format.specs.declared.BlockRef.{BlockRef}
+use Rattle.format.specs.declared.SharedRef.{SharedRef}
+use Rattle.format.specs.declared.DataRef.{DataRef}
+use Rattle.format.specs.declared.Edited.{Edited}
+use Rattle.format.specs.Questions.{Answer, refused, absent, remove, accepted, ask, bind, also, Answered}
+use Rattle.format.specs.Bodies.{addInlineTreeRef, addInlineData, addInlineShared}
+use Rattle.format.specs.Items.{Item, heldSheet, putBack}
+use Rattle.format.specs.Apply.{inlineLimit, keyedBody, applyKeyedAdd, sharedBody, applySharedAdd}
+use Rattle.format.specs.Names.{Name}
+use Rattle.format.specs.Ledger.{notItsOwn, added, changed}
+use Rattle.inline_refs.specs.declared.wanted.Wanted.{Wanted}
+use Rattle.inline_refs.specs.declared.wanted.Wanted.the-variants.{Block, Data, SharedBlock, SharedData}
+use Rattle.inline_refs.specs.Scans.{kindOf, fieldsOf}
+use Rattle.item_list.specs.Steps.{itemAt, itemsOf}
+use Rattle.backref.specs.declared.plan.Plan.{Plan}
+use Rattle.backref.specs.declared.plan.Outcome.the-variants.{Refused}
+use Rattle.backref.specs.Plans.{planAnswer, Planned}
+use Rattle.backref.proofs.Outcomes.{plan-refused}
+use Rattle.record_edit.specs.Records.{dataOf, heldEdit}
+use Rattle.transaction.specs.Spots.{withBody}
+use Rattle.transaction.specs.Keyed.{limitFor}
+use Rattle.transaction.proofs.Spots.{Standing}
+use Rattle.transaction.proofs.Records.{put-answered}
+use Rattle.transaction.proofs.KeyedAdditions.{either}
+use Rattle.ledger.specs.Known.{nameIn}
+use Rattle.ledger.specs.Asked.{AskedAdd}
+use Rattle.ledger.specs.Adding.{sharedRef, addChange, addedBody, grownOnly}
+use Rattle.ledger.proofs.Alsos.{also-bind}
+use Rattle.ledger.proofs.Standings.{on-record}
+
+-- ---- the body
+
+module _ (i : Item) (w : Wanted) (amount : ℕ) (plan : Plan) where
+  pub body-block : (name : BlockRef) → w ≡ Block name → Planned plan (i .bytes) (addInlineTreeRef (i .key .kind) (i .bytes) name)
+      → Planned plan (i .bytes) (addedBody i w amount)
+  unfolding addedBody
+  body-block name e h = rw e h
+
+  pub body-zero : (name : DataRef) → w ≡ Data name → amount ≡ 0 → plan .outcome ≡ Refused 10 → Planned plan (i .bytes) (addedBody i w amount)
+  unfolding addedBody
+  body-zero name e z h = plan-refused plan (i .bytes) (addedBody i w amount) 10 h (rw (e, z) refl)
+
+  pub body-data : (name : DataRef) → w ≡ Data name → (amount ≡ 0 → ⊥) → Planned plan (i .bytes) (addInlineData (i .key .kind) (i .bytes) name amount)
+      → Planned plan (i .bytes) (addedBody i w amount)
+  unfolding addedBody
+  body-data name e n h = rw e (subst (Planned plan (i .bytes)) (go amount n) h)
+    where
+      go : (k : ℕ) → (k ≡ 0 → ⊥) → addInlineData (i .key .kind) (i .bytes) name k ≡ addedBody i (Data name) k
+      go zero n = absurd (n refl)
+      go (suc k) n = refl
+
+  pub body-shared-block : (parent : ℕ) → w ≡ SharedBlock parent → Planned plan (i .bytes) (addInlineShared (i .key .kind) (i .bytes) (sharedRef 182 parent) amount)
+      → Planned plan (i .bytes) (addedBody i w amount)
+  unfolding addedBody
+  body-shared-block parent e h = rw e h
+
+  pub body-shared-data : (parent : ℕ) → w ≡ SharedData parent → Planned plan (i .bytes) (addInlineShared (i .key .kind) (i .bytes) (sharedRef 184 parent) amount)
+      → Planned plan (i .bytes) (addedBody i w amount)
+  unfolding addedBody
+  body-shared-data parent e h = rw e h
+
+-- ---- the record
+
+module _ {s : List ℕ} {extent number start end n : ℕ} (st : Standing s extent true number start end n) where
+  abbrev hit : Item
+  hit = st .at-cut .hit
+
+  -- 9 and 10 come before 17
+  asked-first : (m : Name) (amount : ℕ) (a : Answer (List ℕ)) (test : List ℕ → Bool)
+      → added m amount (itemsOf s) (bind a (λ d. ask (test d) 17 (accepted (putBack (st .at-cut) d))))
+      ≡ bind (also (all (notItsOwn m) (itemsOf s)) 9 (also (leb 1 amount) 10 a)) (λ d. ask (test d) 17 (accepted (putBack (st .at-cut) d)))
+  unfolding added ask also
+  asked-first m amount a test =
+      ap (also (all (notItsOwn m) (itemsOf s)) 9) (also-bind (leb 1 amount) 10 a next (λ d. late (test d) 10 d refl))
+      ∙ also-bind (all (notItsOwn m) (itemsOf s)) 9 (also (leb 1 amount) 10 a) next (λ d. late (test d) 9 d refl)
+    where
+      next : List ℕ → Answer (List Item)
+      next d = ask (test d) 17 (accepted (putBack (st .at-cut) d))
+
+      late : (b : Bool) (k : ℕ) (d : List ℕ) → leb 17 k ≡ false → also false k (ask b 17 (accepted (putBack (st .at-cut) d))) ≡ refused k
+      late true k d h = refl
+      late false k d h = rw h refl
+
+  -- a name that has a tree, and a shared one
+  keyed-is : (nodesize amount : ℕ) (m : Name) (keyed : Keyed)
+      → added m amount (itemsOf s) (applyKeyedAdd nodesize extent keyed amount false (itemsOf s))
+      ≡ bind (also (all (notItsOwn m) (itemsOf s)) 9 (also (leb 1 amount) 10 (keyedBody hit keyed amount false)))
+      (λ d. ask (leb (length d) (length (hit .bytes)) || leb (length d) (inlineLimit nodesize)) 17 (accepted (putBack (st .at-cut) d)))
+  unfolding applyKeyedAdd
+  keyed-is nodesize amount m keyed =
+      ap (added m amount (itemsOf s)) (on-record st (λ c.
+      bind (keyedBody (c .hit) keyed amount false) (λ body.
+      ask (leb (length body) (length (c .hit .bytes)) || leb (length body) (inlineLimit nodesize)) 17 (accepted (putBack c body)))))
+      ∙ asked-first m amount (keyedBody hit keyed amount false) (λ d. leb (length d) (length (hit .bytes)) || leb (length d) (inlineLimit nodesize))
+
+  shared-is : (nodesize amount : ℕ) (m : Name) (name : SharedRef)
+      → added m amount (itemsOf s) (applySharedAdd nodesize extent name amount false (itemsOf s))
+      ≡ bind (also (all (notItsOwn m) (itemsOf s)) 9 (also (leb 1 amount) 10 (sharedBody hit name amount false)))
+      (λ d. ask (leb (length d) (inlineLimit nodesize)) 17 (accepted (putBack (st .at-cut) d)))
+  unfolding applySharedAdd
+  shared-is nodesize amount m name =
+      ap (added m amount (itemsOf s)) (on-record st (λ c.
+      bind (sharedBody (c .hit) name amount false) (λ body. ask (leb (length body) (inlineLimit nodesize)) 17 (accepted (putBack c body)))))
+      ∙ asked-first m amount (sharedBody hit name amount false) (λ d. leb (length d) (inlineLimit nodesize))
+
+  -- the limit that the change asks
+  abbrev within : ℕ → Wanted → List ℕ → Bool
+  within nodesize w d = leb (length d) (limitFor nodesize (length (hit .bytes)) (grownOnly w))
+
+  within-grown : (nodesize : ℕ) (a : Answer (List ℕ))
+      → bind a (λ d. ask (leb (length d) (length (hit .bytes)) || leb (length d) (inlineLimit nodesize)) 17 (accepted (putBack (st .at-cut) d)))
+      ≡ bind a (λ d. ask (leb (length d) (limitFor nodesize (length (hit .bytes)) true)) 17 (accepted (putBack (st .at-cut) d)))
+  unfolding bind limitFor
+  within-grown nodesize (refused k) = refl
+  within-grown nodesize absent = refl
+  within-grown nodesize remove = refl
+  within-grown nodesize (accepted d) =
+      ap (λ (b : Bool). ask b 17 (accepted (putBack (st .at-cut) d))) (either (length d) (length (hit .bytes)) (inlineLimit nodesize))
+
+  -- a block reference's amount is 1
+  add-is : (nodesize : ℕ) (w : Wanted) (amount : ℕ) → (kindOf w ≡ 176 → amount ≡ 1)
+      → changed nodesize (addChange extent w amount) (itemsOf s)
+      ≡ bind (also (all (notItsOwn (nameIn extent w)) (itemsOf s)) 9 (also (leb 1 amount) 10 (addedBody hit w amount)))
+      (λ d. ask (within nodesize w d) 17 (accepted (putBack (st .at-cut) d)))
+  unfolding changed addChange addedBody keyedBody sharedBody kindOf fieldsOf grownOnly limitFor also
+  add-is nodesize (Block name) amount h =
+      let e : amount ≡ 1 = h refl in
+      keyed-is nodesize 1 (nameIn extent (Block name)) (KeyedBlock name)
+      ∙ within-grown nodesize _
+      ∙ ap (λ (k : ℕ). bind (also (all (notItsOwn (nameIn extent (Block name))) (itemsOf s)) 9 (also (leb 1 k) 10 (addedBody hit (Block name) 1)))
+      (λ d. ask (within nodesize (Block name) d) 17 (accepted (putBack (st .at-cut) d)))) (sym e)
+  add-is nodesize (Data name) zero h = keyed-is nodesize 0 (nameIn extent (Data name)) (KeyedData name) ∙ within-grown nodesize _
+  add-is nodesize (Data name) (suc amount) h = keyed-is nodesize (suc amount) (nameIn extent (Data name)) (KeyedData name) ∙ within-grown nodesize _
+  add-is nodesize (SharedBlock parent) amount h = shared-is nodesize amount (nameIn extent (SharedBlock parent)) (record { kind = 182; parent = parent })
+  add-is nodesize (SharedData parent) amount h = shared-is nodesize amount (nameIn extent (SharedData parent)) (record { kind = 184; parent = parent })
+
+  pub add-answered : (nodesize : ℕ) (w : Wanted) (amount room : ℕ) → (kindOf w ≡ 176 → amount ≡ 1)
+      → (key : Key) (limit : ℕ) (grown : Bool) (plan asked : Plan) (r : Edited) (old new : List ℕ)
+      → key ≡ itemAt s start .key
+      → grown ≡ grownOnly w
+      → limit ≡ limitFor nodesize (end - (start + 21)) grown
+      → Planned plan (dataOf s start end) (addedBody (record { key = key; bytes = dataOf s start end }) w amount)
+      → AskedAdd plan (all (notItsOwn (nameIn extent w)) (itemsOf s)) amount asked
+      → Answered (bind (planAnswer asked (dataOf s start end)) (heldEdit room n limit (withBody s start end))) r old new
+      → Answered (heldSheet room (changed nodesize (addChange extent w amount) (itemsOf s))) r old new
+  add-answered nodesize w amount room h key limit grown plan asked r old new key-is grown-is limit-is p q written =
+      let same : record { key = key; bytes = dataOf s start end } ≡ hit = (λ j. record { key = key-is j; bytes = dataOf s start end }) ∙ sym (st .hit-is) in
+      let long : end - (start + 21) ≡ length (hit .bytes) = let a = st .starts in let b = st .ends in omega arith in
+      let limits : limit ≡ limitFor nodesize (length (hit .bytes)) (grownOnly w) = limit-is ∙ (λ j. limitFor nodesize (long j) (grown-is j)) in
+      let own : Bool = all (notItsOwn (nameIn extent w)) (itemsOf s) in
+      put-answered st room limit asked (also own 9 (also (leb 1 amount) 10 (addedBody hit w amount))) (within nodesize w) _ r old new
+      (λ d f. ap (leb (length d)) (sym limits)) (add-is nodesize w amount h)
+      (q .says (dataOf s start end) ∙ ap (λ (a : Answer (List ℕ)). also own 9 (also (leb 1 amount) 10 a)) (p .says ∙ ap (λ (i : Item). addedBody i w amount) same))
+      written

@@ -1,0 +1,69 @@
+-- The item at a name's key, in the bytes of a balanced sheet. Assumes nothing.
+use mathlib.Core.Path.{_≡_, sym, ap, _∙_, subst}
+use mathlib.Core.Bool.{Bool, true, not}
+use mathlib.Core.List.{List}
+use Prim.Native.Nat.{ℕ, _+_, _≤_}
+use native.Mathlib.Omega.{arith}
+use lib.Dec.{T}
+use lib.ListN.{length}
+use Rattle.fields.specs.Lists.{all, Cut}
+use Rattle.fields.specs.Numbers.{areBytes}
+use Rattle.fields.proofs.Lists.{all-mid, Found, cut-some}
+use Rattle.format.specs.References.{placeOf}
+use Rattle.format.specs.Items.{Item, keyOf}
+use Rattle.format.specs.Sheets.{hasKey}
+use Rattle.format.specs.Names.{good}
+use Rattle.format.specs.Ledger.{notItsOwn}
+use Rattle.format.proofs.Items.{sane}
+use Rattle.theorems.proofs.Edit.{balanced-out}
+use Rattle.inline_refs.specs.declared.wanted.Wanted.{Wanted}
+use Rattle.inline_refs.specs.Scans.{kindOf, fieldsOf}
+use Rattle.item_list.specs.declared.Sought.{Sought}
+use Rattle.item_list.specs.declared.Sought.the-variants.{Present, Absent}
+use Rattle.item_list.specs.Steps.{itemsOf}
+use Rattle.item_list.specs.Seeks.{seekIn}
+use Rattle.item_list.proofs.Reading.{Counted, counted}
+use Rattle.item_list.proofs.Places.{Sits, sits, Inside, inside}
+use Rattle.record_edit.specs.Records.{dataOf}
+use Rattle.record_edit.proofs.Places.{item-there}
+use Rattle.ledger.specs.Known.{BalancedList, nameIn, ownAt}
+use Rattle.ledger.proofs.Own.{ownKey, own-absent, own-found, data-long}
+
+pub record Seat (s : List ℕ) (extent : ℕ) (w : Wanted) (start end : ℕ) : Type 0 where
+  pub ordered : start + 21 ≤ end
+  pub within : end ≤ length s
+  pub long : kindOf w ≡ 178 → 24 ≤ length (dataOf s start end)
+  pub own : (b : Bool) → b ≡ ownAt w (dataOf s start end) → not b ≡ all (notItsOwn (nameIn extent w)) (itemsOf s)
+
+module _ (s : List ℕ) (n : ℕ) (t : T (areBytes s)) (known : BalancedList s n) (extent : ℕ) (w : Wanted) (kind offset : ℕ)
+    (kind-is : kind ≡ kindOf w) (offset-is : offset ≡ placeOf (kindOf w) (fieldsOf w)) where
+  count : Counted s n
+  count = counted s n t (known .checked)
+
+  sought : {r : Sought} → seekIn (keyOf extent kind offset) 1 (itemsOf s) ≡ r → seekIn (ownKey (nameIn extent w)) 1 (itemsOf s) ≡ r
+  sought e = sym (λ j. seekIn (keyOf extent (kind-is j) (offset-is j)) 1 (itemsOf s)) ∙ e
+
+  pub no-seat : (at : ℕ) → seekIn (keyOf extent kind offset) 1 (itemsOf s) ≡ Absent at → true ≡ all (notItsOwn (nameIn extent w)) (itemsOf s)
+  no-seat at e = own-absent (nameIn extent w) (itemsOf s) (count .sane-all) (count .rises) 1 at (sought e)
+
+  pub seat : (start end : ℕ) → seekIn (keyOf extent kind offset) 1 (itemsOf s) ≡ Present start end → Seat s extent w start end
+  seat start end e =
+      let t : Sits (ownKey (nameIn extent w)) (itemsOf s) 1 start end = sits (ownKey (nameIn extent w)) 1 (itemsOf s) start end (sought e) in
+      let d : Cut Item = t .at-cut in
+      let f : Found (hasKey (ownKey (nameIn extent w))) (itemsOf s) d = cut-some (hasKey (ownKey (nameIn extent w))) (itemsOf s) (t .is) in
+      let i : Inside s (d .front) (d .hit) start end =
+      inside s (itemsOf s) (d .front) (d .hit) (d .back) start end (count .bytes-are) (f .same) (t .stands) in
+      let sane-hit : T (sane (d .hit)) =
+      all-mid sane (d .front) (d .hit) (d .back) (subst (λ (l : List Item). T (all sane l)) (f .same) (count .sane-all)) in
+      let bytes-is : d .hit .bytes ≡ dataOf s start end =
+      ap (λ (x : Item). x .bytes) (item-there s (d .front) (d .hit) (d .back) start end (count .bytes-are) (f .same) sane-hit i) in
+      let g : T (good (d .hit)) =
+      all-mid good (d .front) (d .hit) (d .back) (subst (λ (l : List Item). T (all good l)) (f .same) (balanced-out (itemsOf s) (known .balance) .goods)) in
+      record {
+        ordered = i .ordered;
+        within = i .within;
+        long = λ k. let l : length (d .hit .bytes) ≡ 28 = data-long (itemsOf s) (count .sane-all) (count .rises) extent w d (t .is) g k in
+            let m : length (dataOf s start end) ≡ 28 = sym (ap length bytes-is) ∙ l in
+            omega (arith, m);
+        own = λ b h. own-found (itemsOf s) (count .sane-all) (count .rises) extent w d (t .is) g b (h ∙ ap (ownAt w) (sym bytes-is));
+      }

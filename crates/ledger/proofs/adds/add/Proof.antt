@@ -1,0 +1,57 @@
+use native.Mathlib.Omega.{arith}
+use mathlib.Core.Bool.{true}
+use lib.ListN.{length}
+use denote.Ref.{now}
+use Rattle.fields.proofs.Numbers.{areBytes-in}
+use Rattle.transaction.proofs.Spots.{Standing}
+use Rattle.ledger.proofs.Standings.{stood}
+use Rattle.ledger.proofs.Adding.{add-answered}
+use borrow.Author.Needs.{needs}
+use Rattle.ledger.proofs.adds.add.Statement.{statement}
+use Rattle.ledger.proofs.adds.add.Tie as tie
+
+-- the record stands
+found : (c : tie.After-slice-known) → Standing (now (c .before .before .args .sheet)) (c .before .before .args .extent) true (c .before .before .pre .1 .0 .number) (c .before .before .args .stand .start) (c .before .before .args .stand .end) (c .before .before .args .stand .items)
+found c =
+    let a = c .before .before .args in
+    stood _ _ _ _ _ (areBytes-in (now (a .sheet)) (λ i. c .before .shared-slice-known .given i .fits)) (c .before .before .pre .0) (c .before .before .pre .1 .0)
+
+key-at-requires : tie.Need-key-at-requires
+key-at-requires c κs = let d = found c in let p = d .ordered in let q = d .within in omega arith
+
+add-plan-add : tie.Need-add-plan-add
+add-plan-add c = let d = found (c .before) in let p = d .ordered in let q = d .within in omega arith
+
+sub-plan-add : tie.Need-sub-plan-add
+sub-plan-add c = let d = found (c .before) in let p = d .ordered in omega arith
+
+part-plan-add-start : tie.Need-part-plan-add-start
+part-plan-add-start c = let d = found (c .before) in let p = d .ordered in let q = d .within in omega arith
+
+part-plan-add-end : tie.Need-part-plan-add-end
+part-plan-add-end c = let d = found (c .before) in let p = d .ordered in let q = d .within in omega arith
+
+ask-add-requires : tie.Need-ask-add-requires
+ask-add-requires c κs = c .before .before .before .before .before .pre .0
+
+add-limit-for : tie.Need-add-limit-for
+add-limit-for c = let d = found (c .before .before .before .before) in let p = d .ordered in let q = d .within in omega arith
+
+sub-limit-for : tie.Need-sub-limit-for
+sub-limit-for c = let d = found (c .before .before .before .before) in let p = d .ordered in omega arith
+
+put-back-requires : tie.Need-put-back-requires
+put-back-requires c κs =
+    let d = found (c .before .before .before .before .before .before .before) in
+    (c .before .before .before .ask-add .ensures .inside _ (c .before .before .before .before .plan-add .ensures .inside), (d .ordered, d .within, d .small))
+
+returns : tie.Need-returns
+returns c =
+    let a = c .before .before .before .before .before .before .before .before .before .before .before .before .args in
+    add-answered (found (c .before .before .before .before .before .before .before .before .before .before)) (a .nodesize) (a .wanted) (a .amount) (length (now (a .out))) (c .before .before .before .before .before .before .before .before .before .before .before .before .pre .1 .1) _ _ _ _ _ _ (now (a .out)) _
+    (c .before .before .before .before .before .before .before .before .before .key-at .ensures) (c .before .before .before .before .before .grown-only .ensures) (c .before .before .before .before .limit-for .ensures) (c .before .before .before .before .before .before .before .plan-add .ensures) (c .before .before .before .before .before .before .ask-add .ensures) (c .before .before .put-back .ensures)
+
+pub add-spec : {M : Type 1} → statement M
+add-spec =
+    tie.close
+    (tie.spec key-at-requires add-plan-add sub-plan-add part-plan-add-start part-plan-add-end (λ c κs. search needs) ask-add-requires add-limit-for sub-limit-for (λ c κs. search needs) (λ c κs. search needs) put-back-requires (λ c. search needs) returns)

@@ -1,0 +1,44 @@
+// Question 9 of the ledger: has a name an item of its own?
+use format::Key;
+use inline_refs::Wanted;
+use item_list::Sought;
+ghost use mathlib.Core.Path.{_≡_};
+ghost use mathlib.Core.Bool.{true};
+ghost use Prim.Native.Nat.{_+_, _≤_};
+ghost use lib.ListN.{length};
+ghost use Rattle.fields.specs.Lists.{all};
+ghost use Rattle.format.specs.Ledger.{notItsOwn};
+ghost use Rattle.inline_refs.specs.Scans.{kindOf};
+ghost use Rattle.item_list.specs.Steps.{itemsOf};
+ghost use Rattle.ledger.specs.Known.{BalancedList, nameIn, ownAt};
+
+// Whether an item with these bytes that stands there is of that name. Two triples may have one hash.
+fn is_own(wanted: Wanted, bytes: &[u8]) -> bool
+    requires { ⌜ (kindOf wanted ≡ 178 → 24 ≤ length (now bytes)) ⌝ }
+    ensures { λ r. ⌜ r ≡ ownAt wanted (now (bytes .entry)) ⌝ }
+{
+    match wanted {
+        Wanted::Block(_) => true,
+        Wanted::Data(name) => inline_refs::names_triple(name, bytes, 0),
+        Wanted::SharedBlock(_) => true,
+        Wanted::SharedData(_) => true,
+    }
+}
+
+pub fn has_none(sheet: &[u8], items: usize, extent: u64, wanted: Wanted) -> bool
+    requires { ⌜ BalancedList (now sheet) items ⌝ }
+    ensures { λ r. ⌜ r ≡ all (notItsOwn (nameIn extent wanted)) (itemsOf (now (sheet .entry))) ⌝ }
+{
+    let key = Key {
+        objectid: extent,
+        kind: inline_refs::kind_of(wanted),
+        offset: inline_refs::own_place(wanted),
+    };
+    let sought = item_list::seek(sheet, key);
+    match sought {
+        Sought::Absent { at: _ } => return true,
+        Sought::Present { start, end } => {
+            return !is_own(wanted, &sheet[start + 21..end]);
+        }
+    }
+}

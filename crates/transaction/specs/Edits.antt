@@ -1,0 +1,51 @@
+-- The two edits of a drop: the record's body, and an item behind the record. Assumes nothing.
+use mathlib.Core.Bool.{cond}
+use mathlib.Core.List.{List}
+use Prim.Native.Nat.{ℕ, _-_}
+use lib.Bits.{bitOr}
+use lib.Dec.{ltb}
+use lib.ListN.{length, replicate}
+use Rattle.fields.specs.Numbers.{le, leBytes}
+use Rattle.fields.specs.Parts.{part, written}
+use Rattle.format.specs.Questions.{Answer, refused, absent, remove, accepted, bind}
+use Rattle.item_list.specs.declared.Sought.{Sought}
+use Rattle.item_list.specs.declared.Sought.the-variants.{Present, Absent}
+use Rattle.backref.specs.declared.plan.Plan.{Plan}
+use Rattle.backref.specs.Plans.{planAnswer}
+use Rattle.record_edit.specs.declared.Behind.{Behind}
+use Rattle.record_edit.specs.declared.RecordAt.{RecordAt}
+use Rattle.record_edit.specs.Records.{dataOf, editedSheet, heldRecord}
+
+-- nothing changes behind it; an item goes; the last four bytes of an item are another count
+abbrev pub nothing : ℕ → Behind
+nothing size = record { from = size; to = size; new = replicate 4 0; size = 0 }
+
+abbrev pub gone : ℕ → ℕ → Behind
+gone from to = record { from = from; to = to; new = replicate 4 0; size = 0 }
+
+abbrev pub counts : ℕ → ℕ → Behind
+counts to count = record { from = to - 4; to = to; new = leBytes 4 count; size = 4 }
+
+-- question 21 of the list with the planned body and the second edit
+abbrev pub heldPlan : ℕ → ℕ → List ℕ → RecordAt → Plan → Behind → Answer (List ℕ)
+heldPlan room count s target plan b =
+    bind (planAnswer plan (dataOf s (target .start) (target .end))) (λ body.
+    heldRecord room count (length body) (editedSheet s target b body))
+
+-- an item that stands before the end of the record is none of its extent's references
+unfoldable pub behindOf : ℕ → Sought → Sought
+behindOf end (Present from to) = cond (ltb from end) (Absent from) (Present from to)
+behindOf end (Absent at) = Absent at
+
+-- the same by the answer of an item's own drop: the item goes, or counts one less
+unfoldable pub heldAt : ℕ → List ℕ → RecordAt → ℕ → ℕ → Answer (List ℕ) → List ℕ → Answer (List ℕ)
+heldAt room s target from to (refused number) body = refused number
+heldAt room s target from to absent body = absent
+heldAt room s target from to remove body =
+    heldRecord room (target .«item_count» - 1) (length body) (editedSheet s target (gone from to) body)
+heldAt room s target from to (accepted item) body =
+    heldRecord room (target .«item_count») (length body) (editedSheet s target (counts to (le (part (to - 4) 4 s) - 1)) body)
+
+-- the own-flag, 256, in the flags that stand at a position
+abbrev pub ownAt : ℕ → List ℕ → List ℕ
+ownAt at bytes = written at (leBytes 8 (bitOr (le (part at 8 bytes)) 256)) bytes

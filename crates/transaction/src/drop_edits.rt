@@ -1,0 +1,136 @@
+// What a drop writes: the record with a planned body, and behind it all as it was, an item gone or an item that counts less.
+use backref::Plan;
+use format::Edited;
+use format::Key;
+use item_list::Sought;
+use record_edit::Behind;
+use record_edit::RecordAt;
+ghost use mathlib.Core.Path.{_≡_};
+ghost use Prim.Native.Nat.{_+_, _-_, _≤_};
+ghost use lib.ListN.{length};
+ghost use Rattle.fields.specs.Numbers.{leBytes};
+ghost use Rattle.format.specs.Questions.{Answered};
+ghost use Rattle.item_list.specs.Steps.{Listed, itemsOf};
+ghost use Rattle.item_list.specs.Seeks.{seekIn};
+ghost use Rattle.backref.specs.Plans.{PlanIn};
+ghost use Rattle.record_edit.specs.Records.{dataOf, BehindIn};
+ghost use Rattle.transaction.specs.Edits.{nothing, gone, counts, heldPlan, behindOf};
+
+// Where the item of a reference stands. Its key is above that of its extent's record, so it stands behind it.
+pub fn item_behind(sheet: &[u8], end: usize, key: Key) -> Sought
+    requires { ⌜ Listed (now sheet) ⌝ }
+    ensures { λ r. ⌜ r ≡ behindOf end (seekIn key 1 (itemsOf (now (sheet .entry)))) ⌝ }
+{
+    let sought = item_list::seek(sheet, key);
+    match sought {
+        Sought::Absent { at } => Sought::Absent { at },
+        Sought::Present { start, end: to } => {
+            if start < end {
+                return Sought::Absent { at: start };
+            }
+            Sought::Present { start, end: to }
+        }
+    }
+}
+
+// No limit is asked: a planned body has at most 65,564 bytes.
+fn put(
+    sheet: &[u8],
+    target: RecordAt,
+    plan: Plan,
+    behind: Behind,
+    count: usize,
+    out: &mut [u8],
+) -> Edited
+    requires { ⌜ PlanIn plan (dataOf (now sheet) (target .start) (target .end)) ⌝ }
+    requires { ⌜ BehindIn behind (target .end) (now sheet) ⌝ }
+    requires { ⌜ (target .start + 21 ≤ target .end) × (length (now sheet) ≤ 262144) ⌝ }
+    ensures { λ r. ⌜ Answered (heldPlan (length (now (out .entry))) count (now (sheet .entry)) target plan behind) r (now (out .entry)) (now (out .exit)) ⌝ }
+{
+    record_edit::edit_record(sheet, target, plan, behind, 65564, count, out)
+}
+
+// The record alone changes.
+pub fn put_record(sheet: &[u8], target: RecordAt, plan: Plan, out: &mut [u8]) -> Edited
+    requires { ⌜ PlanIn plan (dataOf (now sheet) (target .start) (target .end)) ⌝ }
+    requires { ⌜ (target .start + 21 ≤ target .end) × (target .end ≤ length (now sheet)) × (length (now sheet) ≤ 262144) ⌝ }
+    ensures { λ r. ⌜ Answered (heldPlan (length (now (out .entry))) (target .«item_count») (now (sheet .entry)) target plan (nothing (length (now (sheet .entry))))) r (now (out .entry)) (now (out .exit)) ⌝ }
+{
+    let n = sheet.len();
+    let behind = Behind {
+        from: n,
+        to: n,
+        new: [0; 4],
+        size: 0,
+    };
+    put(sheet, target, plan, behind, target.item_count, out)
+}
+
+fn one_less(items: usize) -> usize
+    ensures { λ r. ⌜ r ≡ items - 1 ⌝ }
+{
+    if items == 0 {
+        return 0;
+    }
+    items - 1
+}
+
+// With it goes the item that stands from `from` up to `to`.
+pub fn put_without(
+    sheet: &[u8],
+    target: RecordAt,
+    plan: Plan,
+    from: usize,
+    to: usize,
+    out: &mut [u8],
+) -> Edited
+    requires { ⌜ PlanIn plan (dataOf (now sheet) (target .start) (target .end)) ⌝ }
+    requires { ⌜ (target .start + 21 ≤ target .end) × (target .end ≤ from) × (from ≤ to) × (to ≤ length (now sheet)) × (length (now sheet) ≤ 262144) ⌝ }
+    ensures { λ r. ⌜ Answered (heldPlan (length (now (out .entry))) (target .«item_count» - 1) (now (sheet .entry)) target plan (gone from to)) r (now (out .entry)) (now (out .exit)) ⌝ }
+{
+    let behind = Behind {
+        from,
+        to,
+        new: [0; 4],
+        size: 0,
+    };
+    put(
+        sheet,
+        target,
+        plan,
+        behind,
+        one_less(target.item_count),
+        out,
+    )
+}
+
+// A number of four bytes.
+fn count_bytes(count: u32) -> [u8; 4]
+    ensures { λ r. ⌜ r ≡ leBytes 4 count ⌝ }
+{
+    let mut new = [0; 4];
+    fields::put_u32_le(&mut new, 0, count);
+    new
+}
+
+// With it the item that ends at `to` gets another count in its last four bytes.
+pub fn put_count(
+    sheet: &[u8],
+    target: RecordAt,
+    plan: Plan,
+    to: usize,
+    count: u32,
+    out: &mut [u8],
+) -> Edited
+    requires { ⌜ PlanIn plan (dataOf (now sheet) (target .start) (target .end)) ⌝ }
+    requires { ⌜ (target .start + 21 ≤ target .end) × (target .end + 4 ≤ to) × (to ≤ length (now sheet)) × (length (now sheet) ≤ 262144) ⌝ }
+    ensures { λ r. ⌜ Answered (heldPlan (length (now (out .entry))) (target .«item_count») (now (sheet .entry)) target plan (counts to count)) r (now (out .entry)) (now (out .exit)) ⌝ }
+{
+    let behind = Behind {
+        from: to - 4,
+        to,
+        new: count_bytes(count),
+        size: 4,
+    };
+    put(sheet, target, plan, behind, target.item_count, out)
+}
