@@ -80,60 +80,15 @@ fn append_few(src: &[u8], dst: &mut [u8], at: usize)
     }
 }
 
-// The first blocks of a run, up to 320 bytes before its end. A write to a line that is not in the nearest cache waits for it,
-// so a byte 256 further on is read first; the bytes read add nothing to the result, but a compiler would drop the reads if nothing
-// used them. Returns how many bytes were copied; how many is left open on purpose, here and in the two functions below: the caller
-// copies the rest, whatever it is.
-fn append_ahead(src: &[u8], dst: &mut [u8], at: usize) -> usize
-    requires { ⌜ (length (now src) ≤ 262144) × (at + length (now src) ≤ length (now dst)) ⌝ }
-    ensures { λ r. ⌜ (r ≤ length (now (src .entry))) × (now (dst .exit) ≡ written at (part 0 r (now (src .entry))) (now (dst .entry))) ⌝ }
-{
-    let mut i = 0;
-    let mut ahead: u32 = 0;
-    while i + 320 < src.len() {
-        ahead += dst[at + i + 256] as u32;
-        copy_64(src, i, dst, at + i);
-        i += 64;
-    }
-    i + (ahead / 1048576) as usize
-}
-
-// The first two blocks of a run, so that those after them begin at a multiple of 16 in the output. Returns how many bytes were
-// copied.
-fn append_first(src: &[u8], dst: &mut [u8], at: usize) -> usize
-    requires { ⌜ (128 ≤ length (now src)) × (at + length (now src) ≤ length (now dst)) ⌝ }
-    ensures { λ r. ⌜ (r ≤ length (now (src .entry))) × (now (dst .exit) ≡ written at (part 0 r (now (src .entry))) (now (dst .entry))) ⌝ }
-{
-    let second = 64 - at % 16;
-    copy_64(src, 0, dst, at);
-    copy_64(src, second, dst, at + second);
-    second + 64
-}
-
-// The first blocks of a long run. A move of 16 bytes that begins at a multiple of 16 never lies over two lines of the cache, and the
-// memory of an output mostly begins at such a multiple. This matters for lines that are not near; a run of up to 16 KiB fits the
-// nearest cache with its source. Returns how many bytes were copied.
-fn append_far(src: &[u8], dst: &mut [u8], at: usize) -> usize
-    requires { ⌜ (length (now src) ≤ 262144) × (at + length (now src) ≤ length (now dst)) ⌝ }
-    ensures { λ r. ⌜ (r ≤ length (now (src .entry))) × (now (dst .exit) ≡ written at (part 0 r (now (src .entry))) (now (dst .entry))) ⌝ }
-{
-    if src.len() <= 16384 {
-        return append_ahead(src, dst, at);
-    }
-    let first = append_first(src, dst, at);
-    first + append_ahead(&src[first..src.len()], dst, at + first)
-}
-
-// More than 64 bytes.
+// 64 bytes or more. All blocks but the first and the last begin at a multiple of 16 in the output, whose memory mostly begins at
+// such a multiple: an aligned store of 16 bytes never touches two cache lines.
 fn append_many(src: &[u8], dst: &mut [u8], at: usize)
-    requires { ⌜ (64 ≤ length (now src)) × (length (now src) ≤ 262144) × (at + length (now src) ≤ length (now dst)) ⌝ }
+    requires { ⌜ (64 ≤ length (now src)) × (at + length (now src) ≤ length (now dst)) ⌝ }
     ensures { λ _. ⌜ now (dst .exit) ≡ written at (now (src .entry)) (now (dst .entry)) ⌝ }
 {
     let n = src.len();
-    let mut i = 0;
-    if 2048 < n {
-        i = append_far(src, dst, at);
-    }
+    copy_64(src, 0, dst, at);
+    let mut i = 64 - at % 16;
     while i + 64 < n {
         copy_64(src, i, dst, at + i);
         i += 64;

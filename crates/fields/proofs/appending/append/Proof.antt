@@ -1,7 +1,5 @@
 use mathlib.Core.Path.{refl}
-use Prim.Native.Nat.{_≤_}
 use native.Mathlib.Omega.{arith}
-use lib.ListN.{length}
 use denote.Ref.{now}
 use Rattle.fields.proofs.Parts.{copied-ends}
 use borrow.Author.Needs.{needs}
@@ -14,9 +12,7 @@ returns-2 c =
     let first = second .before .before .before .before in
     let start = first .before .before .before .before .before .before in
     let a = start .args in
-    let long : 16 ≤ length (now (a .src)) = omega arith in
-    let short : length (now (a .src)) ≤ 32 = omega arith in
-    (refl, copied-ends (a .at) 16 (now (a .src)) (now (a .dst)) _ _ long short (start .pre .1) (first .copy-16 .ensures) (second .copy-162 .ensures))
+    (refl, copied-ends (a .at) 16 (now (a .src)) (now (a .dst)) _ _ (omega arith) (omega arith) (start .pre .1) (first .copy-16 .ensures) (second .copy-162 .ensures))
 
 returns-3 : tie.Need-returns-3
 returns-3 c =
@@ -24,9 +20,7 @@ returns-3 c =
     let first = second .before .before .before .before in
     let start = first .before .before .before .before .before .before .before in
     let a = start .args in
-    let long : 32 ≤ length (now (a .src)) = omega arith in
-    let short : length (now (a .src)) ≤ 64 = omega arith in
-    (refl, copied-ends (a .at) 32 (now (a .src)) (now (a .dst)) _ _ long short (start .pre .1) (first .copy-32 .ensures) (second .copy-322 .ensures))
+    (refl, copied-ends (a .at) 32 (now (a .src)) (now (a .dst)) _ _ (omega arith) (omega arith) (start .pre .1) (first .copy-32 .ensures) (second .copy-322 .ensures))
 
 pub append-spec : {M : Type 1} → statement M
 append-spec =

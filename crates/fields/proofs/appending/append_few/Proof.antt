@@ -16,9 +16,7 @@ returns c =
     let first = second .before .before .before .before in
     let start = first .before .before .before .before .before in
     let a = start .args in
-    let long : 8 ≤ length (now (a .src)) = omega arith in
-    let short : length (now (a .src)) ≤ 16 = omega arith in
-    copied-ends (a .at) 8 (now (a .src)) (now (a .dst)) _ _ long short (start .pre .1) (first .copy-8 .ensures) (second .copy-82 .ensures)
+    copied-ends (a .at) 8 (now (a .src)) (now (a .dst)) _ _ (omega arith) (omega arith) (start .pre .1) (first .copy-8 .ensures) (second .copy-82 .ensures)
 
 returns-2 : tie.Need-returns-2
 returns-2 c =
@@ -26,9 +24,7 @@ returns-2 c =
     let first = second .before .before .before .before in
     let start = first .before .before .before .before .before .before in
     let a = start .args in
-    let long : 4 ≤ length (now (a .src)) = omega arith in
-    let short : length (now (a .src)) ≤ 8 = omega arith in
-    copied-ends (a .at) 4 (now (a .src)) (now (a .dst)) _ _ long short (start .pre .1) (first .copy-4 .ensures) (second .copy-42 .ensures)
+    copied-ends (a .at) 4 (now (a .src)) (now (a .dst)) _ _ (omega arith) (omega arith) (start .pre .1) (first .copy-4 .ensures) (second .copy-42 .ensures)
 
 returns-3 : tie.Need-returns-3
 returns-3 c =
@@ -36,9 +32,7 @@ returns-3 c =
     let first = second .before .before .before .before in
     let start = first .before .before .before .before .before .before .before in
     let a = start .args in
-    let long : 2 ≤ length (now (a .src)) = omega arith in
-    let short : length (now (a .src)) ≤ 4 = omega arith in
-    copied-ends (a .at) 2 (now (a .src)) (now (a .dst)) _ _ long short (start .pre .1) (first .copy-2 .ensures) (second .copy-22 .ensures)
+    copied-ends (a .at) 2 (now (a .src)) (now (a .dst)) _ _ (omega arith) (omega arith) (start .pre .1) (first .copy-2 .ensures) (second .copy-22 .ensures)
 
 returns-4 : tie.Need-returns-4
 returns-4 c =
