@@ -5,8 +5,7 @@ use mathlib.Core.List.{List, [], _∷_}
 use Prim.Native.Nat.{ℕ, zero, suc, _+_, _-_, _≤_, _<_}
 use native.Mathlib.Numerals.{add-one}
 use native.Mathlib.Omega.{arith}
-use lib.Dec.{T, leb, eqb, leb→le}
-use mir.Facts.{and-yes}
+use lib.Dec.{T, leb, eqb}
 use lib.ListN.{length, drop, getD}
 use borrow.Author.Tests.{le-leb, lt-leb}
 use Rattle.fields.proofs.Lists.{and-true, and-false}
@@ -203,14 +202,6 @@ module _ (s : List ℕ) where
   pub sheet-read : opensList s ≡ true → readSheet s ≡ bind (readItems 4096 (drop 1 s)) (λ items. ask (rising items) 2 (accepted items))
   unfolding ask
   sheet-read h = sheet-opens s ∙ rw h
-
-pub opens-short : (s : List ℕ) → opensList s ≡ true → length s ≤ 262144
-unfolding opensList
-opens-short [] h = omega arith
-opens-short (v ∷ s) h =
-    let t : length (v ∷ s) ≡ 1 + length s = omega arith in
-    let k : 1 + length s ≤ 262144 = leb→le (1 + length s) 262144 (and-yes (eqb v 1) _ (subst T (sym h) tt) .1) in
-    omega (arith, t, k)
 
 -- ---- from the answer of `find` back
 

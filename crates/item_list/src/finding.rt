@@ -2,8 +2,7 @@
 ghost use mathlib.Core.Path.{_≡_};
 ghost use mathlib.Core.Bool.{_&&_, cond};
 ghost use mathlib.Core.List.{[]};
-ghost use Prim.Native.Nat.{_≤_};
-ghost use lib.ListN.{length, drop};
+ghost use lib.ListN.{drop};
 ghost use Rattle.format.specs.Questions.{bind, ask, accepted};
 ghost use Rattle.format.specs.Items.{readItems, readSheet, rising};
 ghost use Rattle.format.specs.Apply.{recordOf};
@@ -75,37 +74,21 @@ fn first_of(place: Place, wanted: Wanted, n: usize, key: Key, at: usize, next: u
     }
 }
 
-// Two bytes that stand further on, added. Where an item stands is known only once the one before it was read, so that each would
-// be waited for if the list is far from the processor; reads 512 bytes ahead fetch what comes, meanwhile. There are two because
-// the lines of a cache are 64 bytes and most items are longer: one byte an item would leave out some lines. Which bytes they are is
-// left open on purpose: the sum is so small that it adds nothing to any answer.
-pub fn bytes_ahead(s: &[u8], at: usize) -> u32
-    requires { ⌜ (at ≤ length (now s)) × (length (now s) ≤ 262144) ⌝ }
-    ensures { λ r. ⌜ r ≤ 510 ⌝ }
-{
-    if at + 576 < s.len() {
-        return (s[at + 512] as u32) + (s[at + 576] as u32);
-    }
-    0
-}
-
-// The answer after `n` items. The bytes read ahead add nothing to the count; a compiler would drop the reads if nothing used them.
-fn listing(ordered: bool, n: usize, ahead: u32, place: Place) -> Listing
-    requires { ⌜ ahead ≤ 2088960 ⌝ }
+// The answer after `n` items.
+fn listing(ordered: bool, n: usize, place: Place) -> Listing
     ensures { λ r. ⌜ r ≡ verdictOf ordered n place ⌝ }
 {
-    let count = n + (ahead / 2097152) as usize;
     if ordered {
         match place {
             Place::At { number, start, end } => {
                 return Listing::Found {
-                    count,
+                    count: n,
                     number,
                     start,
                     end,
                 };
             }
-            Place::Missing => return Listing::Missing { count },
+            Place::Missing => return Listing::Missing { count: n },
         }
     }
     Listing::Refused(2)
@@ -114,13 +97,11 @@ fn listing(ordered: bool, n: usize, ahead: u32, place: Place) -> Listing
 // The items after the version byte. A fault in a later item is refusal 1 even where keys fell before it or the wanted item stands
 // before it.
 fn walk(s: &[u8], wanted: Wanted) -> Listing
-    requires { ⌜ length (now s) ≤ 262144 ⌝ }
     ensures { λ r. ⌜ r ≡ listingOf (passing wanted) (bind (readItems 4096 (drop 1 (now (s .entry)))) (λ items. ask (rising items) 2 (accepted items))) ⌝ }
 {
     let mut at: usize = 1;
     let mut n: usize = 0;
     let mut ordered = true;
-    let mut ahead: u32 = 0;
     let mut place = Place::Missing;
     let mut last = Key {
         objectid: 0,
@@ -130,13 +111,12 @@ fn walk(s: &[u8], wanted: Wanted) -> Listing
     while n < 4096 {
         let step = stepping::step_at(s, at);
         match step {
-            Step::End => return listing(ordered, n, ahead, place),
+            Step::End => return listing(ordered, n, place),
             Step::Broken => return Listing::Refused(1),
             Step::Whole { next } => {
                 let key = stepping::key_at(s, at);
                 ordered = follows(ordered, n, last, key);
                 place = first_of(place, wanted, n, key, at, next);
-                ahead += bytes_ahead(s, at);
                 last = key;
                 at = next;
                 n += 1;
@@ -146,7 +126,7 @@ fn walk(s: &[u8], wanted: Wanted) -> Listing
     if at < s.len() {
         return Listing::Refused(1);
     }
-    listing(ordered, n, ahead, place)
+    listing(ordered, n, place)
 }
 
 // Question 1 before the items: version and length.

@@ -8,7 +8,6 @@ mod stepping;
 
 pub use checking::check;
 pub use checking::nodesize_fits;
-pub use finding::bytes_ahead;
 pub use finding::find;
 use format::Key;
 pub use search::seek;

@@ -52,8 +52,7 @@ fn choose(best: Cutting, leaves: usize) -> Division
 }
 
 // `left` and `right` are what the leaves of a cut before item `i` take; `used` is what the last of the leaves filled from the
-// left takes, and `leaves` how many follow the first. The bytes read ahead (see `bytes_ahead`) add nothing to that number; a
-// compiler would drop the reads if nothing used them.
+// left takes, and `leaves` how many follow the first.
 pub fn measure(s: &[u8], nodesize: usize, count: usize) -> Division
     requires { ⌜ Sized (now s) count × (nodesize ≤ 65536) ⌝ }
     ensures { λ r. ⌜ Divided nodesize (itemsOf (now (s .entry))) r ⌝ }
@@ -65,11 +64,10 @@ pub fn measure(s: &[u8], nodesize: usize, count: usize) -> Division
     let mut best = Cutting::Nowhere;
     let mut used: usize = 101;
     let mut leaves: usize = 0;
-    let mut ahead: u32 = 0;
     loop {
         let step = item_list::step_at(s, at);
         match step {
-            Step::End => return choose(best, leaves + (ahead / 2097152) as usize),
+            Step::End => return choose(best, leaves),
             Step::Broken => return Division::TooLarge,
             Step::Whole { next } => {
                 let space = next - at + 4;
@@ -79,7 +77,6 @@ pub fn measure(s: &[u8], nodesize: usize, count: usize) -> Division
                 best = improve(nodesize, left, right, i, best);
                 left += space;
                 right -= space;
-                ahead += item_list::bytes_ahead(s, at);
                 i += 1;
                 at = next;
                 if used + space <= nodesize {

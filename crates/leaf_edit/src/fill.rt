@@ -8,8 +8,7 @@ ghost use Rattle.item_list.specs.Steps.{itemsOf};
 ghost use Rattle.leaf_edit.specs.Division.{Sized};
 use item_list::Step;
 
-// The number of the first item of each later leaf. The bytes read ahead (see `bytes_ahead`) add nothing to it; a compiler would
-// drop the reads if nothing used them.
+// The number of the first item of each later leaf.
 pub fn fill_write(s: &[u8], nodesize: usize, count: usize, cuts: &mut [u16])
     requires { ⌜ Sized (now s) count × (nodesize ≤ 65536) × (length (filled nodesize 0 101 (itemsOf (now s))) ≤ length (now cuts)) ⌝ }
     ensures { λ _. ⌜ now (cuts .exit) ≡ written 0 (filled nodesize 0 101 (itemsOf (now (s .entry)))) (now (cuts .entry)) ⌝ }
@@ -18,7 +17,6 @@ pub fn fill_write(s: &[u8], nodesize: usize, count: usize, cuts: &mut [u16])
     let mut used: usize = 101;
     let mut leaves: usize = 0;
     let mut i: usize = 0;
-    let mut ahead: u32 = 0;
     loop {
         let step = item_list::step_at(s, at);
         match step {
@@ -26,14 +24,13 @@ pub fn fill_write(s: &[u8], nodesize: usize, count: usize, cuts: &mut [u16])
             Step::Broken => return,
             Step::Whole { next } => {
                 let space = next - at + 4;
-                ahead += item_list::bytes_ahead(s, at);
                 at = next;
                 i += 1;
                 if used + space <= nodesize {
                     used += space;
                     continue;
                 }
-                cuts[leaves] = (i - 1 + (ahead / 2097152) as usize) as u16;
+                cuts[leaves] = (i - 1) as u16;
                 leaves += 1;
                 used = 101 + space;
             }

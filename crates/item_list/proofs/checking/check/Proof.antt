@@ -1,12 +1,9 @@
 use mathlib.Core.Path.{sym, ap, _∙_}
 use Rattle.item_list.specs.Steps.{checkedOf}
-use Rattle.item_list.proofs.Reading.{sheet-shut, sheet-read, opens-short}
+use Rattle.item_list.proofs.Reading.{sheet-shut, sheet-read}
 use borrow.Author.Needs.{needs}
 use Rattle.item_list.proofs.checking.check.Statement.{statement}
 use Rattle.item_list.proofs.checking.check.Tie as tie
-
-walk-requires : tie.Need-walk-requires
-walk-requires c κs = opens-short _ (sym (c .before .opens .ensures) ∙ c .if1 .taken)
 
 returns : tie.Need-returns
 returns c = c .walk .ensures ∙ sym (ap checkedOf (sheet-read _ (sym (c .before .before .opens .ensures) ∙ c .before .if1 .taken)))
@@ -16,4 +13,4 @@ unfolding checkedOf
 returns-2 c = sym (ap checkedOf (sheet-shut _ (sym (c .before .opens .ensures) ∙ c .if1 .left)))
 
 pub check-spec : {M : Type 1} → statement M
-check-spec = tie.close (tie.spec (λ c κs. search needs) walk-requires returns returns-2)
+check-spec = tie.close (tie.spec (λ c κs. search needs) (λ c κs. search needs) returns returns-2)

@@ -1,13 +1,10 @@
 use mathlib.Core.Path.{sym, ap, _∙_}
 use Rattle.item_list.specs.Seeks.{passing}
 use Rattle.item_list.specs.Listings.{listingOf}
-use Rattle.item_list.proofs.Reading.{sheet-shut, sheet-read, opens-short}
+use Rattle.item_list.proofs.Reading.{sheet-shut, sheet-read}
 use borrow.Author.Needs.{needs}
 use Rattle.item_list.proofs.finding.find.Statement.{statement}
 use Rattle.item_list.proofs.finding.find.Tie as tie
-
-walk-requires : tie.Need-walk-requires
-walk-requires c κs = opens-short _ (sym (c .before .opens .ensures) ∙ c .if1 .taken)
 
 returns : tie.Need-returns
 returns c = c .walk .ensures ∙ sym (ap (listingOf (passing (c .before .before .before .before .args .wanted))) (sheet-read _ (sym (c .before .before .opens .ensures) ∙ c .before .if1 .taken)))
@@ -17,4 +14,4 @@ unfolding listingOf
 returns-2 c = sym (ap (listingOf (passing (c .before .before .before .args .wanted))) (sheet-shut _ (sym (c .before .opens .ensures) ∙ c .if1 .left)))
 
 pub find-spec : {M : Type 1} → statement M
-find-spec = tie.close (tie.spec (λ c κs. search needs) walk-requires returns returns-2)
+find-spec = tie.close (tie.spec (λ c κs. search needs) (λ c κs. search needs) returns returns-2)

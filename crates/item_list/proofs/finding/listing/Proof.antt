@@ -1,6 +1,3 @@
-use mathlib.Core.Path.{_≡_}
-use Prim.Native.Nat.{_+_, _/_}
-use native.Mathlib.Omega.{arith}
 use Rattle.item_list.specs.Listings.{listedAt, verdictOf}
 use borrow.Author.Needs.{needs}
 use Rattle.item_list.proofs.finding.listing.Statement.{statement}
@@ -8,17 +5,11 @@ use Rattle.item_list.proofs.finding.listing.Tie as tie
 
 returns : tie.Need-returns
 unfolding verdictOf listedAt
-returns c =
-    let a = c .before .before .before .before .args in
-    let e : a .n + a .ahead / 2097152 ≡ a .n = omega arith in
-    rw (c .before .before .before .if1 .taken, c .before .place .given .1, e)
+returns c = rw (c .before .before .before .if1 .taken, c .before .place .given .1)
 
 returns-2 : tie.Need-returns-2
 unfolding verdictOf listedAt
-returns-2 c =
-    let a = c .before .before .before .args in
-    let e : a .n + a .ahead / 2097152 ≡ a .n = omega arith in
-    rw (c .before .before .if1 .taken, c .enum-told .given .1, e)
+returns-2 c = rw (c .before .before .if1 .taken, c .enum-told .given .1)
 
 returns-3 : tie.Need-returns-3
 unfolding verdictOf
@@ -26,5 +17,4 @@ returns-3 c = rw (c .if1 .left)
 
 pub listing-spec : {M : Type 1} → statement M
 listing-spec =
-    tie.close
-    (tie.spec (λ c. search needs) (λ c. search needs) (λ c. search needs) returns (λ c. search needs) returns-2 returns-3)
+    tie.close (tie.spec (λ c. search needs) returns (λ c. search needs) returns-2 returns-3)

@@ -1,25 +1,25 @@
 use borrow.Author.Needs.{needs}
-use mathlib.Core.Path.{_≡_, sym, ap, _∙_, subst}
+use mathlib.Core.Path.{sym, _∙_, subst}
 use mathlib.Core.List.{List}
-use Prim.Native.Nat.{_+_, _-_, _*_, _/_, _≤_, _<_}
+use Prim.Native.Nat.{_-_, _<_}
 use native.Mathlib.Omega.{arith}
 use lib.ListN.{length}
 use denote.Ref.{now}
 use Rattle.format.specs.Items.{Item}
 use Rattle.item_list.specs.Steps.{itemsOf}
 use Rattle.item_list.proofs.Walks.{Walked, More, rest-all, rest-end, rest-broken, rest-item}
-use Rattle.leaf_edit.specs.Division.{Divided, chosen}
+use Rattle.leaf_edit.specs.Division.{Divided}
 use Rattle.leaf_edit.proofs.Running.{passed-few, passed-bound, space-here}
 use Rattle.leaf_edit.proofs.Together.{Measuring, measuring-none, measuring-all, measuring-over, measuring-stays, measuring-starts}
 use Rattle.leaf_edit.proofs.division_measure.measure.Statement.{statement}
 use Rattle.leaf_edit.proofs.division_measure.measure.Tie as tie
 
 abbrev Inv-loop : tie.InvT-loop
-Inv-loop s nodesize count at₀ i₀ left₀ right₀ best₀ used₀ leaves₀ ahead₀ at i left right best used leaves ahead =
-    (i ≤ 4096) × (ahead ≤ 510 * i) × Walked s at (λ (rest : List Item). Measuring nodesize (itemsOf s) i left right best used leaves rest)
+Inv-loop s nodesize count at₀ i₀ left₀ right₀ best₀ used₀ leaves₀ at i left right best used leaves =
+    Walked s at (λ (rest : List Item). Measuring nodesize (itemsOf s) i left right best used leaves rest)
 
 abbrev μ-loop : tie.MeasureT-loop
-μ-loop s nodesize count at₀ i₀ left₀ right₀ best₀ used₀ leaves₀ ahead₀ at i left right best used leaves ahead = length s - at
+μ-loop s nodesize count at₀ i₀ left₀ right₀ best₀ used₀ leaves₀ at i left right best used leaves = length s - at
 
 add-right : tie.Need-add-right Inv-loop μ-loop
 add-right c = let z = c .before .pre .0 .small in omega arith
@@ -31,42 +31,36 @@ add-right-2 : tie.Need-add-right-2 Inv-loop μ-loop
 add-right-2 c = let z = c .before .pre .0 .few in let y = c .before .pre .0 .small in omega arith
 
 loop-holds : tie.Need-loop-holds Inv-loop μ-loop
-loop-holds c =
-    (omega arith, omega arith, record { items = _; rest = rest-all _ (c .before .pre .0 .listed); so = measuring-none _ _ _ (c .before .pre .0) })
+loop-holds c = record { items = _; rest = rest-all _ (c .before .pre .0 .listed); so = measuring-none _ _ _ (c .before .pre .0) }
 
 enum-told : tie.Need-enum-told Inv-loop μ-loop
 enum-told c = c .match .keys1
 
-add-choose : tie.Need-add-choose Inv-loop μ-loop
-add-choose c = let i = c .before .before .before .loop .inv in let l = i .2 .so .counting .few in omega (arith, l)
-
 returns : tie.Need-returns Inv-loop μ-loop
 returns c =
     let a = c .before .before .before .before .before .before .args in
-    let l = c .before .before .before .before .loop in
-    let i = l .inv in
-    let e : l .leaves + l .ahead / 2097152 ≡ l .leaves = omega arith in
-    subst (Divided (a .nodesize) (itemsOf (now (a .s)))) (sym (c .choose .ensures ∙ ap (chosen (l .best)) e))
-    (measuring-all _ _ _ _ _ _ _ _ _ (i .2 .so) (rest-end _ _ _ (i .2 .rest) (sym (c .before .before .before .step-at .ensures) ∙ c .before .enum-told .given .1)))
+    let i = c .before .before .before .before .loop .inv in
+    subst (Divided (a .nodesize) (itemsOf (now (a .s)))) (sym (c .choose .ensures))
+    (measuring-all _ _ _ _ _ _ _ _ _ (i .so) (rest-end _ _ _ (i .rest) (sym (c .before .before .before .step-at .ensures) ∙ c .before .enum-told .given .1)))
 
 enum-told-2 : tie.Need-enum-told-2 Inv-loop μ-loop
 enum-told-2 c = c .match .keys2
 
 returns-2 : tie.Need-returns-2 Inv-loop μ-loop
-returns-2 c = absurd (rest-broken _ _ _ (c .before .before .before .loop .inv .2 .rest) (sym (c .before .before .step-at .ensures) ∙ c .enum-told2 .given .1))
+returns-2 c = absurd (rest-broken _ _ _ (c .before .before .before .loop .inv .rest) (sym (c .before .before .step-at .ensures) ∙ c .enum-told2 .given .1))
 
 enum-known-step : tie.Need-enum-known-step Inv-loop μ-loop
 enum-known-step c = c .match .keys3
 
 -- an item is at hand
-more : (c : tie.After-known-told Inv-loop μ-loop) → More (now (c .before .before .before .before .before .before .args .s)) (c .before .before .before .before .loop .at) (c .before .step .given .0 .0) (c .before .before .before .before .loop .inv .2 .items)
-more c = rest-item _ _ _ _ (c .before .before .before .before .loop .inv .2 .rest) (sym (c .before .before .before .step-at .ensures) ∙ c .before .step .given .1)
+more : (c : tie.After-known-told Inv-loop μ-loop) → More (now (c .before .before .before .before .before .before .args .s)) (c .before .before .before .before .loop .at) (c .before .step .given .0 .0) (c .before .before .before .before .loop .inv .items)
+more c = rest-item _ _ _ _ (c .before .before .before .before .loop .inv .rest) (sym (c .before .before .before .step-at .ensures) ∙ c .before .step .given .1)
 
 -- an item is at hand, so that not all were passed
 fewer : (c : tie.After-known-told Inv-loop μ-loop) → c .before .before .before .before .loop .i < 4096
 fewer c =
     let z = c .before .before .before .before .before .before .pre .0 in
-    let e = passed-few _ _ _ _ _ _ _ _ _ _ (c .before .before .before .before .loop .inv .2 .so .passed) (more c) in
+    let e = passed-few _ _ _ _ _ _ _ _ _ _ (c .before .before .before .before .loop .inv .so .passed) (more c) in
     omega (arith, e, z .count-is, z .few)
 
 sub-space : tie.Need-sub-space Inv-loop μ-loop
@@ -79,75 +73,56 @@ add-if1 : tie.Need-add-if1 Inv-loop μ-loop
 add-if1 c = let w = more c .whole in omega arith
 
 returns-3 : tie.Need-returns-3 Inv-loop μ-loop
-returns-3 c = measuring-over _ _ _ _ _ _ _ _ _ (c .before .before .before .before .before .loop .inv .2 .so) _ _ _ (more (c .before)) (c .if1 .taken)
+returns-3 c = measuring-over _ _ _ _ _ _ _ _ _ (c .before .before .before .before .before .loop .inv .so) _ _ _ (more (c .before)) (c .if1 .taken)
 
 add-left : tie.Need-add-left Inv-loop μ-loop
 add-left c =
-    let i = c .before .before .before .before .before .before .loop .inv .2 .so .passed in
+    let i = c .before .before .before .before .before .before .loop .inv .so .passed in
     let z = c .before .before .before .before .before .before .before .before .pre .0 in
     let e = passed-bound _ _ _ _ _ _ _ _ _ _ i (more (c .before .before)) in
     let f = space-here _ _ _ _ _ _ _ _ _ _ i (more (c .before .before)) in
     omega (arith, e, f, z .space-is, z .few, z .small)
 
 sub-right : tie.Need-sub-right Inv-loop μ-loop
-sub-right c = let f = space-here _ _ _ _ _ _ _ _ _ _ (c .before .before .before .before .before .before .loop .inv .2 .so .passed) (more (c .before .before)) in omega (arith, f)
-
-bytes-ahead-requires : tie.Need-bytes-ahead-requires Inv-loop μ-loop
-bytes-ahead-requires c κs = let w = more (c .before .before) .whole in let z = c .before .before .before .before .before .before .before .before .pre .0 .small in (omega arith, omega arith)
-
-add-ahead : tie.Need-add-ahead Inv-loop μ-loop
-add-ahead c =
-    let i = c .before .before .before .before .before .before .before .loop .inv in
-    let b = c .bytes-ahead .ensures in
-    omega arith
+sub-right c = let f = space-here _ _ _ _ _ _ _ _ _ _ (c .before .before .before .before .before .before .loop .inv .so .passed) (more (c .before .before)) in omega (arith, f)
 
 add-i : tie.Need-add-i Inv-loop μ-loop
-add-i c = let e = fewer (c .before .before .before) in omega arith
+add-i c = let e = fewer (c .before .before) in omega arith
 
 add-if2 : tie.Need-add-if2 Inv-loop μ-loop
-add-if2 c = let w = more (c .before .before .before) .whole in let l = c .before .before .before .before .before .before .before .loop .inv .2 .so .counting .small in omega (arith, w, l)
+add-if2 c = let w = more (c .before .before) .whole in let l = c .before .before .before .before .before .before .loop .inv .so .counting .small in omega (arith, w, l)
 
 add-used : tie.Need-add-used Inv-loop μ-loop
-add-used c = let l = c .before .before .before .before .before .before .before .before .before .before .pre .1 in omega arith
+add-used c = let l = c .before .before .before .before .before .before .before .before .before .pre .1 in omega arith
 
 loop-less : tie.Need-loop-less Inv-loop μ-loop
-loop-less c = let w = more (c .before .before .before .before) .whole in omega arith
+loop-less c = let w = more (c .before .before .before) .whole in omega arith
 
 loop-again : tie.Need-loop-again Inv-loop μ-loop
 loop-again c =
-    let m = more (c .before .before .before .before) in
-    let e = fewer (c .before .before .before .before) in
-    let b = c .before .bytes-ahead .ensures in
-    let i = c .before .before .before .before .before .before .before .before .loop .inv in (
-      omega arith,
-      omega arith,
-      record { items = m .others; rest = m .rest; so = measuring-stays _ _ _ _ _ _ _ _ _ (i .2 .so) _ _ _ m (c .before .before .before .before .before .before .before .before .before .before .pre .1) (c .before .before .before .if1 .left) _ (c .before .before .improve .ensures) (c .if2 .taken) },
-    )
+    let m = more (c .before .before .before) in
+    let i = c .before .before .before .before .before .before .before .loop .inv in
+    record { items = m .others; rest = m .rest; so = measuring-stays _ _ _ _ _ _ _ _ _ (i .so) _ _ _ m (c .before .before .before .before .before .before .before .before .before .pre .1) (c .before .before .if1 .left) _ (c .before .improve .ensures) (c .if2 .taken) }
 
 add-leaves : tie.Need-add-leaves Inv-loop μ-loop
 add-leaves c =
-    let e = fewer (c .before .before .before .before) in
-    let l = c .before .before .before .before .before .before .before .before .loop .inv .2 .so .counting .few in
+    let e = fewer (c .before .before .before) in
+    let l = c .before .before .before .before .before .before .before .loop .inv .so .counting .few in
     omega (arith, e, l)
 
 add-used-2 : tie.Need-add-used-2 Inv-loop μ-loop
-add-used-2 c = let w = more (c .before .before .before .before) .whole in omega arith
+add-used-2 c = let w = more (c .before .before .before) .whole in omega arith
 
 loop-less-2 : tie.Need-loop-less-2 Inv-loop μ-loop
-loop-less-2 c = let w = more (c .before .before .before .before) .whole in omega arith
+loop-less-2 c = let w = more (c .before .before .before) .whole in omega arith
 
 loop-again-2 : tie.Need-loop-again-2 Inv-loop μ-loop
 loop-again-2 c =
-    let m = more (c .before .before .before .before) in
-    let e = fewer (c .before .before .before .before) in
-    let b = c .before .bytes-ahead .ensures in
-    let i = c .before .before .before .before .before .before .before .before .loop .inv in (
-      omega arith,
-      omega arith,
-      record { items = m .others; rest = m .rest; so = measuring-starts _ _ _ _ _ _ _ _ _ (i .2 .so) _ _ _ m (c .before .before .before .before .before .before .before .before .before .before .pre .1) (c .before .before .before .if1 .left) _ (c .before .before .improve .ensures) (c .if2 .left) },
-    )
+    let m = more (c .before .before .before) in
+    let i = c .before .before .before .before .before .before .before .loop .inv in
+    record { items = m .others; rest = m .rest; so = measuring-starts _ _ _ _ _ _ _ _ _ (i .so) _ _ _ m (c .before .before .before .before .before .before .before .before .before .pre .1) (c .before .before .if1 .left) _ (c .before .improve .ensures) (c .if2 .left) }
 
 pub measure-spec : {M : Type 1} → statement M
 measure-spec =
     tie.close
-    (tie.spec Inv-loop μ-loop add-right mul-right add-right-2 loop-holds (λ c κs. search needs) enum-told (λ c. search needs) add-choose (λ c κs. search needs) returns enum-told-2 returns-2 enum-known-step sub-space add-space add-if1 returns-3 (λ c κs. search needs) add-left sub-right bytes-ahead-requires add-ahead add-i add-if2 add-used loop-less loop-again add-leaves add-used-2 loop-less-2 loop-again-2)
+    (tie.spec Inv-loop μ-loop add-right mul-right add-right-2 loop-holds (λ c κs. search needs) enum-told (λ c κs. search needs) returns enum-told-2 returns-2 enum-known-step sub-space add-space add-if1 returns-3 (λ c κs. search needs) add-left sub-right add-i add-if2 add-used loop-less loop-again add-leaves add-used-2 loop-less-2 loop-again-2)

@@ -1,7 +1,7 @@
 use borrow.Author.Needs.{needs}
-use mathlib.Core.Path.{_≡_, sym, _∙_}
+use mathlib.Core.Path.{sym, _∙_}
 use mathlib.Core.List.{List}
-use Prim.Native.Nat.{_+_, _-_, _*_, _/_, _≤_, _<_}
+use Prim.Native.Nat.{_-_, _<_}
 use native.Mathlib.Omega.{arith}
 use lib.ListN.{length}
 use denote.Ref.{now}
@@ -13,48 +13,47 @@ use Rattle.leaf_edit.proofs.fill.fill_write.Statement.{statement}
 use Rattle.leaf_edit.proofs.fill.fill_write.Tie as tie
 
 abbrev Inv-loop : tie.InvT-loop
-Inv-loop s nodesize count cuts₀ at₀ used₀ leaves₀ i₀ ahead₀ cuts at used leaves i ahead =
-    (i ≤ 4096) × (ahead ≤ 510 * i) × Walked s at (λ (rest : List Item). Writing nodesize (itemsOf s) cuts₀ cuts used leaves i rest)
+Inv-loop s nodesize count cuts₀ at₀ used₀ leaves₀ i₀ cuts at used leaves i =
+    Walked s at (λ (rest : List Item). Writing nodesize (itemsOf s) cuts₀ cuts used leaves i rest)
 
 abbrev μ-loop : tie.MeasureT-loop
-μ-loop s nodesize count cuts₀ at₀ used₀ leaves₀ i₀ ahead₀ cuts at used leaves i ahead = length s - at
+μ-loop s nodesize count cuts₀ at₀ used₀ leaves₀ i₀ cuts at used leaves i = length s - at
 
 loop-holds : tie.Need-loop-holds Inv-loop μ-loop
-loop-holds c =
-    (omega arith, omega arith, record { items = _; rest = rest-all _ (c .before .before .pre .0 .listed); so = writing-none _ _ _ })
+loop-holds c = record { items = _; rest = rest-all _ (c .before .before .pre .0 .listed); so = writing-none _ _ _ }
 
 enum-told : tie.Need-enum-told Inv-loop μ-loop
 enum-told c = c .match .keys1
 
 same-length : tie.Need-same-length Inv-loop μ-loop
-same-length c = c .before .before .before .loop .inv .2 .so .long
+same-length c = c .before .before .before .loop .inv .so .long
 
 returns : tie.Need-returns Inv-loop μ-loop
 returns c =
-    let i = c .before .before .before .loop .inv .2 in
+    let i = c .before .before .before .loop .inv in
     writing-all _ _ _ _ _ _ _ _ (i .so) (rest-end _ _ _ (i .rest) (sym (c .before .before .step-at .ensures) ∙ c .enum-told .given .1))
 
 enum-told-2 : tie.Need-enum-told-2 Inv-loop μ-loop
 enum-told-2 c = c .match .keys2
 
 same-length-2 : tie.Need-same-length-2 Inv-loop μ-loop
-same-length-2 c = c .before .before .before .loop .inv .2 .so .long
+same-length-2 c = c .before .before .before .loop .inv .so .long
 
 returns-2 : tie.Need-returns-2 Inv-loop μ-loop
-returns-2 c = absurd (rest-broken _ _ _ (c .before .before .before .loop .inv .2 .rest) (sym (c .before .before .step-at .ensures) ∙ c .enum-told2 .given .1))
+returns-2 c = absurd (rest-broken _ _ _ (c .before .before .before .loop .inv .rest) (sym (c .before .before .step-at .ensures) ∙ c .enum-told2 .given .1))
 
 enum-known-step : tie.Need-enum-known-step Inv-loop μ-loop
 enum-known-step c = c .match .keys3
 
 -- an item is at hand
-more : (c : tie.After-known-told Inv-loop μ-loop) → More (now (c .before .before .before .before .before .before .before .args .s)) (c .before .before .before .before .loop .at) (c .before .step .given .0 .0) (c .before .before .before .before .loop .inv .2 .items)
-more c = rest-item _ _ _ _ (c .before .before .before .before .loop .inv .2 .rest) (sym (c .before .before .before .step-at .ensures) ∙ c .before .step .given .1)
+more : (c : tie.After-known-told Inv-loop μ-loop) → More (now (c .before .before .before .before .before .before .before .args .s)) (c .before .before .before .before .loop .at) (c .before .step .given .0 .0) (c .before .before .before .before .loop .inv .items)
+more c = rest-item _ _ _ _ (c .before .before .before .before .loop .inv .rest) (sym (c .before .before .before .step-at .ensures) ∙ c .before .step .given .1)
 
 -- an item is at hand, so that not all were passed
 fewer : (c : tie.After-known-told Inv-loop μ-loop) → c .before .before .before .before .loop .i < 4096
 fewer c =
     let z = c .before .before .before .before .before .before .before .pre .0 in
-    let e = passed-fewer _ _ _ _ _ _ _ _ _ _ _ (c .before .before .before .before .loop .inv .2 .so) (more c) in
+    let e = passed-fewer _ _ _ _ _ _ _ _ _ _ _ (c .before .before .before .before .loop .inv .so) (more c) in
     omega (arith, e, z .count-is, z .few)
 
 sub-space : tie.Need-sub-space Inv-loop μ-loop
@@ -63,89 +62,58 @@ sub-space c = let w = more c .whole in omega arith
 add-space : tie.Need-add-space Inv-loop μ-loop
 add-space c = let w = more c .whole in omega arith
 
-bytes-ahead-requires : tie.Need-bytes-ahead-requires Inv-loop μ-loop
-bytes-ahead-requires c κs = let w = more c .whole in let z = c .before .before .before .before .before .before .before .pre .0 .small in (omega arith, omega arith)
-
-add-ahead : tie.Need-add-ahead Inv-loop μ-loop
-add-ahead c =
-    let i = c .before .before .before .before .before .loop .inv in
-    let b = c .bytes-ahead .ensures in
-    omega arith
-
 add-i : tie.Need-add-i Inv-loop μ-loop
-add-i c = let e = fewer (c .before) in omega arith
+add-i c = let e = fewer c in omega arith
 
 add-if1 : tie.Need-add-if1 Inv-loop μ-loop
-add-if1 c = let w = more (c .before) .whole in let l = c .before .before .before .before .before .loop .inv .2 .so .small in omega (arith, w, l)
+add-if1 c = let w = more c .whole in let l = c .before .before .before .before .loop .inv .so .small in omega (arith, w, l)
 
 add-used : tie.Need-add-used Inv-loop μ-loop
-add-used c = let w = more (c .before .before) .whole in let l = c .before .before .before .before .before .before .loop .inv .2 .so .small in omega (arith, w, l)
+add-used c = let w = more (c .before) .whole in let l = c .before .before .before .before .before .loop .inv .so .small in omega (arith, w, l)
 
 loop-less : tie.Need-loop-less Inv-loop μ-loop
-loop-less c = let w = more (c .before .before) .whole in omega arith
+loop-less c = let w = more (c .before) .whole in omega arith
 
 loop-again : tie.Need-loop-again Inv-loop μ-loop
 loop-again c =
-    let m = more (c .before .before) in
-    let e = fewer (c .before .before) in
-    let b = c .before .bytes-ahead .ensures in
-    let i = c .before .before .before .before .before .before .loop .inv in (
-      omega arith,
-      omega arith,
-      record { items = m .others; rest = m .rest; so = writing-stays _ _ _ _ _ _ _ _ _ _ _ (i .2 .so) m (c .before .before .before .before .before .before .before .before .before .pre .1) (c .if1 .taken) },
-    )
+    let m = more (c .before) in
+    let i = c .before .before .before .before .before .loop .inv in
+    record { items = m .others; rest = m .rest; so = writing-stays _ _ _ _ _ _ _ _ _ _ _ (i .so) m (c .before .before .before .before .before .before .before .before .pre .1) (c .if1 .taken) }
 
 sub-cuts : tie.Need-sub-cuts Inv-loop μ-loop
 sub-cuts c = omega arith
 
--- the bytes read ahead add nothing to the number
-nothing-added : (c : tie.After-bytes-ahead Inv-loop μ-loop) → (c .before .before .before .before .before .loop .ahead + c .bytes-ahead .result) / 2097152 ≡ 0
-nothing-added c =
-    let i = c .before .before .before .before .before .loop .inv in
-    let e = fewer (c .before) in
-    let b = c .bytes-ahead .ensures in
-    omega arith
-
-add-cuts : tie.Need-add-cuts Inv-loop μ-loop
-add-cuts c = let e = fewer (c .before .before) in let n = nothing-added (c .before) in omega arith
-
-cast-cuts-2 : tie.Need-cast-cuts-2 Inv-loop μ-loop
-cast-cuts-2 c = let e = fewer (c .before .before) in let n = nothing-added (c .before) in omega arith
+cast-cuts : tie.Need-cast-cuts Inv-loop μ-loop
+cast-cuts c = let e = fewer (c .before) in omega arith
 
 mul-cuts : tie.Need-mul-cuts Inv-loop μ-loop
 mul-cuts c =
-    let e = fewer (c .before .before) in
-    let f = c .before .before .before .before .before .before .loop .inv .2 .so .few in
+    let e = fewer (c .before) in
+    let f = c .before .before .before .before .before .loop .inv .so .few in
     omega (arith, e, f)
 
 slice-write-cuts : tie.Need-slice-write-cuts Inv-loop μ-loop
-slice-write-cuts c = place-left _ _ _ _ _ _ _ _ _ _ _ (c .before .before .before .before .before .before .loop .inv .2 .so) (more (c .before .before)) (c .if1 .left) (c .before .before .before .before .before .before .before .before .before .pre .2)
+slice-write-cuts c = place-left _ _ _ _ _ _ _ _ _ _ _ (c .before .before .before .before .before .loop .inv .so) (more (c .before)) (c .if1 .left) (c .before .before .before .before .before .before .before .before .pre .2)
 
 add-leaves : tie.Need-add-leaves Inv-loop μ-loop
 add-leaves c =
-    let e = fewer (c .before .before) in
-    let f = c .before .before .before .before .before .before .loop .inv .2 .so .few in
+    let e = fewer (c .before) in
+    let f = c .before .before .before .before .before .loop .inv .so .few in
     omega (arith, e, f)
 
 add-used-2 : tie.Need-add-used-2 Inv-loop μ-loop
-add-used-2 c = let w = more (c .before .before) .whole in omega arith
+add-used-2 c = let w = more (c .before) .whole in omega arith
 
 loop-less-2 : tie.Need-loop-less-2 Inv-loop μ-loop
-loop-less-2 c = let w = more (c .before .before) .whole in omega arith
+loop-less-2 c = let w = more (c .before) .whole in omega arith
 
 loop-again-2 : tie.Need-loop-again-2 Inv-loop μ-loop
 loop-again-2 c =
-    let m = more (c .before .before) in
-    let e = fewer (c .before .before) in
-    let b = c .before .bytes-ahead .ensures in
-    let n = nothing-added (c .before) in
-    let i = c .before .before .before .before .before .before .loop .inv in (
-      omega arith,
-      omega arith,
-      record { items = m .others; rest = m .rest; so = writing-starts _ _ _ _ _ _ _ _ _ _ _ (i .2 .so) m (c .if1 .left) (c .before .before .before .before .before .before .before .before .before .pre .2) _ (omega (arith, n)) (c .before .before .before .before .before .before .before .before .before .pre .0 .small) },
-    )
+    let m = more (c .before) in
+    let i = c .before .before .before .before .before .loop .inv in
+    record { items = m .others; rest = m .rest; so = writing-starts _ _ _ _ _ _ _ _ _ _ _ (i .so) m (c .if1 .left) (c .before .before .before .before .before .before .before .before .pre .2) _ (omega arith) (c .before .before .before .before .before .before .before .before .pre .0 .small) }
 
 pub fill-write-spec : {M : Type 1} → statement M
 fill-write-spec =
     tie.close
-    (tie.spec Inv-loop μ-loop loop-holds (λ c κs. search needs) enum-told same-length returns enum-told-2 same-length-2 returns-2 enum-known-step sub-space add-space bytes-ahead-requires add-ahead add-i add-if1 add-used loop-less loop-again sub-cuts (λ c. search needs) add-cuts cast-cuts-2 mul-cuts slice-write-cuts add-leaves add-used-2 loop-less-2 loop-again-2)
+    (tie.spec Inv-loop μ-loop loop-holds (λ c κs. search needs) enum-told same-length returns enum-told-2 same-length-2 returns-2 enum-known-step sub-space add-space add-i add-if1 add-used loop-less loop-again sub-cuts cast-cuts mul-cuts slice-write-cuts add-leaves add-used-2 loop-less-2 loop-again-2)
