@@ -155,28 +155,25 @@ unfolding be beBytes
 beBytes-be-at width bytes e t =
     ap reverse (leBytes-le-at width (reverse bytes) (length-reverse bytes ∙ e) (areBytes-reverse bytes t)) ∙ reverse-reverse bytes
 
-pub beBytes-be : (bytes : List ℕ) → T (areBytes bytes) → beBytes (length bytes) (be bytes) ≡ bytes
-beBytes-be bytes t = beBytes-be-at (length bytes) bytes refl t
+-- ---- a byte-swapped number
 
--- ---- a number with its bytes turned round
-
--- read lowest byte first and turned, it is the number read highest byte first
-pub read-turned : (width at low number : ℕ) (src : List ℕ) → at + width ≤ length src → ((i : ℕ) → getD src i 0 < 256)
+-- read lowest byte first and byte-swapped, it is the number read highest byte first
+pub read-swapped : (width at low number : ℕ) (src : List ℕ) → at + width ≤ length src → ((i : ℕ) → getD src i 0 < 256)
     → low ≡ le (part at width src)
     → number ≡ le (beBytes width low)
     → number ≡ be (part at width src)
 unfolding be beBytes
-read-turned width at low number src h f read turned =
-    turned ∙ ap (λ (n : ℕ). le (reverse (leBytes width n))) read
+read-swapped width at low number src h f read swapped =
+    swapped ∙ ap (λ (n : ℕ). le (reverse (leBytes width n))) read
     ∙ ap (λ (l : List ℕ). le (reverse l))
     (leBytes-le-at width (part at width src) (length-part width at src h) (areBytes-part at width src (areBytes-in src f)))
 
--- turned and written lowest byte first, it stands highest byte first
-pub written-turned : (width at number low : ℕ) (old new : List ℕ) → low ≡ le (beBytes width number)
+-- byte-swapped and written lowest byte first, it stands highest byte first
+pub written-swapped : (width at number low : ℕ) (old new : List ℕ) → low ≡ le (beBytes width number)
     → new ≡ written at (leBytes width low) old
     → new ≡ written at (beBytes width number) old
-written-turned width at number low old new turned wrote =
-    wrote ∙ ap (λ (n : ℕ). written at (leBytes width n) old) turned
+written-swapped width at number low old new swapped wrote =
+    wrote ∙ ap (λ (n : ℕ). written at (leBytes width n) old) swapped
     ∙ ap (λ (l : List ℕ). written at l old)
     (leBytes-le-at width (beBytes width number) (length-beBytes width number) (areBytes-beBytes width number))
 
@@ -199,9 +196,9 @@ unfolding beBytes
 beBytes-halves number =
     ap reverse (leBytes-halves number) ∙ reverse-append (leBytes 4 (number % 4294967296)) (leBytes 4 (number / 4294967296))
 
-pub turned-halves : (number : ℕ)
+pub swapped-halves : (number : ℕ)
     → le (beBytes 8 number) ≡ le (beBytes 4 (number / 4294967296)) + 4294967296 * le (beBytes 4 (number % 4294967296))
-turned-halves number =
+swapped-halves number =
     let high : List ℕ = beBytes 4 (number / 4294967296) in
     let low : List ℕ = beBytes 4 (number % 4294967296) in
     ap le (beBytes-halves number) ∙ le-append high low

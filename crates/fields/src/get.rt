@@ -1,7 +1,6 @@
 // Reads numbers of four and eight bytes. Eight bytes are two reads of four, so that each proof meets four bytes at most. With the
 // lowest byte first the compiler makes one load of them while the function is still small; with the highest first it does so late.
-// So a number that stands highest byte first is read as if it stood lowest first, and its bytes are then turned round, which is one
-// instruction.
+// So a number that stands highest byte first is read as if it stood lowest first and then byte-swapped, which is one instruction.
 ghost use mathlib.Core.Path.{_≡_};
 ghost use mathlib.Core.List.{[], _∷_};
 ghost use Prim.Native.Nat.{_+_, _*_, _≤_};
@@ -24,7 +23,7 @@ fn join_halves(low: u32, high: u32) -> u64
 }
 
 // The same bytes in the other order.
-pub fn turned_u32(v: u32) -> u32
+pub fn swapped_u32(v: u32) -> u32
     ensures { λ r. ⌜ r ≡ le (beBytes 4 v) ⌝ }
 {
     let a = (v % 256) as u8;
@@ -34,12 +33,12 @@ pub fn turned_u32(v: u32) -> u32
     join_bytes(d, c, b, a)
 }
 
-pub fn turned_u64(v: u64) -> u64
+pub fn swapped_u64(v: u64) -> u64
     ensures { λ r. ⌜ r ≡ le (beBytes 8 v) ⌝ }
 {
     let low = (v % 4294967296) as u32;
     let high = (v / 4294967296) as u32;
-    join_halves(turned_u32(high), turned_u32(low))
+    join_halves(swapped_u32(high), swapped_u32(low))
 }
 
 pub fn get_u32_le(s: &[u8], at: usize) -> u32
@@ -53,7 +52,7 @@ pub fn get_u32_be(s: &[u8], at: usize) -> u32
     requires { ⌜ at + 4 ≤ length (now s) ⌝ }
     ensures { λ r. ⌜ r ≡ be (part at 4 (now (s .entry))) ⌝ }
 {
-    turned_u32(get_u32_le(s, at))
+    swapped_u32(get_u32_le(s, at))
 }
 
 pub fn get_u64_le(s: &[u8], at: usize) -> u64
@@ -67,5 +66,5 @@ pub fn get_u64_be(s: &[u8], at: usize) -> u64
     requires { ⌜ at + 8 ≤ length (now s) ⌝ }
     ensures { λ r. ⌜ r ≡ be (part at 8 (now (s .entry))) ⌝ }
 {
-    turned_u64(get_u64_le(s, at))
+    swapped_u64(get_u64_le(s, at))
 }

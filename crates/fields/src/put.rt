@@ -1,6 +1,6 @@
 // Writes a byte, and numbers of four and eight bytes. Eight bytes are two writes of four. With the lowest byte first the compiler
 // makes one store of them; with the highest first it does so late, or, in a row of more than eight single writes, not at all. So a
-// number that is to stand highest byte first has its bytes turned round, which is one instruction, and is then written lowest first.
+// number that is to stand highest byte first is byte-swapped, which is one instruction, and then written lowest first.
 use super::get;
 ghost use mathlib.Core.Path.{_≡_};
 ghost use mathlib.Core.List.{[], _∷_};
@@ -41,7 +41,7 @@ pub fn put_u32_be(out: &mut [u8], at: usize, v: u32)
     requires { ⌜ at + 4 ≤ length (now out) ⌝ }
     ensures { λ _. ⌜ now (out .exit) ≡ written at (beBytes 4 v) (now (out .entry)) ⌝ }
 {
-    put_u32_le(out, at, get::turned_u32(v));
+    put_u32_le(out, at, get::swapped_u32(v));
 }
 
 pub fn put_u64_le(out: &mut [u8], at: usize, v: u64)
@@ -58,5 +58,5 @@ pub fn put_u64_be(out: &mut [u8], at: usize, v: u64)
     requires { ⌜ at + 8 ≤ length (now out) ⌝ }
     ensures { λ _. ⌜ now (out .exit) ≡ written at (beBytes 8 v) (now (out .entry)) ⌝ }
 {
-    put_u64_le(out, at, get::turned_u64(v));
+    put_u64_le(out, at, get::swapped_u64(v));
 }

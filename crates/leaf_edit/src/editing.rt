@@ -89,7 +89,7 @@ fn sizes_fit(bounded: bool, nodesize: u32, size: usize) -> bool
 }
 
 // The list with one more item; where it is `bounded`, only if it still fits a leaf. One function for both calls: what is called
-// from one place is joined to its caller. The output stands first, so that it comes in registers: it is needed last, but a call
+// from one place is inlined. The output stands first, so that it comes in registers: it is needed last, but a call
 // that hands it on through memory waits for it.
 fn put_new(
     out: &mut [u8],

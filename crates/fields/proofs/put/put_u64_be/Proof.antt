@@ -1,5 +1,5 @@
 use denote.Ref.{now}
-use Rattle.fields.proofs.Numbers.{written-turned}
+use Rattle.fields.proofs.Numbers.{written-swapped}
 use borrow.Author.Needs.{needs}
 use Rattle.fields.proofs.put.put_u64_be.Statement.{statement}
 use Rattle.fields.proofs.put.put_u64_be.Tie as tie
@@ -8,7 +8,7 @@ returns : tie.Need-returns
 returns c =
     let put = c .before .before in
     let a = put .before .before .before .before .args in
-    written-turned 8 (a .at) (a .v) _ (now (a .out)) _ (put .before .turned-u64 .ensures) (put .put-u64-le .ensures)
+    written-swapped 8 (a .at) (a .v) _ (now (a .out)) _ (put .before .swapped-u64 .ensures) (put .put-u64-le .ensures)
 
 pub put-u64-be-spec : {M : Type 1} → statement M
 put-u64-be-spec =
