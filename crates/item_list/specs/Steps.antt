@@ -7,7 +7,7 @@ use lib.Dec.{eqb, leb}
 use lib.ListN.{length, drop}
 use Rattle.format.specs.declared.Key.{Key}
 use Rattle.format.specs.Questions.{Answer, refused, absent, remove, accepted}
-use Rattle.format.specs.Items.{Item, keyBelow, itemLength, wholeItem, firstItem, readSheet}
+use Rattle.format.specs.Items.{Item, keyBelow, itemLength, wholeItem, firstItem, readItems, readSheet}
 unfoldable pub use Rattle.format.specs.History.{itemsIn}
 use Rattle.item_list.specs.declared.Step.{Step}
 use Rattle.item_list.specs.declared.Step.the-variants.{Whole, Broken, End}
@@ -53,3 +53,11 @@ itemsOf s = itemsIn (readSheet s)
 -- what `check` has shown: the bytes are an item list
 pub record Listed (s : List ℕ) : Type 0 where
   pub reads : readSheet s ≡ accepted (itemsOf s)
+
+-- the items from a position on
+abbrev pub itemsFrom : List ℕ → ℕ → List Item
+itemsFrom s at = itemsIn (readItems 4096 (drop at s))
+
+-- from that position on, the bytes are items
+pub record ListedFrom (s : List ℕ) (at : ℕ) : Type 0 where
+  pub reads : readItems 4096 (drop at s) ≡ accepted (itemsFrom s at)

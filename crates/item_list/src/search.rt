@@ -1,18 +1,18 @@
 // A further search in an item list that passed questions 1 and 2.
 ghost use mathlib.Core.Path.{_≡_};
-ghost use Rattle.item_list.specs.Steps.{Listed, itemsOf};
+ghost use Rattle.item_list.specs.Steps.{ListedFrom, itemsFrom};
 ghost use Rattle.item_list.specs.Seeks.{seekIn};
 use super::Sought;
 use super::Step;
 use super::stepping;
 use format::Key;
 
-// Where a key stands, or where an item with it belongs.
-pub fn seek(s: &[u8], key: Key) -> Sought
-    requires { ⌜ Listed (now s) ⌝ }
-    ensures { λ r. ⌜ r ≡ seekIn key 1 (itemsOf (now (s .entry))) ⌝ }
+// Where a key stands among the items from `from` on, or where an item with it belongs.
+pub fn seek(s: &[u8], from: usize, key: Key) -> Sought
+    requires { ⌜ ListedFrom (now s) from ⌝ }
+    ensures { λ r. ⌜ r ≡ seekIn key from (itemsFrom (now (s .entry)) from) ⌝ }
 {
-    let mut at: usize = 1;
+    let mut at = from;
     loop {
         let step = stepping::step_at(s, at);
         match step {

@@ -42,11 +42,12 @@ fn plan_add(key: Key, body: &[u8], wanted: Wanted, amount: u32) -> Plan
 }
 
 // Questions 9 and 10 of the added reference: no item of its own, and an amount above 0.
-fn ask_add(plan: Plan, sheet: &[u8], items: usize, extent: u64, wanted: Wanted, amount: u32) -> Plan
-    requires { ⌜ BalancedList (now sheet) items ⌝ }
+fn ask_add(plan: Plan, sheet: &[u8], stand: Stand, extent: u64, wanted: Wanted, amount: u32) -> Plan
+    requires { ⌜ BalancedList (now sheet) (stand .items) ⌝ }
+    requires { ⌜ HasRecord (now sheet) extent (stand .start) (stand .end) ⌝ }
     ensures { λ r. ⌜ AskedAdd plan (all (notItsOwn (nameIn extent wanted)) (itemsOf (now (sheet .entry)))) amount r ⌝ }
 {
-    let none = owned::has_none(sheet, items, extent, wanted);
+    let none = owned::has_none(sheet, stand, extent, wanted);
     let ten = also::plan_also(plan, 1 <= amount, 10);
     also::plan_also(ten, none, 9)
 }
@@ -82,7 +83,7 @@ pub fn add(
     let end = stand.end;
     let key = item_list::key_at(sheet, start);
     let plan = plan_add(key, &sheet[start + 21..end], wanted, amount);
-    let asked = ask_add(plan, sheet, stand.items, extent, wanted, amount);
+    let asked = ask_add(plan, sheet, stand, extent, wanted, amount);
     let limit = transaction::limit_for(nodesize, end - (start + 21), grown_only(wanted));
     transaction::put_back(sheet, start, end, asked, limit, stand.items, out)
 }

@@ -1,4 +1,5 @@
 // Question 9 of the ledger: has a name an item of its own?
+use crate::Stand;
 use format::Key;
 use inline_refs::Wanted;
 use item_list::Sought;
@@ -10,7 +11,7 @@ ghost use Rattle.fields.specs.Lists.{all};
 ghost use Rattle.format.specs.Ledger.{notItsOwn};
 ghost use Rattle.inline_refs.specs.Scans.{kindOf};
 ghost use Rattle.item_list.specs.Steps.{itemsOf};
-ghost use Rattle.ledger.specs.Known.{BalancedList, nameIn, ownAt};
+ghost use Rattle.ledger.specs.Known.{BalancedList, HasRecord, nameIn, ownAt};
 
 // Whether an item with these bytes that stands there is of that name. Two triples may have one hash.
 fn is_own(wanted: Wanted, bytes: &[u8]) -> bool
@@ -25,8 +26,10 @@ fn is_own(wanted: Wanted, bytes: &[u8]) -> bool
     }
 }
 
-pub fn has_none(sheet: &[u8], items: usize, extent: u64, wanted: Wanted) -> bool
-    requires { ⌜ BalancedList (now sheet) items ⌝ }
+// The search starts behind the record: the key of each of its references is above its own.
+pub fn has_none(sheet: &[u8], stand: Stand, extent: u64, wanted: Wanted) -> bool
+    requires { ⌜ BalancedList (now sheet) (stand .items) ⌝ }
+    requires { ⌜ HasRecord (now sheet) extent (stand .start) (stand .end) ⌝ }
     ensures { λ r. ⌜ r ≡ all (notItsOwn (nameIn extent wanted)) (itemsOf (now (sheet .entry))) ⌝ }
 {
     let key = Key {
@@ -34,7 +37,7 @@ pub fn has_none(sheet: &[u8], items: usize, extent: u64, wanted: Wanted) -> bool
         kind: inline_refs::kind_of(wanted),
         offset: inline_refs::own_place(wanted),
     };
-    let sought = item_list::seek(sheet, key);
+    let sought = item_list::seek(sheet, stand.end, key);
     match sought {
         Sought::Absent { at: _ } => return true,
         Sought::Present { start, end } => {

@@ -1,7 +1,7 @@
 -- A reference's item stands behind the record of its extent, because keys rise. Assumes nothing.
 use mathlib.Core.Path.{_≡_, refl, sym, ap, _∙_, subst}
 use mathlib.Core.Logic.{_⊎_, inl, inr}
-use mathlib.Core.Bool.{Bool, not, cond}
+use mathlib.Core.Bool.{Bool, not}
 use mathlib.Core.Option.{Option, none, some, Option·map}
 use mathlib.Core.List.{List, [], _∷_, _++_}
 use Prim.Native.Nat.{ℕ, _+_, _≤_, _<_}
@@ -9,64 +9,22 @@ use native.Mathlib.Omega.{arith}
 use lib.Dec.{T, eqb, eqb→eq}
 use lib.ListN.{length, length-append}
 use mir.Facts.{or-yes, and-yes}
-use borrow.Author.Tests.{lt-ltb, le-ltb}
 use Rattle.fields.specs.Lists.{all, Cut, later, cut}
-use Rattle.fields.specs.Numbers.{areBytes}
-use Rattle.fields.proofs.Lists.{cond-no, no-some, all-map, lt-or, Found, cut-some}
+use Rattle.fields.proofs.Lists.{cond-no, no-some, all-map, Found, cut-some}
 use Rattle.format.specs.declared.Key.{Key}
 use Rattle.format.specs.Items.{Item, keyBelow, rising, itemBytes, itemsBytes, sheetBytes}
 use Rattle.format.specs.Sheets.{hasKey}
 use Rattle.format.specs.Apply.{isRecord}
-use Rattle.format.proofs.Items.{length-itemBytes, sheet-out, sheetBytes-read}
+use Rattle.format.proofs.Items.{length-itemBytes, sheet-out}
 use Rattle.format.proofs.Keys.{below, below-in, below-trans, below-not-same, rising-before}
 use Rattle.format.proofs.Splices.{sheet-join}
-use Rattle.item_list.specs.declared.Sought.{Sought}
 use Rattle.item_list.specs.declared.Sought.the-variants.{Present, Absent}
-use Rattle.item_list.specs.Steps.{itemsOf, Listed}
+use Rattle.item_list.specs.Steps.{itemsOf, itemsFrom, ListedFrom}
 use Rattle.item_list.specs.Seeks.{seekIn}
 use Rattle.item_list.proofs.Places.{Sits, sits, no-cut, Inside, inside}
+use Rattle.item_list.proofs.Behind.{behind-listed, found-behind, seek-behind}
 use Rattle.record_edit.specs.declared.RecordAt.{RecordAt}
-use Rattle.transaction.specs.Edits.{behindOf}
 use Rattle.transaction.proofs.Stands.{Stands}
-
--- ---- as code tests it
-
-module _ (end : ℕ) (found : Sought) where
-  pub kept-absent : (at : ℕ) → found ≡ Absent at → Absent at ≡ behindOf end found
-  unfolding behindOf
-  kept-absent at e = rw e
-
-  pub stands-before : (from to : ℕ) → found ≡ Present from to → from < end → Absent from ≡ behindOf end found
-  unfolding behindOf
-  stands-before from to e h = rw (e, lt-ltb from end h)
-
-  pub stands-behind : (from to : ℕ) → found ≡ Present from to → end ≤ from → Present from to ≡ behindOf end found
-  unfolding behindOf
-  stands-behind from to e h = rw (e, le-ltb from end h)
-
--- and back
-pub behind-out : (end : ℕ) (found : Sought) (from to : ℕ) → behindOf end found ≡ Present from to → (found ≡ Present from to) × (end ≤ from)
-unfolding behindOf
-behind-out end (Absent at) from to e = let z : _≡_ {A = ℕ} 0 1 = cc in absurd (omega arith)
-behind-out end (Present f t) from to e = go (lt-or f end)
-  where
-    go : (f < end) ⊎ (end ≤ f) → (Present f t ≡ Present from to) × (end ≤ from)
-    go (inl h) = let g : Absent f ≡ Present from to = ap (λ (b : Bool). cond b (Absent f) (Present f t)) (sym (lt-ltb f end h)) ∙ e in let z : _≡_ {A = ℕ} 0 1 = cc in absurd (omega arith)
-    go (inr h) =
-        let g : Present f t ≡ Present from to = ap (λ (b : Bool). cond b (Absent f) (Present f t)) (sym (le-ltb f end h)) ∙ e in
-        let q : f ≡ from = cc in
-        (g, omega arith)
-
--- so it stands in the bytes behind that position
-pub place-fits : (s : List ℕ) → T (areBytes s) → Listed s → (end : ℕ) (key : Key) (from to : ℕ) → behindOf end (seekIn key 1 (itemsOf s)) ≡ Present from to
-    → (end ≤ from) × (from + 21 ≤ to) × (to ≤ length s)
-place-fits s t l end key from to e =
-    let h = behind-out end (seekIn key 1 (itemsOf s)) from to e in
-    let k : Sits key (itemsOf s) 1 from to = sits key 1 (itemsOf s) from to (h .0) in
-    let f : Found (hasKey key) (itemsOf s) (k .at-cut) = cut-some (hasKey key) (itemsOf s) (k .is) in
-    let i : Inside s (k .at-cut .front) (k .at-cut .hit) from to =
-    inside s (itemsOf s) _ _ _ from to (sheetBytes-read s (itemsOf s) t (l .reads)) (f .same) (k .stands) in
-    (h .1, i .ordered, i .within)
 
 -- ---- a cut behind an element that does not pass, and those before it
 
@@ -98,6 +56,17 @@ module _ {A : Type 0} (p : A → Bool) (x : A) (b : List A) (no : T (not (p x)))
 
 -- ---- the item of a key above the record's
 
+pub above-record : (i : Item) → T (isRecord i) → (key : Key) → key .objectid ≡ i .key .objectid → 170 ≤ key .kind → T (keyBelow (i .key) key)
+unfolding isRecord
+above-record i t key extent high =
+    let l : i .key .kind ≤ 169 = go (or-yes (eqb (i .key .kind) 168) _ t) in
+    let k : i .key .kind < key .kind = omega arith in
+    below-in (i .key) key (inr (sym extent, inl k))
+  where
+    go : T (eqb (i .key .kind) 168) ⊎ T (eqb (i .key .kind) 169) → i .key .kind ≤ 169
+    go (inl h) = let e : i .key .kind ≡ 168 = eqb→eq _ _ h in omega arith
+    go (inr h) = let e : i .key .kind ≡ 169 = eqb→eq _ _ h in omega arith
+
 pub record BehindAt (s : List ℕ) (c : Cut Item) (end : ℕ) (key : Key) (from to : ℕ) : Type 0 where
   pub item : Cut Item
   pub finds : cut (hasKey key) (itemsOf s) ≡ some item
@@ -113,17 +82,17 @@ module _ {s : List ℕ} {c : Cut Item} {target : RecordAt} (st : Stands s c targ
   rises-at : T (rising (c .front ++ c .hit ∷ c .back))
   rises-at = subst (λ (l : List Item). T (rising l)) (st .same) rises
 
-  record-low : c .hit .key .kind ≤ 169
-  unfolding isRecord
-  record-low = go (or-yes (eqb (c .hit .key .kind) 168) _ (st .is-record))
-    where
-      go : T (eqb (c .hit .key .kind) 168) ⊎ T (eqb (c .hit .key .kind) 169) → c .hit .key .kind ≤ 169
-      go (inl h) = let e : c .hit .key .kind ≡ 168 = eqb→eq _ _ h in omega arith
-      go (inr h) = let e : c .hit .key .kind ≡ 169 = eqb→eq _ _ h in omega arith
+  -- what a search from the record's end on asks, and where it finds an item
+  pub listed-behind : ListedFrom s (target .end)
+  listed-behind = behind-listed (st .list) (c .front) (c .hit) (c .back) (st .same) (target .end) (st .ends)
+
+  pub place-behind : (key : Key) (from to : ℕ) → seekIn key (target .end) (itemsFrom s (target .end)) ≡ Present from to
+      → (target .end ≤ from) × (from + 21 ≤ to) × (to ≤ length s)
+  place-behind key from to e = found-behind (st .list) (c .front) (c .hit) (c .back) (st .same) (target .end) (st .ends) key from to e
 
   module _ (key : Key) (extent : key .objectid ≡ c .hit .key .objectid) (high : 170 ≤ key .kind) where
     key-above : T (keyBelow (c .hit .key) key)
-    key-above = let l = record-low in let k : c .hit .key .kind < key .kind = omega arith in below-in (c .hit .key) key (inr (sym extent, inl k))
+    key-above = above-record (c .hit) (st .is-record) key extent high
 
     parts-of : {k : Cut Item} → cut (hasKey key) (itemsOf s) ≡ some k → Beyond (c .front) (c .hit) (c .back) k
     parts-of {k} e =
@@ -160,15 +129,12 @@ module _ {s : List ℕ} {c : Cut Item} {target : RecordAt} (st : Stands s c targ
           after = subst (λ (m : ℕ). (target .end) ≤ m) (i .starts) (follows k parts);
         }
 
-    pub behind-at : (from to : ℕ) → behindOf (target .end) (seekIn key 1 (itemsOf s)) ≡ Present from to → BehindAt s c (target .end) key from to
-    behind-at from to e = stands-at from to (behind-out (target .end) (seekIn key 1 (itemsOf s)) from to e .0)
+    -- as the search from the record's end on answers it
+    behind-is : seekIn key (target .end) (itemsFrom s (target .end)) ≡ seekIn key 1 (itemsOf s)
+    behind-is = seek-behind (st .list) (c .front) (c .hit) (c .back) (st .same) (target .end) (st .ends) key key-above
 
-    pub behind-none : (at : ℕ) → behindOf (target .end) (seekIn key 1 (itemsOf s)) ≡ Absent at → cut (hasKey key) (itemsOf s) ≡ none
-    behind-none at e = go (seekIn key 1 (itemsOf s)) refl
-      where
-        go : (f : Sought) → seekIn key 1 (itemsOf s) ≡ f → cut (hasKey key) (itemsOf s) ≡ none
-        go (Absent m) h = no-cut key 1 (itemsOf s) m rises h
-        go (Present from to) h =
-            let g : Present from to ≡ Absent at = stands-behind (target .end) (seekIn key 1 (itemsOf s)) from to h (stands-at from to h .after) ∙ e in
-            let z : _≡_ {A = ℕ} 0 1 = cc in
-            absurd (omega arith)
+    pub behind-at : (from to : ℕ) → seekIn key (target .end) (itemsFrom s (target .end)) ≡ Present from to → BehindAt s c (target .end) key from to
+    behind-at from to e = stands-at from to (sym behind-is ∙ e)
+
+    pub behind-none : (at : ℕ) → seekIn key (target .end) (itemsFrom s (target .end)) ≡ Absent at → cut (hasKey key) (itemsOf s) ≡ none
+    behind-none at e = no-cut key 1 (itemsOf s) at rises (sym behind-is ∙ e)

@@ -28,7 +28,7 @@ use Rattle.format.specs.Ledger.{droppedAt, dropDataRef}
 use Rattle.format.proofs.Answers.{ask-ok, accepted-inj, remove-not}
 use Rattle.format.proofs.Outputs.{answered-refused}
 use Rattle.item_list.specs.declared.Sought.the-variants.{Present, Absent as Missing}
-use Rattle.item_list.specs.Steps.{itemsOf}
+use Rattle.item_list.specs.Steps.{itemsOf, itemsFrom}
 use Rattle.item_list.specs.Seeks.{seekIn}
 use Rattle.item_list.proofs.ItemWrites.{answered-no}
 use Rattle.backref.specs.declared.plan.Outcome.{Outcome}
@@ -40,7 +40,7 @@ use Rattle.backref.proofs.Outcomes.{plan-is}
 use Rattle.record_edit.specs.declared.RecordAt.{RecordAt}
 use Rattle.record_edit.specs.Records.{dataOf, editedSheet, heldRecord}
 use Rattle.record_edit.proofs.Held.{held-bind}
-use Rattle.transaction.specs.Edits.{nothing, gone, counts, heldPlan, behindOf, heldAt}
+use Rattle.transaction.specs.Edits.{nothing, gone, counts, heldPlan, heldAt}
 use Rattle.transaction.proofs.Stands.{Stands}
 use Rattle.transaction.proofs.Turns.{is-absent, turns}
 use Rattle.transaction.proofs.Rewrites.{last-four}
@@ -185,7 +185,7 @@ module _ (s : List ℕ) (target : RecordAt) (name : DataRef) (p : Plan)
     high : 170 ≤ 178
     high = omega arith
 
-    pub data-none : (at : ℕ) (old : List ℕ) → behindOf (target .end) (seekIn item-key 1 (itemsOf s)) ≡ Missing at
+    pub data-none : (at : ℕ) (old : List ℕ) → seekIn item-key (target .end) (itemsFrom s (target .end)) ≡ Missing at
         → Answered (heldSheet room (dropDataRef name (itemsOf s) c)) (Denied 5) old old
     unfolding bind needed
     data-none at old e = answered-no _ room 5 old (turned none (behind-none st item-key extent high at e))
@@ -210,7 +210,7 @@ module _ (s : List ℕ) (target : RecordAt) (name : DataRef) (p : Plan)
           ∙ held-second st (counted-it st k 24 (sym (h .0)) count) room body
           ∙ ap (λ (m : ℕ). heldRecord room (target .«item_count») (length body) (editedSheet s target (counts to m) body)) same-count
 
-    pub data-item : (from to : ℕ) (r : Edited) (old new : List ℕ) → behindOf (target .end) (seekIn item-key 1 (itemsOf s)) ≡ Present from to
+    pub data-item : (from to : ℕ) (r : Edited) (old new : List ℕ) → seekIn item-key (target .end) (itemsFrom s (target .end)) ≡ Present from to
         → Answered (bind (lowerTotal (dataOf s (target .start) (target .end))) (heldAt room s target from to (dropKeyedDataRef (dataOf s from to) name))) r old new
         → Answered (heldSheet room (dropDataRef name (itemsOf s) c)) r old new
     unfolding bind needed

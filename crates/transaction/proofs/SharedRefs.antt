@@ -29,7 +29,7 @@ use Rattle.format.specs.Ledger.{sharedCount, dropSharedRef}
 use Rattle.format.proofs.Answers.{bind-next}
 use Rattle.format.proofs.Keys.{sameKey-yes}
 use Rattle.item_list.specs.declared.Sought.the-variants.{Present, Absent as Missing}
-use Rattle.item_list.specs.Steps.{itemsOf}
+use Rattle.item_list.specs.Steps.{itemsOf, itemsFrom}
 use Rattle.item_list.specs.Seeks.{seekIn}
 use Rattle.item_list.proofs.ItemWrites.{answered-no}
 use Rattle.backref.specs.declared.plan.Outcome.the-variants.{Absent}
@@ -40,7 +40,7 @@ use Rattle.backref.proofs.Reductions.{reduces-whole}
 use Rattle.backref.proofs.Takings.{taken-whole}
 use Rattle.record_edit.specs.declared.RecordAt.{RecordAt}
 use Rattle.record_edit.specs.Records.{dataOf}
-use Rattle.transaction.specs.Edits.{nothing, gone, heldPlan, behindOf}
+use Rattle.transaction.specs.Edits.{nothing, gone, heldPlan}
 use Rattle.transaction.proofs.Stands.{Stands}
 use Rattle.transaction.proofs.Turns.{accepted-absent, ask-absent, bind-absent, is-absent, turns}
 use Rattle.transaction.proofs.Behind.{BehindAt, behind-at, behind-none}
@@ -160,7 +160,7 @@ module _ (s : List ℕ) (target : RecordAt) (name : SharedRef) (p : Plan)
         ∙ ap (λ (x : ℕ). bind (needed 5 (cut (hasKey (keyOf x (name .kind) (name .parent))) (itemsOf s))) at-item) (sym extent)
         ∙ ap (λ (x : Option (Cut Item)). bind (needed 5 x) at-item) e
 
-    pub shared-none : (at : ℕ) (old : List ℕ) → behindOf (target .end) (seekIn item-key 1 (itemsOf s)) ≡ Missing at
+    pub shared-none : (at : ℕ) (old : List ℕ) → seekIn item-key (target .end) (itemsFrom s (target .end)) ≡ Missing at
         → Answered (heldSheet room (dropSharedRef name (itemsOf s) c)) (Denied 5) old old
     unfolding bind needed
     shared-none at old e = answered-no _ room 5 old (turned none (behind-none st item-key extent high at e))
@@ -191,7 +191,7 @@ module _ (s : List ℕ) (target : RecordAt) (name : SharedRef) (p : Plan)
             ap le ((λ j. part (place j) (size j) s) ∙ sym (item-bytes st k))
 
     pub shared-item : (from to count : ℕ) (q : Plan) (r : Edited) (old new : List ℕ) → T (all good (itemsOf s))
-        → behindOf (target .end) (seekIn item-key 1 (itemsOf s)) ≡ Present from to
+        → seekIn item-key (target .end) (itemsFrom s (target .end)) ≡ Present from to
         → count ≡ cond (eqb (name .kind) 184) (le (part (to - 4) 4 s)) 1
         → Planned q (dataOf s (target .start) (target .end)) (reduceTotal (dataOf s (target .start) (target .end)) count)
         → Answered (heldPlan room (target .«item_count» - 1) s target q (gone from to)) r old new

@@ -18,7 +18,9 @@ use Rattle.format.specs.Apply.{isRecord}
 use Rattle.format.proofs.Items.{length-sheetBytes, sheet-sane, sheetBytes-read}
 use Rattle.format.proofs.Keys.{sameKey-yes}
 use Rattle.format.proofs.Splices.{sheet-data}
-use Rattle.item_list.specs.Steps.{itemsOf}
+use Rattle.item_list.specs.declared.Checked.the-variants.{Count}
+use Rattle.item_list.specs.Steps.{itemsOf, checkedOf}
+use Rattle.item_list.proofs.Reading.{Counted, counted}
 use Rattle.item_list.proofs.Places.{Inside, inside}
 use Rattle.item_list.proofs.ItemWrites.{sane-fit}
 use Rattle.record_edit.specs.declared.RecordAt.{RecordAt}
@@ -38,14 +40,17 @@ pub record Stands (s : List ℕ) (c : Cut Item) (target : RecordAt) : Type 0 whe
   pub starts : length (sheetBytes (c .front)) ≡ target .start
   pub ends : length (sheetBytes (c .front)) + (21 + length (c .hit .bytes)) ≡ target .end
   pub fit : T (all (λ i. dataFits (i .bytes)) (itemsOf s))
+  pub list : Counted s (target .«item_count»)
 
 module _ {s : List ℕ} {target : RecordAt} (bytes : T (areBytes s)) (h : StandsAt s target) where
   pub stands : Stands s (h .at-cut) target
+  unfolding checkedOf
   stands =
       let c : Cut Item = h .at-cut in
       let f : Found (hasKey (target .key)) (itemsOf s) c = cut-some (hasKey (target .key)) (itemsOf s) (h .finds) in
       let k = sheet-sane s (itemsOf s) bytes (h .reads) in
       let are : sheetBytes (itemsOf s) ≡ s = sheetBytes-read s (itemsOf s) bytes (h .reads) in
+      let list : Counted s (target .«item_count») = counted s (target .«item_count») bytes (ap checkedOf (h .reads) ∙ ap Count (h .many)) in
       let e₁ = h .starts in
       let e₂ = h .ends in
       let first : target .start ≡ 1 + length (itemsBytes (c .front)) = sym e₁ ∙ length-sheetBytes (c .front) in
@@ -68,6 +73,7 @@ module _ {s : List ℕ} {target : RecordAt} (bytes : T (areBytes s)) (h : Stands
         starts = e₁;
         ends = i .ends;
         fit = sane-fit (itemsOf s) (k .0);
+        list = list;
       }
 
 -- the call at the record's key is the call at its cut

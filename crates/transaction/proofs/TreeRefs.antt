@@ -17,7 +17,7 @@ use Rattle.format.specs.Items.{Item, keyOf, heldSheet, without}
 use Rattle.format.specs.Sheets.{hasKey, deleted}
 use Rattle.format.specs.Apply.{replaced, flagged, dropTreeRef}
 use Rattle.item_list.specs.declared.Sought.the-variants.{Present, Absent as Missing}
-use Rattle.item_list.specs.Steps.{itemsOf}
+use Rattle.item_list.specs.Steps.{itemsOf, itemsFrom}
 use Rattle.item_list.specs.Seeks.{seekIn}
 use Rattle.item_list.proofs.ItemWrites.{answered-no}
 use Rattle.backref.specs.declared.plan.Outcome.the-variants.{Absent}
@@ -25,7 +25,7 @@ use Rattle.backref.specs.declared.plan.Plan.{Plan}
 use Rattle.backref.specs.Plans.{planAnswer, Planned}
 use Rattle.record_edit.specs.declared.RecordAt.{RecordAt}
 use Rattle.record_edit.specs.Records.{dataOf}
-use Rattle.transaction.specs.Edits.{nothing, gone, heldPlan, behindOf}
+use Rattle.transaction.specs.Edits.{nothing, gone, heldPlan}
 use Rattle.transaction.proofs.Stands.{Stands}
 use Rattle.transaction.proofs.Behind.{BehindAt, behind-at, behind-none}
 use Rattle.transaction.proofs.Puts.{put-answered, inline-answered, without-it, replaced-without}
@@ -70,7 +70,7 @@ module _ (s : List ℕ) (target : RecordAt) (name : BlockRef) (p : Plan)
       deleted-is o e =
           ap (λ (k : Key). deleted k (itemsOf s)) (sym key-same) ∙ ap (λ (o : Option (Cut Item)). bind (needed 5 o) (λ k. accepted (without k))) e
 
-      pub tree-none : (at : ℕ) (old : List ℕ) → behindOf (target .end) (seekIn item-key 1 (itemsOf s)) ≡ Missing at
+      pub tree-none : (at : ℕ) (old : List ℕ) → seekIn item-key (target .end) (itemsFrom s (target .end)) ≡ Missing at
           → Answered (heldSheet room (dropTreeRef name false (itemsOf s) c)) (Denied 5) old old
       unfolding bind needed
       tree-none at old e =
@@ -79,7 +79,7 @@ module _ (s : List ℕ) (target : RecordAt) (name : BlockRef) (p : Plan)
           (turned ∙ ap (λ (a : Answer (List Item)). bind a (λ others. bind (lowerTotal (c .hit .bytes)) (λ rest. bind (flagged false rest) (λ body. replaced (c .hit .key) body others))))
           (deleted-is none (behind-none st item-key (ap (λ (i : Item). i .key .objectid) hit-is) high at e)))
 
-      pub tree-item : (from to : ℕ) (q : Plan) (r : Edited) (old new : List ℕ) → behindOf (target .end) (seekIn item-key 1 (itemsOf s)) ≡ Present from to
+      pub tree-item : (from to : ℕ) (q : Plan) (r : Edited) (old new : List ℕ) → seekIn item-key (target .end) (itemsFrom s (target .end)) ≡ Present from to
           → Planned q (dataOf s (target .start) (target .end)) (lowerTotal (dataOf s (target .start) (target .end)))
           → Answered (heldPlan room (target .«item_count» - 1) s target q (gone from to)) r old new
           → Answered (heldSheet room (dropTreeRef name false (itemsOf s) c)) r old new

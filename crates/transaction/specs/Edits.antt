@@ -1,15 +1,11 @@
 -- The two edits of a drop: the record's body, and an item behind the record. Assumes nothing.
-use mathlib.Core.Bool.{cond}
 use mathlib.Core.List.{List}
 use Prim.Native.Nat.{ℕ, _-_}
 use lib.Bits.{bitOr}
-use lib.Dec.{ltb}
 use lib.ListN.{length, replicate}
 use Rattle.fields.specs.Numbers.{le, leBytes}
 use Rattle.fields.specs.Parts.{part, written}
 use Rattle.format.specs.Questions.{Answer, refused, absent, remove, accepted, bind}
-use Rattle.item_list.specs.declared.Sought.{Sought}
-use Rattle.item_list.specs.declared.Sought.the-variants.{Present, Absent}
 use Rattle.backref.specs.declared.plan.Plan.{Plan}
 use Rattle.backref.specs.Plans.{planAnswer}
 use Rattle.record_edit.specs.declared.Behind.{Behind}
@@ -31,11 +27,6 @@ abbrev pub heldPlan : ℕ → ℕ → List ℕ → RecordAt → Plan → Behind 
 heldPlan room count s target plan b =
     bind (planAnswer plan (dataOf s (target .start) (target .end))) (λ body.
     heldRecord room count (length body) (editedSheet s target b body))
-
--- an item that stands before the end of the record is none of its extent's references
-unfoldable pub behindOf : ℕ → Sought → Sought
-behindOf end (Present from to) = cond (ltb from end) (Absent from) (Present from to)
-behindOf end (Absent at) = Absent at
 
 -- the same by the answer of an item's own drop: the item goes, or counts one less
 unfoldable pub heldAt : ℕ → List ℕ → RecordAt → ℕ → ℕ → Answer (List ℕ) → List ℕ → Answer (List ℕ)

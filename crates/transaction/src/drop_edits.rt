@@ -1,8 +1,6 @@
 // What a drop writes: the record with a planned body, and behind it all as it was, an item gone or an item that counts less.
 use backref::Plan;
 use format::Edited;
-use format::Key;
-use item_list::Sought;
 use record_edit::Behind;
 use record_edit::RecordAt;
 ghost use mathlib.Core.Path.{_≡_};
@@ -10,28 +8,9 @@ ghost use Prim.Native.Nat.{_+_, _-_, _≤_};
 ghost use lib.ListN.{length};
 ghost use Rattle.fields.specs.Numbers.{leBytes};
 ghost use Rattle.format.specs.Questions.{Answered};
-ghost use Rattle.item_list.specs.Steps.{Listed, itemsOf};
-ghost use Rattle.item_list.specs.Seeks.{seekIn};
 ghost use Rattle.backref.specs.Plans.{PlanIn};
 ghost use Rattle.record_edit.specs.Records.{dataOf, BehindIn};
-ghost use Rattle.transaction.specs.Edits.{nothing, gone, counts, heldPlan, behindOf};
-
-// Where the item of a reference stands. Its key is above that of its extent's record, so it stands behind it.
-pub fn item_behind(sheet: &[u8], end: usize, key: Key) -> Sought
-    requires { ⌜ Listed (now sheet) ⌝ }
-    ensures { λ r. ⌜ r ≡ behindOf end (seekIn key 1 (itemsOf (now (sheet .entry)))) ⌝ }
-{
-    let sought = item_list::seek(sheet, key);
-    match sought {
-        Sought::Absent { at } => Sought::Absent { at },
-        Sought::Present { start, end: to } => {
-            if start < end {
-                return Sought::Absent { at: start };
-            }
-            Sought::Present { start, end: to }
-        }
-    }
-}
+ghost use Rattle.transaction.specs.Edits.{nothing, gone, counts, heldPlan};
 
 // No limit is asked: a planned body has at most 65,564 bytes.
 fn put(

@@ -37,7 +37,7 @@ pub fn drop_tree_ref(sheet: &[u8], target: RecordAt, name: BlockRef, out: &mut [
         kind: 176,
         offset: name.tree,
     };
-    let place = crate::item_behind(sheet, end, item);
+    let place = item_list::seek(sheet, end, item);
     let Sought::Present {
         start: from,
         end: to,
@@ -99,7 +99,7 @@ pub fn drop_data_ref(sheet: &[u8], target: RecordAt, name: DataRef, out: &mut [u
         kind: 178,
         offset: extent_write::data_ref_hash(name.tree, name.objectid, name.offset),
     };
-    let place = crate::item_behind(sheet, end, item);
+    let place = item_list::seek(sheet, end, item);
     let Sought::Present {
         start: from,
         end: to,

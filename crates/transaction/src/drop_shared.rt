@@ -62,7 +62,7 @@ pub fn drop_shared_ref(sheet: &[u8], target: RecordAt, name: SharedRef, out: &mu
         kind: name.kind,
         offset: name.parent,
     };
-    let place = crate::item_behind(sheet, end, item);
+    let place = item_list::seek(sheet, end, item);
     let Sought::Present {
         start: from,
         end: to,

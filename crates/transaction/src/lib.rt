@@ -22,7 +22,6 @@ pub use adds::is_unread;
 pub use adds::limit_for;
 pub use adds::plan_keyed;
 pub use adds::plan_shared;
-pub use drop_edits::item_behind;
 pub use drop_edits::put_count;
 pub use drop_edits::put_record;
 pub use drop_edits::put_without;

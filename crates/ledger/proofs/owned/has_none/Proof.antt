@@ -2,26 +2,28 @@ use mathlib.Core.Path.{sym, _∙_}
 use native.Mathlib.Omega.{arith}
 use denote.Ref.{now}
 use Rattle.fields.proofs.Numbers.{areBytes-in}
-use Rattle.item_list.proofs.Reading.{listed}
-use Rattle.ledger.proofs.OwnItems.{Seat, no-seat, seat}
+use Rattle.ledger.proofs.OwnItems.{Seat, listed-behind, no-seat, seat}
 use borrow.Author.Needs.{needs}
 use Rattle.ledger.proofs.owned.has_none.Statement.{statement}
 use Rattle.ledger.proofs.owned.has_none.Tie as tie
 
 seek-requires : tie.Need-seek-requires
-seek-requires c κs = listed _ _ (c .before .before .before .pre .checked)
+seek-requires c κs =
+    let s = c .before .before .before in
+    listed-behind _ _ (areBytes-in (now (s .args .sheet)) (λ i. c .before .before .shared-slice-known .given i .fits)) (s .pre .0) _ _ _ (s .pre .1) _ _ _
+    (c .before .kind-of .ensures) (c .own-place .ensures)
 
 returns : tie.Need-returns
 returns c =
     let a = c .before .before .before .before .before .before .args in
-    no-seat _ _ (areBytes-in (now (a .sheet)) (λ i. c .before .before .before .before .before .shared-slice-known .given i .fits)) (c .before .before .before .before .before .before .pre) _ _ _ _
+    no-seat _ _ (areBytes-in (now (a .sheet)) (λ i. c .before .before .before .before .before .shared-slice-known .given i .fits)) (c .before .before .before .before .before .before .pre .0) _ _ _ (c .before .before .before .before .before .before .pre .1) _ _ _
     (c .before .before .before .before .kind-of .ensures) (c .before .before .before .own-place .ensures) _ (sym (c .before .before .seek .ensures) ∙ c .enum-told .given .1)
 
 -- an item stands at the key
 stands : (c : tie.After-known-told) → Seat (now (c .before .before .before .before .before .before .before .args .sheet)) (c .before .before .before .before .before .before .before .args .extent) (c .before .before .before .before .before .before .before .args .wanted) (c .before .sought .given .0 .0) (c .before .sought .given .0 .1 .0)
 stands c =
     let a = c .before .before .before .before .before .before .before .args in
-    seat _ _ (areBytes-in (now (a .sheet)) (λ i. c .before .before .before .before .before .before .shared-slice-known .given i .fits)) (c .before .before .before .before .before .before .before .pre) _ _ _ _
+    seat _ _ (areBytes-in (now (a .sheet)) (λ i. c .before .before .before .before .before .before .shared-slice-known .given i .fits)) (c .before .before .before .before .before .before .before .pre .0) _ _ _ (c .before .before .before .before .before .before .before .pre .1) _ _ _
     (c .before .before .before .before .before .kind-of .ensures) (c .before .before .before .before .own-place .ensures) _ _ (sym (c .before .before .before .seek .ensures) ∙ c .before .sought .given .1)
 
 add-is-own : tie.Need-add-is-own

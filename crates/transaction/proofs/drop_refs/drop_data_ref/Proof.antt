@@ -6,7 +6,7 @@ use Rattle.fields.proofs.Numbers.{areBytes-in}
 use Rattle.format.specs.Ledger.{dropDataRef}
 use Rattle.item_list.specs.Steps.{itemsOf}
 use Rattle.transaction.proofs.Stands.{Stands, stands, key-answered}
-use Rattle.transaction.proofs.Behind.{place-fits}
+use Rattle.transaction.proofs.Behind.{listed-behind, place-behind}
 use Rattle.transaction.proofs.Turns.{other-outcome}
 use Rattle.transaction.proofs.DataRefs.{data-inline, data-none, data-item}
 use borrow.Author.Needs.{needs}
@@ -41,8 +41,8 @@ returns c =
     (data-inline (now (a .sheet)) (a .target) (a .name) _ (c .before .before .before .before .before .plan-drop-data .ensures) (length (now (a .out))) (h .at-cut) (stood at) (other-outcome _ (c .before .before .before .before .match .keys2)) _ (now (a .out)) _
     (c .before .before .put-record .ensures))
 
-item-behind-requires : tie.Need-item-behind-requires
-item-behind-requires c κs = record { reads = c .before .before .before .before .before .before .before .pre .reads }
+seek-requires : tie.Need-seek-requires
+seek-requires c κs = listed-behind (stood (c .before .before .before .before .before))
 
 returns-2 : tie.Need-returns-2
 returns-2 c =
@@ -51,7 +51,7 @@ returns-2 c =
     let h = at .before .before .pre in
     key-answered h (dropDataRef (a .name) (itemsOf (now (a .sheet)))) (length (now (a .out))) _ (now (a .out)) _
     (data-none (now (a .sheet)) (a .target) (a .name) _ (c .before .before .before .before .before .before .plan-drop-data .ensures) (length (now (a .out))) (h .at-cut) (stood at) (c .before .before .before .before .enum-told .given .1) _ (c .before .before .before .data-ref-hash .ensures) _ (now (a .out))
-    (sym (c .before .before .item-behind .ensures) ∙ c .enum-told2 .given .1))
+    (sym (c .before .before .seek .ensures) ∙ c .enum-told2 .given .1))
 
 drop-at-item-requires : tie.Need-drop-at-item-requires
 drop-at-item-requires c κs =
@@ -59,8 +59,7 @@ drop-at-item-requires c κs =
     let a = at .before .before .args in
     let d = stood at in
     let f =
-    place-fits (now (a .sheet)) (areBytes-in (now (a .sheet)) (λ i. at .before .shared-slice-known .given i .fits)) (record { reads = d .reads })
-    (a .target .end) _ _ _ (sym (c .before .before .before .before .item-behind .ensures) ∙ c .before .before .place .given .1) in
+    place-behind d _ _ _ (sym (c .before .before .before .before .seek .ensures) ∙ c .before .before .place .given .1) in
     (d .ordered, f .0, f .1, f .2, d .small)
 
 returns-3 : tie.Need-returns-3
@@ -70,9 +69,9 @@ returns-3 c =
     let h = at .before .before .pre in
     key-answered h (dropDataRef (a .name) (itemsOf (now (a .sheet)))) (length (now (a .out))) _ (now (a .out)) _
     (data-item (now (a .sheet)) (a .target) (a .name) _ (c .before .before .before .before .before .before .before .before .before .before .before .plan-drop-data .ensures) (length (now (a .out))) (h .at-cut) (stood at) (c .before .before .before .before .before .before .before .before .before .enum-told .given .1) _ (c .before .before .before .before .before .before .before .before .data-ref-hash .ensures) _ _ _ (now (a .out)) _
-    (sym (c .before .before .before .before .before .before .before .item-behind .ensures) ∙ c .before .before .before .before .before .place .given .1) (c .before .before .drop-at-item .ensures))
+    (sym (c .before .before .before .before .before .before .before .seek .ensures) ∙ c .before .before .before .before .before .place .given .1) (c .before .before .drop-at-item .ensures))
 
 pub drop-data-ref-spec : {M : Type 1} → statement M
 drop-data-ref-spec =
     tie.close
-    (tie.spec add-body sub-body part-body-start part-body-end (λ c κs. search needs) (λ c. search needs) put-record-requires (λ c. search needs) returns (λ c κs. search needs) item-behind-requires (λ c. search needs) (λ c. search needs) returns-2 drop-at-item-requires (λ c. search needs) returns-3)
+    (tie.spec add-body sub-body part-body-start part-body-end (λ c κs. search needs) (λ c. search needs) put-record-requires (λ c. search needs) returns (λ c κs. search needs) seek-requires (λ c. search needs) (λ c. search needs) returns-2 drop-at-item-requires (λ c. search needs) returns-3)
