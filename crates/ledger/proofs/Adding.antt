@@ -30,13 +30,14 @@ use Rattle.backref.specs.Plans.{planAnswer, Planned}
 use Rattle.backref.proofs.Outcomes.{plan-refused}
 use Rattle.record_edit.specs.Records.{dataOf, heldEdit}
 use Rattle.transaction.specs.Spots.{withBody}
+use Rattle.transaction.specs.Drops.{sharedRef}
 use Rattle.transaction.specs.Keyed.{limitFor}
 use Rattle.transaction.proofs.Spots.{Standing}
 use Rattle.transaction.proofs.Records.{put-answered}
 use Rattle.transaction.proofs.KeyedAdditions.{either}
 use Rattle.ledger.specs.Known.{nameIn}
 use Rattle.ledger.specs.Asked.{AskedAdd}
-use Rattle.ledger.specs.Adding.{sharedRef, addChange, addedBody, grownOnly}
+use Rattle.ledger.specs.Adding.{addChange, addedBody, grownOnly}
 use Rattle.ledger.proofs.Alsos.{also-bind}
 use Rattle.ledger.proofs.Standings.{on-record}
 

@@ -7,7 +7,7 @@ use Prim.Native.Nat.{ℕ}
 use native.Mathlib.Omega.{arith}
 use lib.Dec.{T, eqb}
 use mir.Facts.{and-yes}
-use Rattle.fields.specs.Lists.{Cut, cut}
+use Rattle.fields.specs.Lists.{all, Cut, cut}
 use Rattle.fields.proofs.Lists.{cut-some}
 use Rattle.format.specs.declared.Key.{Key}
 use Rattle.format.specs.declared.Edited.{Edited}
@@ -15,14 +15,25 @@ use Rattle.format.specs.Questions.{Answer, bind, needed, Answered}
 use Rattle.format.specs.Items.{Item, rising, heldSheet}
 use Rattle.format.specs.Sheets.{hasKey}
 use Rattle.format.specs.Apply.{isRecord, recordOf, onRecord}
+use Rattle.format.specs.Names.{good}
 use Rattle.format.proofs.Items.{sheet-out}
 use Rattle.format.proofs.Keys.{cut-at-key}
+use Rattle.inline_refs.specs.declared.wanted.Wanted.{Wanted}
+use Rattle.inline_refs.specs.declared.wanted.Wanted.the-variants.{Block, Data, SharedBlock, SharedData}
 use Rattle.item_list.specs.Steps.{itemsOf, itemAt}
 use Rattle.transaction.proofs.Spots.{Standing}
 use Rattle.record_edit.specs.declared.RecordAt.{RecordAt}
 use Rattle.transaction.specs.Stands.{onKey}
+use Rattle.transaction.specs.Drops.{InForm}
 use Rattle.transaction.proofs.Stands.{on-key}
 use Rattle.ledger.specs.Dropping.{StandsFor}
+
+-- what a drop asks of the items is so in a balanced list
+pub in-form : (w : Wanted) (items : List Item) → T (all good items) → InForm w items
+in-form (Block name) items t = tt
+in-form (Data name) items t = tt
+in-form (SharedBlock parent) items t = tt
+in-form (SharedData parent) items t = t
 
 module _ {s : List ℕ} {extent number start end n : ℕ} (st : Standing s extent true number start end n) where
   pub stands-for : (key : Key) → key ≡ itemAt s start .key → StandsFor s extent (record { key = key; start = start; end = end; «item_count» = n })

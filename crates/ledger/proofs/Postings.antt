@@ -12,6 +12,8 @@ use lib.Dec.{eqb→eq}
 use Rattle.fields.specs.Lists.{all, Cut, cut}
 use Rattle.format.specs.declared.Change.{Change}
 use Rattle.format.specs.declared.Change.the-variants.{AddBlock, AddData, AddShared, DropBlock, DropData, DropShared}
+use Rattle.format.specs.declared.BlockRef.{BlockRef}
+use Rattle.format.specs.declared.DataRef.{DataRef}
 use Rattle.format.specs.declared.SharedRef.{SharedRef}
 use Rattle.format.specs.declared.Edited.{Edited}
 use Rattle.format.specs.declared.Edited.the-variants.{Refused as Denied}
@@ -20,9 +22,9 @@ use Rattle.format.specs.Bodies.{sharedKind}
 use Rattle.format.specs.Items.{Item, readSheet, onSheet, nodesizeFits, heldSheet}
 use Rattle.format.specs.Apply.{recordOf, onRecord, applyKeyedAdd, applySharedAdd}
 use Rattle.format.specs.Names.{Name, balanced}
-use Rattle.format.specs.Ledger.{nameOf, kindFits, notItsOwn, added, changed, post, posted}
+use Rattle.format.specs.Ledger.{nameOf, kindFits, notItsOwn, added, dropSharedRef, changed, post, posted}
 use Rattle.inline_refs.specs.declared.wanted.Wanted.{Wanted}
-use Rattle.inline_refs.specs.declared.wanted.Wanted.the-variants.{SharedBlock, SharedData}
+use Rattle.inline_refs.specs.declared.wanted.Wanted.the-variants.{Block, Data, SharedBlock, SharedData}
 use Rattle.inline_refs.specs.Scans.{kindOf}
 use Rattle.item_list.specs.declared.Place.the-variants.{At, Missing}
 use Rattle.item_list.specs.declared.Checked.the-variants.{Count, Refused}
@@ -32,8 +34,9 @@ use Rattle.item_list.specs.Seeks.{placeIn, recorded, passing}
 use Rattle.item_list.proofs.Reading.{listed, sheet-refused}
 use Rattle.item_list.proofs.Places.{record-missing}
 use Rattle.item_list.proofs.ItemWrites.{answered-no}
+use Rattle.transaction.specs.Drops.{sharedRef, dropRef}
 use Rattle.ledger.specs.Known.{BalancedList, HasRecord}
-use Rattle.ledger.specs.Adding.{sharedRef, addChange}
+use Rattle.ledger.specs.Adding.{addChange}
 use Rattle.ledger.specs.Posting.{beforeFive, SharedWanted}
 
 -- ---- the name of a shared reference
@@ -43,18 +46,20 @@ module _ (name : SharedRef) where
   shared-name kind e = λ j. record { kind = e j; parent = name .parent }
 
   pub wanted-block : name .kind ≡ 182 → SharedWanted name (SharedBlock (name .parent))
-  unfolding addChange kindOf
+  unfolding addChange dropRef kindOf
   wanted-block e = record {
     change = λ extent amount. ap (λ (x : SharedRef). AddShared extent x amount) (shared-name 182 e);
+    drop = λ items c. ap (λ (x : SharedRef). dropSharedRef x items c) (shared-name 182 e);
     kind = sym e;
   }
 
   pub wanted-data : T (sharedKind (name .kind)) → (name .kind ≡ 182 → ⊥) → SharedWanted name (SharedData (name .parent))
-  unfolding addChange kindOf sharedKind
+  unfolding addChange dropRef kindOf sharedKind
   wanted-data t n =
       let e : name .kind ≡ 184 = go (or-yes (eqb (name .kind) 182) (eqb (name .kind) 184) t) in
       record {
         change = λ extent amount. ap (λ (x : SharedRef). AddShared extent x amount) (shared-name 184 e);
+        drop = λ items c. ap (λ (x : SharedRef). dropSharedRef x items c) (shared-name 184 e);
         kind = sym e;
       }
     where
@@ -63,6 +68,25 @@ module _ (name : SharedRef) where
       go (inr h) = eqb→eq _ _ h
 
 -- ---- the change that it is
+
+-- a drop of that change, by the name
+module _ (nodesize extent : ℕ) (items : List Item) where
+  pub drop-block : (name : BlockRef) → onRecord extent items (dropRef (Block name) items) ≡ changed nodesize (DropBlock extent name) items
+  unfolding changed dropRef
+  drop-block name = refl
+
+  pub drop-data : (name : DataRef) → onRecord extent items (dropRef (Data name) items) ≡ changed nodesize (DropData extent name) items
+  unfolding changed dropRef
+  drop-data name = refl
+
+  pub drop-shared : (name : SharedRef) (w : Wanted) → SharedWanted name w → onRecord extent items (dropRef w items) ≡ changed nodesize (DropShared extent name) items
+  unfolding changed
+  drop-shared name w h = λ j. onRecord extent items (λ c. sym (h .drop items c) j)
+
+pub as-drop : (nodesize room : ℕ) (items : List Item) {r : Edited} {old new : List ℕ} (change other : Change) (a : Answer (List Item)) → change ≡ other
+    → a ≡ changed nodesize other items → Answered (heldSheet room a) r old new → Answered (heldSheet room (changed nodesize change items)) r old new
+as-drop nodesize room items {r} {old} {new} change other a e is h =
+    subst (λ (x : Answer (List Item)). Answered (heldSheet room x) r old new) (is ∙ ap (λ (x : Change). changed nodesize x items) (sym e)) h
 
 pub as-change : (nodesize room : ℕ) (items : List Item) {r : Edited} {old new : List ℕ} (change other : Change) → change ≡ other
     → Answered (heldSheet room (changed nodesize other items)) r old new → Answered (heldSheet room (changed nodesize change items)) r old new

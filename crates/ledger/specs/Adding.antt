@@ -2,7 +2,6 @@
 use mathlib.Core.Bool.{Bool, true, false}
 use mathlib.Core.List.{List}
 use Prim.Native.Nat.{ℕ, zero, suc}
-use Rattle.format.specs.declared.SharedRef.{SharedRef}
 use Rattle.format.specs.declared.Change.{Change}
 use Rattle.format.specs.declared.Change.the-variants.{AddBlock, AddData, AddShared}
 use Rattle.format.specs.Questions.{Answer, refused}
@@ -10,9 +9,7 @@ use Rattle.format.specs.Bodies.{addInlineTreeRef, addInlineData, addInlineShare
 use Rattle.format.specs.Items.{Item}
 use Rattle.inline_refs.specs.declared.wanted.Wanted.{Wanted}
 use Rattle.inline_refs.specs.declared.wanted.Wanted.the-variants.{Block, Data, SharedBlock, SharedData}
-
-abbrev pub sharedRef : ℕ → ℕ → SharedRef
-sharedRef kind parent = record { kind = kind; parent = parent }
+use Rattle.transaction.specs.Drops.{sharedRef}
 
 unfoldable pub addChange : ℕ → Wanted → ℕ → Change
 addChange extent (Block name) amount = AddBlock extent name

@@ -1,11 +1,16 @@
 -- What the steps of a posting say: questions 3 and 4, and the name that a shared reference wants. Assumes nothing.
 use mathlib.Core.Path.{_≡_}
 use mathlib.Core.Bool.{Bool, cond}
+use mathlib.Core.List.{List}
 use Prim.Native.Nat.{ℕ}
+use Rattle.fields.specs.Lists.{Cut}
 use Rattle.format.specs.declared.SharedRef.{SharedRef}
 use Rattle.format.specs.declared.Change.the-variants.{AddShared}
+use Rattle.format.specs.Items.{Item}
+use Rattle.format.specs.Ledger.{dropSharedRef}
 use Rattle.inline_refs.specs.declared.wanted.Wanted.{Wanted}
 use Rattle.inline_refs.specs.Scans.{kindOf}
+use Rattle.transaction.specs.Drops.{dropRef}
 use Rattle.ledger.specs.Adding.{addChange}
 
 -- questions 3 and 4: the number of the first "no", or 0
@@ -15,4 +20,5 @@ beforeFive three four = cond three (cond four 0 4) 3
 -- the name that a shared reference wants
 pub record SharedWanted (name : SharedRef) (w : Wanted) : Type 0 where
   pub change : (extent amount : ℕ) → AddShared extent name amount ≡ addChange extent w amount
+  pub drop : (items : List Item) (c : Cut Item) → dropSharedRef name items c ≡ dropRef w items c
   pub kind : kindOf w ≡ name .kind

@@ -1,17 +1,14 @@
 // A reference dropped from the record of an extent, or from its own item.
 use crate::Stand;
-use format::BlockRef;
-use format::DataRef;
 use format::Edited;
-use format::SharedRef;
+use inline_refs::Wanted;
 use record_edit::RecordAt;
-ghost use mathlib.Core.Bool.{false};
 ghost use lib.ListN.{length};
 ghost use Rattle.format.specs.Questions.{Answered};
 ghost use Rattle.format.specs.Items.{heldSheet};
-ghost use Rattle.format.specs.Apply.{onRecord, dropTreeRef};
-ghost use Rattle.format.specs.Ledger.{dropDataRef, dropSharedRef};
+ghost use Rattle.format.specs.Apply.{onRecord};
 ghost use Rattle.item_list.specs.Steps.{itemsOf};
+ghost use Rattle.transaction.specs.Drops.{dropRef};
 ghost use Rattle.ledger.specs.Known.{BalancedList, HasRecord};
 ghost use Rattle.ledger.specs.Dropping.{StandsFor};
 
@@ -29,35 +26,12 @@ fn record_at(sheet: &[u8], stand: Stand, extent: u64) -> RecordAt
     }
 }
 
-pub fn drop_block(sheet: &[u8], stand: Stand, extent: u64, name: BlockRef, out: &mut [u8]) -> Edited
+// The reference dropped, a shared one with all its count.
+pub fn drop_ref(sheet: &[u8], stand: Stand, extent: u64, name: Wanted, out: &mut [u8]) -> Edited
     requires { ⌜ BalancedList (now sheet) (stand .items) ⌝ }
     requires { ⌜ HasRecord (now sheet) extent (stand .start) (stand .end) ⌝ }
-    ensures { λ r. ⌜ Answered (heldSheet (length (now (out .entry))) (onRecord extent (itemsOf (now (sheet .entry))) (dropTreeRef name false (itemsOf (now (sheet .entry)))))) r (now (out .entry)) (now (out .exit)) ⌝ }
+    ensures { λ r. ⌜ Answered (heldSheet (length (now (out .entry))) (onRecord extent (itemsOf (now (sheet .entry))) (dropRef name (itemsOf (now (sheet .entry)))))) r (now (out .entry)) (now (out .exit)) ⌝ }
 {
     let target = record_at(sheet, stand, extent);
-    transaction::drop_tree_ref(sheet, target, name, out)
-}
-
-pub fn drop_data(sheet: &[u8], stand: Stand, extent: u64, name: DataRef, out: &mut [u8]) -> Edited
-    requires { ⌜ BalancedList (now sheet) (stand .items) ⌝ }
-    requires { ⌜ HasRecord (now sheet) extent (stand .start) (stand .end) ⌝ }
-    ensures { λ r. ⌜ Answered (heldSheet (length (now (out .entry))) (onRecord extent (itemsOf (now (sheet .entry))) (dropDataRef name (itemsOf (now (sheet .entry)))))) r (now (out .entry)) (now (out .exit)) ⌝ }
-{
-    let target = record_at(sheet, stand, extent);
-    transaction::drop_data_ref(sheet, target, name, out)
-}
-
-pub fn drop_shared(
-    sheet: &[u8],
-    stand: Stand,
-    extent: u64,
-    name: SharedRef,
-    out: &mut [u8],
-) -> Edited
-    requires { ⌜ BalancedList (now sheet) (stand .items) ⌝ }
-    requires { ⌜ HasRecord (now sheet) extent (stand .start) (stand .end) ⌝ }
-    ensures { λ r. ⌜ Answered (heldSheet (length (now (out .entry))) (onRecord extent (itemsOf (now (sheet .entry))) (dropSharedRef name (itemsOf (now (sheet .entry)))))) r (now (out .entry)) (now (out .exit)) ⌝ }
-{
-    let target = record_at(sheet, stand, extent);
-    transaction::drop_shared_ref(sheet, target, name, out)
+    transaction::drop_ref(sheet, target, name, out)
 }

@@ -110,13 +110,14 @@ fn change_at(sheet: &[u8], stand: Stand, nodesize: u32, change: Change, out: &mu
             return crate::add(sheet, stand, nodesize, extent, wanted, amount, out);
         }
         Change::DropBlock { extent, name } => {
-            return drops::drop_block(sheet, stand, extent, name, out);
+            return drops::drop_ref(sheet, stand, extent, Wanted::Block(name), out);
         }
         Change::DropData { extent, name } => {
-            return drops::drop_data(sheet, stand, extent, name, out);
+            return drops::drop_ref(sheet, stand, extent, Wanted::Data(name), out);
         }
         Change::DropShared { extent, name } => {
-            return drops::drop_shared(sheet, stand, extent, name, out);
+            let wanted = shared_wanted(name);
+            return drops::drop_ref(sheet, stand, extent, wanted, out);
         }
     }
 }

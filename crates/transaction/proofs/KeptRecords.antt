@@ -1,6 +1,6 @@
 -- The record of type 169 whose offset is the level, and the call on it. Assumes nothing.
 use mathlib.Core.Path.{_≡_, sym, ap, _∙_, subst}
-use mathlib.Core.Bool.{Bool, true, _||_}
+use mathlib.Core.Bool.{Bool, true, false, _||_}
 use mathlib.Core.Option.{Option}
 use mathlib.Core.List.{List}
 use Prim.Native.Nat.{ℕ}
@@ -15,12 +15,14 @@ use Rattle.format.specs.Items.{Item, keyOf, readSheet, onSheet, heldSheet}
 use Rattle.format.specs.Sheets.{hasKey}
 use Rattle.format.specs.Apply.{isRecord, dropTreeRef, dropKeptTreeRef, dropKeptTreeRefFrom}
 use Rattle.format.proofs.Keys.{sameKey-yes}
+use Rattle.inline_refs.specs.declared.wanted.Wanted.the-variants.{Block}
 use Rattle.item_list.specs.declared.Sought.the-variants.{Present, Absent}
 use Rattle.item_list.specs.Steps.{itemsOf}
 use Rattle.item_list.specs.Seeks.{seekIn}
 use Rattle.item_list.proofs.Reading.{Counted}
 use Rattle.item_list.proofs.Places.{Sits, sits, no-cut, Inside, inside}
 use Rattle.transaction.specs.Stands.{StandsAt, onKey}
+use Rattle.transaction.specs.Drops.{dropRef}
 
 module _ (s : List ℕ) (bytenr level : ℕ) (name : BlockRef) (own : Bool) where
   pub kept-refused : (k : ℕ) → readSheet s ≡ refused k → dropKeptTreeRefFrom s bytenr level name own ≡ refused k
@@ -68,3 +70,9 @@ module _ (s : List ℕ) (bytenr level : ℕ) (name : BlockRef) (own : Bool) wher
     kept-told flag room r old new e w =
         subst (λ (a : Answer (List Item)). Answered (heldSheet room a) r old new)
         (ap (λ (b : Bool). onKey key (itemsOf s) (dropTreeRef name b (itemsOf s))) (sym e) ∙ sym kept-is) w
+
+    pub kept-plain : (room : ℕ) (r : Edited) (old new : List ℕ) → own ≡ false
+        → Answered (heldSheet room (onKey key (itemsOf s) (dropRef (Block name) (itemsOf s)))) r old new
+        → Answered (heldSheet room (dropKeptTreeRefFrom s bytenr level name own)) r old new
+    unfolding dropRef
+    kept-plain room r old new e w = kept-told false room r old new e w

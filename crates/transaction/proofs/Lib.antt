@@ -3,9 +3,8 @@ pub mod Triples
 pub mod Singles
 pub mod Readings
 pub mod Only
-pub mod TreeRefs
-pub mod DataRefs
-pub mod SharedRefs
+pub mod ItemDrops
+pub mod RefDrops
 pub mod Owned
 pub mod OwnDrops
 pub mod KeptRecords

@@ -23,6 +23,7 @@ use Rattle.format.specs.Apply.{replaced, flagged, dropTreeRef}
 use Rattle.format.proofs.Answers.{ask-ok, bind-ok, found-ok, accepted-inj, refused-not, remove-not}
 use Rattle.format.proofs.Refs.{refsBytes-append}
 use Rattle.format.proofs.Bodies.{fixed-long, length-bodyBytes, read-sound, bodyBytes-read}
+use Rattle.inline_refs.specs.declared.wanted.Wanted.the-variants.{Block}
 use Rattle.item_list.specs.declared.Sought.{Sought}
 use Rattle.item_list.specs.declared.Sought.the-variants.{Present, Absent}
 use Rattle.item_list.specs.Steps.{itemsOf}
@@ -30,6 +31,7 @@ use Rattle.item_list.specs.Seeks.{seekIn}
 use Rattle.item_list.proofs.Places.{no-cut}
 use Rattle.record_edit.specs.declared.RecordAt.{RecordAt}
 use Rattle.transaction.specs.Stands.{StandsAt, onKey}
+use Rattle.transaction.specs.Drops.{dropRef}
 use Rattle.transaction.proofs.Stands.{Stands, stands, on-key}
 use Rattle.transaction.proofs.Turns.{accepted-absent, stays}
 use Rattle.transaction.proofs.Behind.{BehindAt, rises, stands-at}
@@ -170,7 +172,8 @@ module _ {s : List ℕ} {c : Cut Item} {target : RecordAt} (st : Stands s c targ
 
 -- at the record's key
 pub key-owned : {s : List ℕ} {target : RecordAt} → T (areBytes s) → StandsAt s target → (name : BlockRef) (room : ℕ)
-    → Owned (target .start + 37) (heldSheet room (onKey (target .key) (itemsOf s) (dropTreeRef name false (itemsOf s))))
+    → Owned (target .start + 37) (heldSheet room (onKey (target .key) (itemsOf s) (dropRef (Block name) (itemsOf s))))
     (heldSheet room (onKey (target .key) (itemsOf s) (dropTreeRef name true (itemsOf s))))
+unfolding dropRef
 key-owned bytes h name room =
     owned-by (ap (heldSheet room) (on-key h _)) (ap (heldSheet room) (on-key h _)) (drop-owned (stands bytes h) bytes name room)

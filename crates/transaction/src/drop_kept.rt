@@ -3,8 +3,8 @@ use super::drop_refs;
 use format::BlockRef;
 use format::Edited;
 use format::Key;
+use inline_refs::Wanted;
 use item_list::Listing;
-use item_list::Wanted;
 use record_edit::RecordAt;
 ghost use mathlib.Core.Path.{_≡_};
 ghost use mathlib.Core.Bool.{true};
@@ -31,7 +31,7 @@ fn drop_owned(sheet: &[u8], target: RecordAt, name: BlockRef, out: &mut [u8]) ->
     requires { ⌜ StandsAt (now sheet) target ⌝ }
     ensures { λ r. ⌜ Answered (heldSheet (length (now (out .entry))) (onKey (target .key) (itemsOf (now (sheet .entry))) (dropTreeRef name true (itemsOf (now (sheet .entry)))))) r (now (out .entry)) (now (out .exit)) ⌝ }
 {
-    let edited = drop_refs::drop_tree_ref(sheet, target, name, out);
+    let edited = drop_refs::drop_ref(sheet, target, Wanted::Block(name), out);
     match edited {
         Edited::Absent => return Edited::Absent,
         Edited::Remove => return Edited::Remove,
@@ -59,7 +59,7 @@ pub fn drop_kept_tree_ref(
         kind: 169,
         offset: level as u64,
     };
-    let listing = item_list::find(sheet, Wanted::AtOrPast(key));
+    let listing = item_list::find(sheet, item_list::Wanted::AtOrPast(key));
     match listing {
         Listing::Refused(number) => return Edited::Refused(number),
         Listing::Missing { count: _ } => return Edited::Refused(5),
@@ -81,7 +81,7 @@ pub fn drop_kept_tree_ref(
             if own {
                 return drop_owned(sheet, target, name, out);
             }
-            return drop_refs::drop_tree_ref(sheet, target, name, out);
+            return drop_refs::drop_ref(sheet, target, Wanted::Block(name), out);
         }
     }
 }

@@ -1,56 +1,66 @@
-// References that name a tree: one count off inline, or else at the reference's own item.
+// A reference dropped: inline, or else at its own item.
 use backref::Outcome;
-use format::BlockRef;
+use backref::Plan;
 use format::DataRef;
 use format::Edited;
 use format::Key;
+use format::SharedRef;
+use inline_refs::Wanted;
 use item_list::Sought;
 use record_edit::RecordAt;
-ghost use mathlib.Core.Bool.{false};
 ghost use Prim.Native.Nat.{_+_, _≤_};
 ghost use lib.ListN.{length};
 ghost use Rattle.format.specs.Questions.{Answered, bind};
 ghost use Rattle.format.specs.Bodies.{lowerTotal, dropKeyedDataRef};
 ghost use Rattle.format.specs.Items.{heldSheet};
-ghost use Rattle.format.specs.Apply.{dropTreeRef};
-ghost use Rattle.format.specs.Ledger.{dropDataRef};
 ghost use Rattle.item_list.specs.Steps.{itemsOf};
+ghost use Rattle.backref.specs.Plans.{Planned};
 ghost use Rattle.record_edit.specs.Records.{dataOf};
 ghost use Rattle.transaction.specs.Stands.{StandsAt, onKey};
 ghost use Rattle.transaction.specs.Edits.{heldAt};
+ghost use Rattle.transaction.specs.Drops.{dropRef, InForm, takenWhole, droppedInline, loweredTotal, itemDrop, CountFits};
 
-// A block reference, with one off the total.
-pub fn drop_tree_ref(sheet: &[u8], target: RecordAt, name: BlockRef, out: &mut [u8]) -> Edited
-    requires { ⌜ StandsAt (now sheet) target ⌝ }
-    ensures { λ r. ⌜ Answered (heldSheet (length (now (out .entry))) (onKey (target .key) (itemsOf (now (sheet .entry))) (dropTreeRef name false (itemsOf (now (sheet .entry)))))) r (now (out .entry)) (now (out .exit)) ⌝ }
+// A shared reference out of the body, and its own count off the total.
+fn plan_taken(item_type: u8, body: &[u8], name: SharedRef) -> Plan
+    ensures { λ r. ⌜ Planned r (now (body .entry)) (takenWhole «item_type» (now (body .entry)) name) ⌝ }
 {
-    let start = target.start;
-    let end = target.end;
-    let body = &sheet[start + 21..end];
-    let plan = backref::plan_drop_tree(target.key.kind, body, name);
-    let outcome = plan.outcome;
-    let Outcome::Absent = outcome else {
-        return crate::put_record(sheet, target, plan, out);
-    };
-    let item = Key {
-        objectid: target.key.objectid,
-        kind: 176,
-        offset: name.tree,
-    };
-    let place = item_list::seek(sheet, end, item);
-    let Sought::Present {
-        start: from,
-        end: to,
-    } = place
-    else {
-        return Edited::Refused(5);
-    };
-    let rest = backref::plan_lower_total(body);
-    crate::put_without(sheet, target, rest, from, to, out)
+    let taken = backref::plan_take_shared(item_type, body, name);
+    let count = taken.count as u64;
+    backref::plan_reduced(taken, count)
+}
+
+// The record's body without the reference, or with one count less.
+fn plan_inline(item_type: u8, body: &[u8], name: Wanted) -> Plan
+    ensures { λ r. ⌜ Planned r (now (body .entry)) (droppedInline name «item_type» (now (body .entry))) ⌝ }
+{
+    match name {
+        Wanted::Block(block) => backref::plan_drop_tree(item_type, body, block),
+        Wanted::Data(data) => backref::plan_drop_data(item_type, body, data),
+        Wanted::SharedBlock(parent) => {
+            plan_taken(item_type, body, SharedRef { kind: 182, parent })
+        }
+        Wanted::SharedData(parent) => plan_taken(item_type, body, SharedRef { kind: 184, parent }),
+    }
+}
+
+// The record's body with a lower total: by one, or by all that an item of shared data counts.
+fn plan_total(item: &[u8], body: &[u8], name: Wanted) -> Plan
+    requires { ⌜ CountFits name (now item) ⌝ }
+    ensures { λ r. ⌜ Planned r (now (body .entry)) (loweredTotal name (now (item .entry)) (now (body .entry))) ⌝ }
+{
+    match name {
+        Wanted::Block(_) => backref::plan_lower_total(body),
+        Wanted::Data(_) => backref::plan_lower_total(body),
+        Wanted::SharedBlock(_) => backref::plan_reduce_total(body, 1),
+        Wanted::SharedData(_) => {
+            let count = fields::get_u32_le(item, 0);
+            backref::plan_reduce_total(body, count as u64)
+        }
+    }
 }
 
 // One off the record's total, then one count off the data reference's item: at count 1 the item goes.
-fn drop_at_item(
+fn drop_count(
     sheet: &[u8],
     target: RecordAt,
     from: usize,
@@ -81,23 +91,45 @@ fn drop_at_item(
     }
 }
 
-// A data reference: one off its count, and one off the total.
-pub fn drop_data_ref(sheet: &[u8], target: RecordAt, name: DataRef, out: &mut [u8]) -> Edited
+// The drop at the reference's own item, which stands from `from` up to `to`. But for data, which is counted, it goes.
+fn drop_at_item(
+    sheet: &[u8],
+    target: RecordAt,
+    from: usize,
+    to: usize,
+    name: Wanted,
+    out: &mut [u8],
+) -> Edited
+    requires { ⌜ CountFits name (dataOf (now sheet) from to) ⌝ }
+    requires { ⌜ (target .start + 21 ≤ target .end) × (target .end ≤ from) × (from + 21 ≤ to) × (to ≤ length (now sheet)) × (length (now sheet) ≤ 262144) ⌝ }
+    ensures { λ r. ⌜ Answered (bind (loweredTotal name (dataOf (now (sheet .entry)) from to) (dataOf (now (sheet .entry)) (target .start) (target .end))) (heldAt (length (now (out .entry))) (now (sheet .entry)) target from to (itemDrop name (dataOf (now (sheet .entry)) from to)))) r (now (out .entry)) (now (out .exit)) ⌝ }
+{
+    let Wanted::Data(data) = name else {
+        let start = target.start;
+        let end = target.end;
+        let rest = plan_total(&sheet[from + 21..to], &sheet[start + 21..end], name);
+        return crate::put_without(sheet, target, rest, from, to, out);
+    };
+    drop_count(sheet, target, from, to, data, out)
+}
+
+// One reference: a shared one with all its count, another with one.
+pub fn drop_ref(sheet: &[u8], target: RecordAt, name: Wanted, out: &mut [u8]) -> Edited
     requires { ⌜ StandsAt (now sheet) target ⌝ }
-    ensures { λ r. ⌜ Answered (heldSheet (length (now (out .entry))) (onKey (target .key) (itemsOf (now (sheet .entry))) (dropDataRef name (itemsOf (now (sheet .entry)))))) r (now (out .entry)) (now (out .exit)) ⌝ }
+    requires { ⌜ InForm name (itemsOf (now sheet)) ⌝ }
+    ensures { λ r. ⌜ Answered (heldSheet (length (now (out .entry))) (onKey (target .key) (itemsOf (now (sheet .entry))) (dropRef name (itemsOf (now (sheet .entry)))))) r (now (out .entry)) (now (out .exit)) ⌝ }
 {
     let start = target.start;
     let end = target.end;
-    let body = &sheet[start + 21..end];
-    let plan = backref::plan_drop_data(target.key.kind, body, name);
+    let plan = plan_inline(target.key.kind, &sheet[start + 21..end], name);
     let outcome = plan.outcome;
     let Outcome::Absent = outcome else {
         return crate::put_record(sheet, target, plan, out);
     };
     let item = Key {
         objectid: target.key.objectid,
-        kind: 178,
-        offset: extent_write::data_ref_hash(name.tree, name.objectid, name.offset),
+        kind: inline_refs::kind_of(name),
+        offset: inline_refs::own_place(name),
     };
     let place = item_list::seek(sheet, end, item);
     let Sought::Present {

@@ -3,11 +3,10 @@ use Prim.Native.Nat.{ℕ}
 use native.Mathlib.Omega.{arith}
 use denote.Ref.{now}
 use lib.ListN.{length}
-use Rattle.format.specs.Ledger.{changed}
 use Rattle.inline_refs.specs.Scans.{kindOf}
 use Rattle.item_list.specs.Steps.{itemsOf}
 use Rattle.ledger.specs.Adding.{addChange}
-use Rattle.ledger.proofs.Postings.{as-change, entered-as, fits-as, not-block}
+use Rattle.ledger.proofs.Postings.{drop-block, drop-data, drop-shared, as-drop, as-change, entered-as, fits-as, not-block}
 use borrow.Author.Needs.{needs}
 use Rattle.ledger.proofs.posting.change_at.Statement.{statement}
 use Rattle.ledger.proofs.posting.change_at.Tie as tie
@@ -51,34 +50,34 @@ returns-3 c =
     as-change (a .nodesize) (length (now (a .out))) (itemsOf (now (a .sheet))) (a .change) _
     (c .before .before .before .before .before .before .change3 .given .1 ∙ c .before .before .before .before .shared-wanted .ensures .change _ _) (c .before .before .add3 .ensures)
 
-drop-block-requires : tie.Need-drop-block-requires
-drop-block-requires c κs = let s = c .before .before .before .before .before .before in (s .pre .0, entered-as (s .args .change) (c .before .before .change4 .given .1) (s .pre .1 .0))
+drop-ref-requires : tie.Need-drop-ref-requires
+drop-ref-requires c κs = let s = c .before .before .before .before .before .before in (s .pre .0, entered-as (s .args .change) (c .before .before .change4 .given .1) (s .pre .1 .0))
 
 returns-4 : tie.Need-returns-4
-unfolding changed
 returns-4 c =
     let a = c .before .before .before .before .before .before .before .before .before .args in
-    as-change (a .nodesize) (length (now (a .out))) (itemsOf (now (a .sheet))) (a .change) _ (c .before .before .before .before .before .change4 .given .1) (c .before .before .drop-block .ensures)
+    as-drop (a .nodesize) (length (now (a .out))) (itemsOf (now (a .sheet))) (a .change) _ _ (c .before .before .before .before .before .change4 .given .1) (drop-block (a .nodesize) _ (itemsOf (now (a .sheet))) _) (c .before .before .drop-ref .ensures)
 
-drop-data-requires : tie.Need-drop-data-requires
-drop-data-requires c κs = let s = c .before .before .before .before .before .before in (s .pre .0, entered-as (s .args .change) (c .before .before .change5 .given .1) (s .pre .1 .0))
+drop-ref-requires-2 : tie.Need-drop-ref-requires-2
+drop-ref-requires-2 c κs = let s = c .before .before .before .before .before .before in (s .pre .0, entered-as (s .args .change) (c .before .before .change5 .given .1) (s .pre .1 .0))
 
 returns-5 : tie.Need-returns-5
-unfolding changed
 returns-5 c =
     let a = c .before .before .before .before .before .before .before .before .before .args in
-    as-change (a .nodesize) (length (now (a .out))) (itemsOf (now (a .sheet))) (a .change) _ (c .before .before .before .before .before .change5 .given .1) (c .before .before .drop-data .ensures)
+    as-drop (a .nodesize) (length (now (a .out))) (itemsOf (now (a .sheet))) (a .change) _ _ (c .before .before .before .before .before .change5 .given .1) (drop-data (a .nodesize) _ (itemsOf (now (a .sheet))) _) (c .before .before .drop-ref2 .ensures)
 
-drop-shared-requires : tie.Need-drop-shared-requires
-drop-shared-requires c κs = let s = c .before .before .before .before .before .before in (s .pre .0, entered-as (s .args .change) (c .before .before .change6 .given .1) (s .pre .1 .0))
+shared-wanted-requires-2 : tie.Need-shared-wanted-requires-2
+shared-wanted-requires-2 c κs = fits-as (c .before .before .before .before .before .args .change) (c .before .change6 .given .1) (c .before .before .before .before .before .pre .1 .1)
+
+drop-ref-requires-3 : tie.Need-drop-ref-requires-3
+drop-ref-requires-3 c κs = let s = c .before .before .before .before .before .before .before in (s .pre .0, entered-as (s .args .change) (c .before .before .before .change6 .given .1) (s .pre .1 .0))
 
 returns-6 : tie.Need-returns-6
-unfolding changed
 returns-6 c =
-    let a = c .before .before .before .before .before .before .before .before .before .args in
-    as-change (a .nodesize) (length (now (a .out))) (itemsOf (now (a .sheet))) (a .change) _ (c .before .before .before .before .before .change6 .given .1) (c .before .before .drop-shared .ensures)
+    let a = c .before .before .before .before .before .before .before .before .before .before .args in
+    as-drop (a .nodesize) (length (now (a .out))) (itemsOf (now (a .sheet))) (a .change) _ _ (c .before .before .before .before .before .before .change6 .given .1) (drop-shared (a .nodesize) _ (itemsOf (now (a .sheet))) _ _ (c .before .before .before .before .shared-wanted2 .ensures)) (c .before .before .drop-ref3 .ensures)
 
 pub change-at-spec : {M : Type 1} → statement M
 change-at-spec =
     tie.close
-    (tie.spec (λ c. search needs) add-requires (λ c. search needs) returns (λ c. search needs) add-requires-2 (λ c. search needs) returns-2 (λ c. search needs) shared-wanted-requires add-requires-3 (λ c. search needs) returns-3 (λ c. search needs) drop-block-requires (λ c. search needs) returns-4 (λ c. search needs) drop-data-requires (λ c. search needs) returns-5 (λ c. search needs) drop-shared-requires (λ c. search needs) returns-6)
+    (tie.spec (λ c. search needs) add-requires (λ c. search needs) returns (λ c. search needs) add-requires-2 (λ c. search needs) returns-2 (λ c. search needs) shared-wanted-requires add-requires-3 (λ c. search needs) returns-3 (λ c. search needs) drop-ref-requires (λ c. search needs) returns-4 (λ c. search needs) drop-ref-requires-2 (λ c. search needs) returns-5 (λ c. search needs) shared-wanted-requires-2 drop-ref-requires-3 (λ c. search needs) returns-6)

@@ -9,7 +9,7 @@ use Rattle.item_list.proofs.Reading.{Located, located, lacking, listing-refused
 use Rattle.item_list.proofs.Places.{key-missing, key-room, key-past, key-here}
 use Rattle.item_list.proofs.ItemWrites.{answered-no}
 use Rattle.transaction.specs.Stands.{StandsAt}
-use Rattle.transaction.proofs.KeptRecords.{kept-refused, kept-none, kept-stands, kept-told}
+use Rattle.transaction.proofs.KeptRecords.{kept-refused, kept-none, kept-stands, kept-told, kept-plain}
 use borrow.Author.Needs.{needs}
 use Rattle.transaction.proofs.drop_kept.drop_kept_tree_ref.Statement.{statement}
 use Rattle.transaction.proofs.drop_kept.drop_kept_tree_ref.Tie as tie
@@ -54,15 +54,15 @@ returns-4 c =
     let a = c .before .before .before .before .before .before .before .before .before .before .before .before .before .args in
     kept-told (now (a .sheet)) (a .bytenr) (a .level) (a .name) (a .own) (found (c .before .before .before .before .before .before .before) .list) _ (length (now (a .out))) _ (now (a .out)) _ (c .before .before .before .before .if2 .taken) (c .before .before .drop-owned .ensures)
 
-drop-tree-ref-requires : tie.Need-drop-tree-ref-requires
-drop-tree-ref-requires c κs = stood (c .before .before)
+drop-ref-requires : tie.Need-drop-ref-requires
+drop-ref-requires c κs = (stood (c .before .before), tt)
 
 returns-5 : tie.Need-returns-5
 returns-5 c =
     let a = c .before .before .before .before .before .before .before .before .before .before .before .before .before .args in
-    kept-told (now (a .sheet)) (a .bytenr) (a .level) (a .name) (a .own) (found (c .before .before .before .before .before .before .before) .list) _ (length (now (a .out))) _ (now (a .out)) _ (c .before .before .before .before .if2 .left) (c .before .before .drop-tree-ref .ensures)
+    kept-plain (now (a .sheet)) (a .bytenr) (a .level) (a .name) (a .own) (found (c .before .before .before .before .before .before .before) .list) (length (now (a .out))) _ (now (a .out)) _ (c .before .before .before .before .if2 .left) (c .before .before .drop-ref .ensures)
 
 pub drop-kept-tree-ref-spec : {M : Type 1} → statement M
 drop-kept-tree-ref-spec =
     tie.close
-    (tie.spec (λ c κs. search needs) (λ c. search needs) returns (λ c. search needs) returns-2 (λ c. search needs) is-past-requires returns-3 drop-owned-requires (λ c. search needs) returns-4 drop-tree-ref-requires (λ c. search needs) returns-5)
+    (tie.spec (λ c κs. search needs) (λ c. search needs) returns (λ c. search needs) returns-2 (λ c. search needs) is-past-requires returns-3 drop-owned-requires (λ c. search needs) returns-4 drop-ref-requires (λ c. search needs) returns-5)

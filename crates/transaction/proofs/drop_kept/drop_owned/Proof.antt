@@ -9,26 +9,29 @@ use borrow.Author.Needs.{needs}
 use Rattle.transaction.proofs.drop_kept.drop_owned.Statement.{statement}
 use Rattle.transaction.proofs.drop_kept.drop_owned.Tie as tie
 
+drop-ref-requires : tie.Need-drop-ref-requires
+drop-ref-requires c κs = (c .before .before .before .pre, tt)
+
 returns : tie.Need-returns
 returns c =
     let call = c .before .before .before .before in
     let s = call .before .before .before .before in
     let o = key-owned (areBytes-in (now (s .args .sheet)) (λ i. call .before .before .before .shared-slice-known .given i .fits)) (s .pre) (s .args .name) (length (now (s .args .out))) in
-    own-absent _ _ (now (s .args .out)) _ (c .enum-told .given .1) o (call .drop-tree-ref .ensures)
+    own-absent _ _ (now (s .args .out)) _ (c .enum-told .given .1) o (call .drop-ref .ensures)
 
 returns-2 : tie.Need-returns-2
 returns-2 c =
     let call = c .before .before .before .before in
     let s = call .before .before .before .before in
     let o = key-owned (areBytes-in (now (s .args .sheet)) (λ i. call .before .before .before .shared-slice-known .given i .fits)) (s .pre) (s .args .name) (length (now (s .args .out))) in
-    own-remove _ _ (now (s .args .out)) _ (c .enum-told2 .given .1) o (call .drop-tree-ref .ensures)
+    own-remove _ _ (now (s .args .out)) _ (c .enum-told2 .given .1) o (call .drop-ref .ensures)
 
 returns-3 : tie.Need-returns-3
 returns-3 c =
     let call = c .before .before .before .before .before in
     let s = call .before .before .before .before in
     let o = key-owned (areBytes-in (now (s .args .sheet)) (λ i. call .before .before .before .shared-slice-known .given i .fits)) (s .pre) (s .args .name) (length (now (s .args .out))) in
-    own-refused _ _ _ (now (s .args .out)) _ (c .before .edited .given .1) o (call .drop-tree-ref .ensures)
+    own-refused _ _ _ (now (s .args .out)) _ (c .before .edited .given .1) o (call .drop-ref .ensures)
 
 add-set-own : tie.Need-add-set-own
 add-set-own c =
@@ -45,16 +48,16 @@ set-own-requires c κs =
     let call = c .before .before .before .before .before .before .before in
     let s = call .before .before .before .before in
     let o = key-owned (areBytes-in (now (s .args .sheet)) (λ i. call .before .before .before .shared-slice-known .given i .fits)) (s .pre) (s .args .name) (length (now (s .args .out))) in
-    own-fits _ _ _ (now (s .args .out)) _ (c .before .before .before .edited2 .given .1) o (call .drop-tree-ref .ensures)
+    own-fits _ _ _ (now (s .args .out)) _ (c .before .before .before .edited2 .given .1) o (call .drop-ref .ensures)
 
 returns-4 : tie.Need-returns-4
 returns-4 c =
     let call = c .before .before .before .before .before .before .before .before .before .before in
     let s = call .before .before .before .before in
     let o = key-owned (areBytes-in (now (s .args .sheet)) (λ i. call .before .before .before .shared-slice-known .given i .fits)) (s .pre) (s .args .name) (length (now (s .args .out))) in
-    own-written _ _ _ (now (s .args .out)) _ _ (c .before .before .before .before .before .before .edited2 .given .1) o (call .drop-tree-ref .ensures) (c .before .before .set-own .ensures)
+    own-written _ _ _ (now (s .args .out)) _ _ (c .before .before .before .before .before .before .edited2 .given .1) o (call .drop-ref .ensures) (c .before .before .set-own .ensures)
 
 pub drop-owned-spec : {M : Type 1} → statement M
 drop-owned-spec =
     tie.close
-    (tie.spec (λ c κs. search needs) (λ c. search needs) (λ c. search needs) returns (λ c. search needs) (λ c. search needs) returns-2 (λ c. search needs) (λ c. search needs) returns-3 (λ c. search needs) add-set-own set-own-requires (λ c. search needs) returns-4)
+    (tie.spec drop-ref-requires (λ c. search needs) (λ c. search needs) returns (λ c. search needs) (λ c. search needs) returns-2 (λ c. search needs) (λ c. search needs) returns-3 (λ c. search needs) add-set-own set-own-requires (λ c. search needs) returns-4)

@@ -1,0 +1,75 @@
+use mathlib.Core.Path.{sym, _∙_}
+use native.Mathlib.Omega.{arith}
+use denote.Ref.{now}
+use lib.ListN.{length}
+use Rattle.fields.proofs.Numbers.{areBytes-in}
+use Rattle.item_list.specs.Steps.{itemsOf}
+use Rattle.transaction.specs.Drops.{dropRef}
+use Rattle.transaction.proofs.Stands.{Stands, stands, key-answered}
+use Rattle.transaction.proofs.Behind.{listed-behind, place-behind}
+use Rattle.transaction.proofs.Turns.{other-outcome}
+use Rattle.transaction.proofs.RefDrops.{drop-inline, drop-none, drop-item, count-fits}
+use borrow.Author.Needs.{needs}
+use Rattle.transaction.proofs.drop_refs.drop_ref.Statement.{statement}
+use Rattle.transaction.proofs.drop_refs.drop_ref.Tie as tie
+
+-- the record stands there
+stood : (c : tie.After-slice-known) → Stands (now (c .before .before .args .sheet)) (c .before .before .pre .0 .at-cut) (c .before .before .args .target)
+stood c = stands (areBytes-in (now (c .before .before .args .sheet)) (λ i. c .before .shared-slice-known .given i .fits)) (c .before .before .pre .0)
+
+add-plan-inline : tie.Need-add-plan-inline
+add-plan-inline c = let d = stood c in let p = d .ordered in let q = d .within in let m = d .small in omega arith
+
+sub-plan-inline : tie.Need-sub-plan-inline
+sub-plan-inline c = let d = stood c in let p = d .ordered in omega arith
+
+part-plan-inline-start : tie.Need-part-plan-inline-start
+part-plan-inline-start c = let d = stood c in let p = d .ordered in omega arith
+
+part-plan-inline-end : tie.Need-part-plan-inline-end
+part-plan-inline-end c = let d = stood c in d .within
+
+put-record-requires : tie.Need-put-record-requires
+put-record-requires c κs = let d = stood (c .before .before .before .before) in (c .before .before .plan-inline .ensures .inside, (d .ordered, d .within, d .small))
+
+returns : tie.Need-returns
+returns c =
+    let at = c .before .before .before .before .before .before .before in
+    let a = at .before .before .args in
+    key-answered (at .before .before .pre .0) (dropRef (a .name) (itemsOf (now (a .sheet)))) (length (now (a .out))) _ (now (a .out)) _
+    (drop-inline (stood at) (a .name) _ (c .before .before .before .before .before .plan-inline .ensures) (length (now (a .out))) (other-outcome _ (c .before .before .before .before .match .keys2)) _ (now (a .out)) _ (c .before .before .put-record .ensures))
+
+seek-requires : tie.Need-seek-requires
+seek-requires c κs = listed-behind (stood (c .before .before .before .before .before .before))
+
+returns-2 : tie.Need-returns-2
+returns-2 c =
+    let at = c .before .before .before .before .before .before .before .before .before in
+    let a = at .before .before .args in
+    key-answered (at .before .before .pre .0) (dropRef (a .name) (itemsOf (now (a .sheet)))) (length (now (a .out))) _ (now (a .out)) _
+    (drop-none (stood at) (a .name) _ (c .before .before .before .before .before .before .before .plan-inline .ensures) (length (now (a .out))) (c .before .before .before .before .before .enum-told .given .1) _ _ (c .before .before .before .before .kind-of .ensures) (c .before .before .before .own-place .ensures) _ (now (a .out))
+    (sym (c .before .before .seek .ensures) ∙ c .enum-told2 .given .1))
+
+drop-at-item-requires : tie.Need-drop-at-item-requires
+drop-at-item-requires c κs =
+    let at = c .before .before .before .before .before .before .before .before .before .before .before in
+    let a = at .before .before .args in
+    let d = stood at in
+    let e = sym (c .before .before .before .before .seek .ensures) ∙ c .before .before .place .given .1 in
+    let f = place-behind d _ _ _ e in (
+      count-fits d (a .name) _ (c .before .before .before .before .before .before .before .before .before .plan-inline .ensures) (length (now (a .out))) (c .before .before .before .before .before .before .before .enum-told .given .1) _ _ (c .before .before .before .before .before .before .kind-of .ensures) (c .before .before .before .before .before .own-place .ensures) _ _ e (at .before .before .pre .1),
+      (d .ordered, f .0, f .1, f .2, d .small),
+    )
+
+returns-3 : tie.Need-returns-3
+returns-3 c =
+    let at = c .before .before .before .before .before .before .before .before .before .before .before .before .before .before in
+    let a = at .before .before .args in
+    key-answered (at .before .before .pre .0) (dropRef (a .name) (itemsOf (now (a .sheet)))) (length (now (a .out))) _ (now (a .out)) _
+    (drop-item (stood at) (a .name) _ (c .before .before .before .before .before .before .before .before .before .before .before .before .plan-inline .ensures) (length (now (a .out))) (c .before .before .before .before .before .before .before .before .before .before .enum-told .given .1) _ _ (c .before .before .before .before .before .before .before .before .before .kind-of .ensures) (c .before .before .before .before .before .before .before .before .own-place .ensures) _ _ _ (now (a .out)) _
+    (sym (c .before .before .before .before .before .before .before .seek .ensures) ∙ c .before .before .before .before .before .place .given .1) (c .before .before .drop-at-item .ensures))
+
+pub drop-ref-spec : {M : Type 1} → statement M
+drop-ref-spec =
+    tie.close
+    (tie.spec add-plan-inline sub-plan-inline part-plan-inline-start part-plan-inline-end (λ c κs. search needs) (λ c. search needs) put-record-requires (λ c. search needs) returns (λ c κs. search needs) (λ c κs. search needs) seek-requires (λ c. search needs) (λ c. search needs) returns-2 drop-at-item-requires (λ c. search needs) returns-3)
