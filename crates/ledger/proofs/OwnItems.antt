@@ -14,27 +14,27 @@ use Rattle.format.specs.References.{placeOf}
 use Rattle.format.specs.Items.{Item, keyOf}
 use Rattle.format.specs.Sheets.{hasKey}
 use Rattle.format.specs.Apply.{isRecord, recordOf}
-use Rattle.format.specs.Names.{good}
+use Rattle.format.specs.Names.{good, balanced}
 use Rattle.format.specs.Ledger.{notItsOwn}
 use Rattle.format.proofs.Items.{sane}
 use Rattle.theorems.proofs.Edit.{balanced-out}
 use Rattle.inline_refs.specs.declared.wanted.Wanted.{Wanted}
-use Rattle.inline_refs.specs.declared.wanted.Wanted.the-variants.{Block, Data, SharedBlock, SharedData}
 use Rattle.inline_refs.specs.Scans.{kindOf, fieldsOf}
 use Rattle.item_list.specs.declared.Sought.{Sought}
 use Rattle.item_list.specs.declared.Sought.the-variants.{Present, Absent}
-use Rattle.item_list.specs.Steps.{itemsOf, itemsFrom, ListedFrom}
+use Rattle.item_list.specs.Steps.{itemsOf, itemsFrom}
 use Rattle.item_list.specs.Seeks.{seekIn}
-use Rattle.item_list.proofs.Reading.{Counted, counted}
+use Rattle.item_list.proofs.Reading.{Counted}
 use Rattle.item_list.proofs.Places.{Sits, sits, Inside, inside}
-use Rattle.item_list.proofs.Behind.{behind-listed, seek-behind}
 use Rattle.record_edit.specs.Records.{dataOf}
 use Rattle.record_edit.proofs.Places.{item-there}
-use Rattle.transaction.proofs.Spots.{Standing}
-use Rattle.transaction.proofs.Behind.{above-record}
-use Rattle.ledger.specs.Known.{BalancedList, HasRecord, nameIn, ownAt}
-use Rattle.ledger.proofs.Standings.{stood}
+use Rattle.transaction.proofs.Behind.{behind-is}
+use Rattle.ledger.specs.Known.{nameIn, ownAt}
 use Rattle.ledger.proofs.Own.{ownKey, own-absent, own-found, data-long}
+use Rattle.record_edit.specs.declared.RecordAt.{RecordAt}
+use Rattle.record_edit.specs.Stands.{StandsFor}
+use Rattle.record_edit.proofs.Stands.{Stands, stands}
+use Rattle.transaction.proofs.RefDrops.{kind-high}
 
 pub record Seat (s : List ℕ) (extent : ℕ) (w : Wanted) (start end : ℕ) : Type 0 where
   pub ordered : start + 21 ≤ end
@@ -42,38 +42,26 @@ pub record Seat (s : List ℕ) (extent : ℕ) (w : Wanted) (start end : ℕ) : T
   pub long : kindOf w ≡ 178 → 24 ≤ length (dataOf s start end)
   pub own : (b : Bool) → b ≡ ownAt w (dataOf s start end) → not b ≡ all (notItsOwn (nameIn extent w)) (itemsOf s)
 
-kind-high : (w : Wanted) → 170 ≤ kindOf w
-unfolding kindOf
-kind-high (Block name) = omega arith
-kind-high (Data name) = omega arith
-kind-high (SharedBlock parent) = omega arith
-kind-high (SharedData parent) = omega arith
+module _ {s : List ℕ} {extent : ℕ} {target : RecordAt} (t : T (areBytes s)) (there : StandsFor s extent target) (balance : T (balanced (itemsOf s)))
+    (w : Wanted) (kind offset : ℕ) (kind-is : kind ≡ kindOf w) (offset-is : offset ≡ placeOf (kindOf w) (fieldsOf w)) where
+  st : Stands s (there .stands .at-cut) target
+  st = stands t (there .stands)
 
-module _ (s : List ℕ) (n : ℕ) (t : T (areBytes s)) (known : BalancedList s n) (extent first next : ℕ) (has : HasRecord s extent first next) (w : Wanted) (kind offset : ℕ)
-    (kind-is : kind ≡ kindOf w) (offset-is : offset ≡ placeOf (kindOf w) (fieldsOf w)) where
-  count : Counted s n
-  count = counted s n t (known .checked)
-
-  record-there : Standing s extent true (has .number) first next n
-  record-there = stood s n extent first next t known has
-
-  pub listed-behind : ListedFrom s next
-  listed-behind = let st = record-there in behind-listed count (st .at-cut .front) (st .at-cut .hit) (st .at-cut .back) (st .same) next (st .ends)
+  count : Counted s (target .«item_count»)
+  count = st .list
 
   -- behind the record as in the whole list
-  sought : {r : Sought} → seekIn (keyOf extent kind offset) next (itemsFrom s next) ≡ r → seekIn (ownKey (nameIn extent w)) 1 (itemsOf s) ≡ r
+  sought : {r : Sought} → seekIn (keyOf extent kind offset) (target .end) (itemsFrom s (target .end)) ≡ r → seekIn (ownKey (nameIn extent w)) 1 (itemsOf s) ≡ r
   sought e =
-      let st = record-there in
-      let hit : Item = st .at-cut .hit in
-      let is = and-yes (isRecord hit) (eqb (hit .key .objectid) extent) (cut-some (recordOf extent) (itemsOf s) (st .finds) .hit) in
-      sym (seek-behind count (st .at-cut .front) hit (st .at-cut .back) (st .same) next (st .ends) (ownKey (nameIn extent w))
-      (above-record hit (is .0) (ownKey (nameIn extent w)) (sym (eqb→eq _ _ (is .1))) (kind-high w)))
-      ∙ sym (λ j. seekIn (keyOf extent (kind-is j) (offset-is j)) next (itemsFrom s next)) ∙ e
+      let hit : Item = there .stands .at-cut .hit in
+      let is = and-yes (isRecord hit) (eqb (hit .key .objectid) extent) (cut-some (recordOf extent) (itemsOf s) (there .first) .hit) in
+      sym (behind-is st (ownKey (nameIn extent w)) (sym (eqb→eq _ _ (is .1))) (kind-high w))
+      ∙ sym (λ j. seekIn (keyOf extent (kind-is j) (offset-is j)) (target .end) (itemsFrom s (target .end))) ∙ e
 
-  pub no-seat : (at : ℕ) → seekIn (keyOf extent kind offset) next (itemsFrom s next) ≡ Absent at → true ≡ all (notItsOwn (nameIn extent w)) (itemsOf s)
+  pub no-seat : (at : ℕ) → seekIn (keyOf extent kind offset) (target .end) (itemsFrom s (target .end)) ≡ Absent at → true ≡ all (notItsOwn (nameIn extent w)) (itemsOf s)
   no-seat at e = own-absent (nameIn extent w) (itemsOf s) (count .sane-all) (count .rises) 1 at (sought e)
 
-  pub seat : (start end : ℕ) → seekIn (keyOf extent kind offset) next (itemsFrom s next) ≡ Present start end → Seat s extent w start end
+  pub seat : (start end : ℕ) → seekIn (keyOf extent kind offset) (target .end) (itemsFrom s (target .end)) ≡ Present start end → Seat s extent w start end
   seat start end e =
       let t : Sits (ownKey (nameIn extent w)) (itemsOf s) 1 start end = sits (ownKey (nameIn extent w)) 1 (itemsOf s) start end (sought e) in
       let d : Cut Item = t .at-cut in
@@ -85,7 +73,7 @@ module _ (s : List ℕ) (n : ℕ) (t : T (areBytes s)) (known : BalancedList s n
       let bytes-is : d .hit .bytes ≡ dataOf s start end =
       ap (λ (x : Item). x .bytes) (item-there s (d .front) (d .hit) (d .back) start end (count .bytes-are) (f .same) sane-hit i) in
       let g : T (good (d .hit)) =
-      all-mid good (d .front) (d .hit) (d .back) (subst (λ (l : List Item). T (all good l)) (f .same) (balanced-out (itemsOf s) (known .balance) .goods)) in
+      all-mid good (d .front) (d .hit) (d .back) (subst (λ (l : List Item). T (all good l)) (f .same) (balanced-out (itemsOf s) balance .goods)) in
       record {
         ordered = i .ordered;
         within = i .within;

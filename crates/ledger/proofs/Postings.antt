@@ -6,9 +6,8 @@ use mathlib.Core.Option.{Option, none}
 use mathlib.Core.List.{List}
 use Prim.Native.Nat.{ℕ}
 use native.Mathlib.Omega.{arith}
-use lib.Dec.{T, eqb, leb}
+use lib.Dec.{T, eqb, leb, eqb→eq}
 use mir.Facts.{or-yes, and-yes}
-use lib.Dec.{eqb→eq}
 use Rattle.fields.specs.Lists.{all, Cut, cut}
 use Rattle.format.specs.declared.Change.{Change}
 use Rattle.format.specs.declared.Change.the-variants.{AddBlock, AddData, AddShared, DropBlock, DropData, DropShared}
@@ -17,27 +16,24 @@ use Rattle.format.specs.declared.DataRef.{DataRef}
 use Rattle.format.specs.declared.SharedRef.{SharedRef}
 use Rattle.format.specs.declared.Edited.{Edited}
 use Rattle.format.specs.declared.Edited.the-variants.{Refused as Denied}
-use Rattle.format.specs.Questions.{Answer, refused, ask, bind, needed, also, Answered}
+use Rattle.format.specs.Questions.{Answer, refused, ask, bind, needed, also, Answered, accepted}
 use Rattle.format.specs.Bodies.{sharedKind}
-use Rattle.format.specs.Items.{Item, readSheet, onSheet, nodesizeFits, heldSheet}
+use Rattle.format.specs.Items.{Item, nodesizeFits, heldSheet}
 use Rattle.format.specs.Apply.{recordOf, onRecord, applyKeyedAdd, applySharedAdd}
 use Rattle.format.specs.Names.{Name, balanced}
 use Rattle.format.specs.Ledger.{nameOf, kindFits, notItsOwn, added, dropSharedRef, changed, post, posted}
 use Rattle.inline_refs.specs.declared.wanted.Wanted.{Wanted}
 use Rattle.inline_refs.specs.declared.wanted.Wanted.the-variants.{Block, Data, SharedBlock, SharedData}
 use Rattle.inline_refs.specs.Scans.{kindOf}
-use Rattle.item_list.specs.declared.Place.the-variants.{At, Missing}
-use Rattle.item_list.specs.declared.Checked.the-variants.{Count, Refused}
-use Rattle.item_list.specs.Steps.{checkedOf, itemsOf}
-use Rattle.item_list.specs.declared.Wanted.the-variants.{Record}
-use Rattle.item_list.specs.Seeks.{placeIn, recorded, passing}
-use Rattle.item_list.proofs.Reading.{listed, sheet-refused}
-use Rattle.item_list.proofs.Places.{record-missing}
+use Rattle.item_list.specs.Steps.{itemsOf}
 use Rattle.item_list.proofs.ItemWrites.{answered-no}
 use Rattle.transaction.specs.Drops.{sharedRef, dropRef}
-use Rattle.ledger.specs.Known.{BalancedList, HasRecord}
 use Rattle.ledger.specs.Adding.{addChange}
-use Rattle.ledger.specs.Posting.{beforeFive, SharedWanted}
+use Rattle.ledger.specs.Posting.{SharedWanted, unbalancedOr}
+use Rattle.record_edit.specs.declared.RecordAt.{RecordAt}
+use Rattle.record_edit.specs.declared.FoundRecord.{FoundRecord}
+use Rattle.record_edit.specs.Stands.{StandsFor, askedSheet, Finds}
+use Rattle.record_edit.proofs.Searches.{on-refused, on-passed, passed-shows, finds-as}
 
 -- ---- the name of a shared reference
 
@@ -93,9 +89,9 @@ pub as-change : (nodesize room : ℕ) (items : List Item) {r : Edited} {old new 
 as-change nodesize room items {r} {old} {new} change other e h =
     subst (λ (x : Change). Answered (heldSheet room (changed nodesize x items)) r old new) (sym e) h
 
-pub entered-as : {s : List ℕ} {start end : ℕ} (change : Change) {other : Change} → change ≡ other → HasRecord s (nameOf change .extent) start end
-    → HasRecord s (nameOf other .extent) start end
-entered-as {s} {start} {end} change e h = subst (λ (x : Change). HasRecord s (nameOf x .extent) start end) e h
+pub entered-as : {s : List ℕ} {target : RecordAt} (change : Change) {other : Change} → change ≡ other → StandsFor s (nameOf change .extent) target
+    → StandsFor s (nameOf other .extent) target
+entered-as {s} {target} change e h = subst (λ (x : Change). StandsFor s (nameOf x .extent) target) e h
 
 pub fits-as : (change : Change) {other : Change} → change ≡ other → T (kindFits change) → T (kindFits other)
 fits-as change e h = subst (λ (x : Change). T (kindFits x)) e h
@@ -131,66 +127,67 @@ missing-record nodesize (DropBlock extent name) items e = no-record extent items
 missing-record nodesize (DropData extent name) items e = no-record extent items _ e
 missing-record nodesize (DropShared extent name) items e = no-record extent items _ e
 
-module _ (s : List ℕ) (extent : ℕ) (change : Change) (is : extent ≡ nameOf change .extent) where
-  pub missing-answered : (nodesize room : ℕ) (old : List ℕ) → placeIn (passing (Record extent)) 0 1 (itemsOf s) ≡ Missing
-      → Answered (heldSheet room (changed nodesize change (itemsOf s))) (Denied 5) old old
-  unfolding passing
-  missing-answered nodesize room old e =
-      answered-no _ room 5 old (missing-record nodesize change (itemsOf s)
-      (subst (λ (x : ℕ). cut (recordOf x) (itemsOf s) ≡ none) is (record-missing extent (itemsOf s) e)))
-
-  pub entered : (number start end : ℕ) → placeIn (passing (Record extent)) 0 1 (itemsOf s) ≡ At number start end
-      → HasRecord s (nameOf change .extent) start end
-  unfolding passing
-  entered number start end e =
-      record { number = number; finds = subst (λ (x : ℕ). placeIn (recorded x) 0 1 (itemsOf s) ≡ At number start end) is e }
+-- the search for the change's extent
+pub finds-for : (s : List ℕ) (change : Change) {extent : ℕ} {a b : Bool} {r q : FoundRecord} → extent ≡ nameOf change .extent → a ≡ b → r ≡ q → Finds s extent a r
+    → Finds s (nameOf change .extent) b q
+finds-for s change {extent} {a} {b} {r} {q} e f g h = subst (λ (x : ℕ). Finds s x b q) e (finds-as s extent f g h)
 
 -- ---- questions 1 to 4
 
-both-yes : (a b : Bool) → beforeFive a b ≡ 0 → (a ≡ true) × (b ≡ true)
-unfolding beforeFive
-both-yes true true e = (refl, refl)
-both-yes true false e = absurd (omega arith)
-both-yes false b e = absurd (omega arith)
+zero-yes : (b : Bool) → unbalancedOr b 0 ≡ 0 → b ≡ true
+unfolding unbalancedOr
+zero-yes true e = refl
+zero-yes false e = absurd (omega arith)
 
-first-no : (a b : Bool) (next : Answer (List Item)) → (beforeFive a b ≡ 0 → ⊥) → ask a 3 (ask b 4 next) ≡ refused (beforeFive a b)
-unfolding beforeFive ask
-first-no true true next h = absurd (h refl)
-first-no true false next h = refl
-first-no false b next h = refl
+four-no : (b : Bool) (next : Answer (List Item)) → (unbalancedOr b 0 ≡ 0 → ⊥) → ask b 4 next ≡ refused (unbalancedOr b 0)
+unfolding unbalancedOr ask
+four-no true next h = absurd (h refl)
+four-no false next h = refl
+
+four-or-five : (b : Bool) (next : Answer (List Item)) → next ≡ refused 5 → ask b 4 next ≡ refused (unbalancedOr b 5)
+unfolding unbalancedOr ask
+four-or-five true next e = e
+four-or-five false next e = refl
 
 module _ (s : List ℕ) (nodesize : ℕ) (change : Change) (room : ℕ) where
   abbrev three : Bool
   three = nodesizeFits nodesize && kindFits change
 
-  pub sheet-no : (k : ℕ) (old : List ℕ) → checkedOf (readSheet s) ≡ Refused k → Answered (posted nodesize s change room) (Denied k) old old
-  unfolding posted post onSheet bind
+  pub sheet-no : (k : ℕ) (old : List ℕ) → askedSheet s three ≡ refused k → Answered (posted nodesize s change room) (Denied k) old old
+  unfolding posted post
   sheet-no k old e =
-      answered-no _ room k old (ap (λ (x : Answer (List Item)). bind x (λ items. ask three 3 (ask (balanced items) 4 (changed nodesize change items)))) (sheet-refused s k e))
+      answered-no _ room k old (on-refused s three k (λ items. ask (balanced items) 4 (changed nodesize change items)) e)
 
-  module _ (n : ℕ) (e : checkedOf (readSheet s) ≡ Count n) where
-    asks : post nodesize s change ≡ ask three 3 (ask (balanced (itemsOf s)) 4 (changed nodesize change (itemsOf s)))
-    unfolding post onSheet bind
-    asks = ap (λ (x : Answer (List Item)). bind x (λ items. ask three 3 (ask (balanced items) 4 (changed nodesize change items)))) (listed s n e .reads)
+  module _ (passed : askedSheet s three ≡ accepted (itemsOf s)) where
+    asks : post nodesize s change ≡ ask (balanced (itemsOf s)) 4 (changed nodesize change (itemsOf s))
+    unfolding post
+    asks = on-passed s three (λ items. ask (balanced items) 4 (changed nodesize change items)) passed
 
-    module _ (k : ℕ) (is : k ≡ beforeFive three (balanced (itemsOf s))) where
+    pub kind-yes : T (kindFits change)
+    kind-yes = and-yes (nodesizeFits nodesize) (kindFits change) (passed-shows s three passed .0) .1
+
+    pub missing-answered : (k : ℕ) (old : List ℕ) → cut (recordOf (nameOf change .extent)) (itemsOf s) ≡ none → k ≡ unbalancedOr (balanced (itemsOf s)) 5
+        → Answered (posted nodesize s change room) (Denied k) old old
+    unfolding posted
+    missing-answered k old e is =
+        answered-no _ room k old
+        (asks ∙ four-or-five (balanced (itemsOf s)) _ (missing-record nodesize change (itemsOf s) e) ∙ ap refused (sym is))
+
+    module _ (k : ℕ) (is : k ≡ unbalancedOr (balanced (itemsOf s)) 0) where
       pub asked-no : (old : List ℕ) → (k ≡ 0 → ⊥) → Answered (posted nodesize s change room) (Denied k) old old
       unfolding posted
-      asked-no old h = answered-no _ room k old (asks ∙ first-no three (balanced (itemsOf s)) _ (λ z. h (is ∙ z)) ∙ ap refused (sym is))
+      asked-no old h = answered-no _ room k old (asks ∙ four-no (balanced (itemsOf s)) _ (λ z. h (is ∙ z)) ∙ ap refused (sym is))
 
       module _ (zero-is : k ≡ 0) where
-        both : (three ≡ true) × (balanced (itemsOf s) ≡ true)
-        both = both-yes three (balanced (itemsOf s)) (sym is ∙ zero-is)
+        yes : balanced (itemsOf s) ≡ true
+        yes = zero-yes (balanced (itemsOf s)) (sym is ∙ zero-is)
 
-        pub kind-yes : T (kindFits change)
-        kind-yes = and-yes (nodesizeFits nodesize) (kindFits change) (subst T (sym (both .0)) tt) .1
-
-        pub balanced-list : BalancedList s n
-        balanced-list = record { checked = e; balance = subst T (sym (both .1)) tt }
+        pub balanced-list : T (balanced (itemsOf s))
+        balanced-list = subst T (sym yes) tt
 
         pub post-answered : (r : Edited) (old new : List ℕ) → Answered (heldSheet room (changed nodesize change (itemsOf s))) r old new
             → Answered (posted nodesize s change room) r old new
         unfolding posted ask
         post-answered r old new h =
             subst (λ (a : Answer (List Item)). Answered (heldSheet room a) r old new)
-            (sym (asks ∙ (λ j. ask (both .0 j) 3 (ask (both .1 j) 4 (changed nodesize change (itemsOf s)))))) h
+            (sym (asks ∙ ap (λ (b : Bool). ask b 4 (changed nodesize change (itemsOf s))) yes)) h

@@ -2,5 +2,4 @@ pub mod Known
 pub mod Asked
 pub mod Adding
 pub mod Posting
-pub mod Dropping
 pub mod Calls

@@ -1,4 +1,4 @@
--- What the steps of a posting say: questions 3 and 4, and the name that a shared reference wants. Assumes nothing.
+-- What the steps of a posting say: question 4, and the name that a shared reference wants. Assumes nothing.
 use mathlib.Core.Path.{_≡_}
 use mathlib.Core.Bool.{Bool, cond}
 use mathlib.Core.List.{List}
@@ -13,9 +13,9 @@ use Rattle.inline_refs.specs.Scans.{kindOf}
 use Rattle.transaction.specs.Drops.{dropRef}
 use Rattle.ledger.specs.Adding.{addChange}
 
--- questions 3 and 4: the number of the first "no", or 0
-unfoldable pub beforeFive : Bool → Bool → ℕ
-beforeFive three four = cond three (cond four 0 4) 3
+-- question 4, or another number where it is answered with yes
+unfoldable pub unbalancedOr : Bool → ℕ → ℕ
+unbalancedOr four otherwise = cond four otherwise 4
 
 -- the name that a shared reference wants
 pub record SharedWanted (name : SharedRef) (w : Wanted) : Type 0 where

@@ -1,17 +1,20 @@
 // Question 9 of the ledger: has a name an item of its own?
-use crate::Stand;
 use format::Key;
 use inline_refs::Wanted;
 use item_list::Sought;
+use record_edit::RecordAt;
 ghost use mathlib.Core.Path.{_≡_};
 ghost use mathlib.Core.Bool.{true};
 ghost use Prim.Native.Nat.{_+_, _≤_};
+ghost use lib.Dec.{T};
 ghost use lib.ListN.{length};
 ghost use Rattle.fields.specs.Lists.{all};
+ghost use Rattle.format.specs.Names.{balanced};
 ghost use Rattle.format.specs.Ledger.{notItsOwn};
 ghost use Rattle.inline_refs.specs.Scans.{kindOf};
 ghost use Rattle.item_list.specs.Steps.{itemsOf};
-ghost use Rattle.ledger.specs.Known.{BalancedList, HasRecord, nameIn, ownAt};
+ghost use Rattle.record_edit.specs.Stands.{StandsFor};
+ghost use Rattle.ledger.specs.Known.{nameIn, ownAt};
 
 // Whether an item with these bytes that stands there is of that name. Two triples may have one hash.
 fn is_own(wanted: Wanted, bytes: &[u8]) -> bool
@@ -27,9 +30,9 @@ fn is_own(wanted: Wanted, bytes: &[u8]) -> bool
 }
 
 // The search starts behind the record: the key of each of its references is above its own.
-pub fn has_none(sheet: &[u8], stand: Stand, extent: u64, wanted: Wanted) -> bool
-    requires { ⌜ BalancedList (now sheet) (stand .items) ⌝ }
-    requires { ⌜ HasRecord (now sheet) extent (stand .start) (stand .end) ⌝ }
+pub fn has_none(sheet: &[u8], target: RecordAt, extent: u64, wanted: Wanted) -> bool
+    requires { ⌜ StandsFor (now sheet) extent target ⌝ }
+    requires { ⌜ T (balanced (itemsOf (now sheet))) ⌝ }
     ensures { λ r. ⌜ r ≡ all (notItsOwn (nameIn extent wanted)) (itemsOf (now (sheet .entry))) ⌝ }
 {
     let key = Key {
@@ -37,7 +40,7 @@ pub fn has_none(sheet: &[u8], stand: Stand, extent: u64, wanted: Wanted) -> bool
         kind: inline_refs::kind_of(wanted),
         offset: inline_refs::own_place(wanted),
     };
-    let sought = item_list::seek(sheet, stand.end, key);
+    let sought = item_list::seek(sheet, target.end, key);
     match sought {
         Sought::Absent { at: _ } => return true,
         Sought::Present { start, end } => {

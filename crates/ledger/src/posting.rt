@@ -1,11 +1,10 @@
 // One change posted: questions 1 to 5 first, then the change's own.
-use crate::Stand;
-use crate::drops;
 use format::Change;
 use format::Edited;
 use format::SharedRef;
 use inline_refs::Wanted;
-use item_list::Listing;
+use record_edit::FoundRecord;
+use record_edit::RecordAt;
 ghost use mathlib.Core.Path.{_≡_};
 ghost use mathlib.Core.Bool.{_&&_};
 ghost use lib.Dec.{T};
@@ -16,8 +15,8 @@ ghost use Rattle.format.specs.Items.{nodesizeFits, heldSheet};
 ghost use Rattle.format.specs.Names.{balanced};
 ghost use Rattle.format.specs.Ledger.{nameOf, kindFits, changed};
 ghost use Rattle.item_list.specs.Steps.{Listed, itemsOf};
-ghost use Rattle.ledger.specs.Known.{BalancedList, HasRecord};
-ghost use Rattle.ledger.specs.Posting.{beforeFive, SharedWanted};
+ghost use Rattle.record_edit.specs.Stands.{StandsFor};
+ghost use Rattle.ledger.specs.Posting.{unbalancedOr, SharedWanted};
 ghost use Rattle.ledger.specs.Calls.{Kept};
 
 fn kind_fits(change: Change) -> bool
@@ -83,15 +82,21 @@ fn shared_wanted(name: SharedRef) -> Wanted
 }
 
 // The change to the record that stands there.
-fn change_at(sheet: &[u8], stand: Stand, nodesize: u32, change: Change, out: &mut [u8]) -> Edited
-    requires { ⌜ BalancedList (now sheet) (stand .items) ⌝ }
-    requires { ⌜ HasRecord (now sheet) (nameOf change .extent) (stand .start) (stand .end) ⌝ }
+fn change_at(
+    sheet: &[u8],
+    target: RecordAt,
+    nodesize: u32,
+    change: Change,
+    out: &mut [u8],
+) -> Edited
+    requires { ⌜ StandsFor (now sheet) (nameOf change .extent) target ⌝ }
+    requires { ⌜ T (balanced (itemsOf (now sheet))) ⌝ }
     requires { ⌜ T (kindFits change) ⌝ }
     ensures { λ r. ⌜ Answered (heldSheet (length (now (out .entry))) (changed nodesize change (itemsOf (now (sheet .entry))))) r (now (out .entry)) (now (out .exit)) ⌝ }
 {
     match change {
         Change::AddBlock { extent, name } => {
-            return crate::add(sheet, stand, nodesize, extent, Wanted::Block(name), 1, out);
+            return crate::add(sheet, target, nodesize, extent, Wanted::Block(name), 1, out);
         }
         Change::AddData {
             extent,
@@ -99,7 +104,7 @@ fn change_at(sheet: &[u8], stand: Stand, nodesize: u32, change: Change, out: &mu
             amount,
         } => {
             let wanted = Wanted::Data(name);
-            return crate::add(sheet, stand, nodesize, extent, wanted, amount, out);
+            return crate::add(sheet, target, nodesize, extent, wanted, amount, out);
         }
         Change::AddShared {
             extent,
@@ -107,60 +112,46 @@ fn change_at(sheet: &[u8], stand: Stand, nodesize: u32, change: Change, out: &mu
             amount,
         } => {
             let wanted = shared_wanted(name);
-            return crate::add(sheet, stand, nodesize, extent, wanted, amount, out);
+            return crate::add(sheet, target, nodesize, extent, wanted, amount, out);
         }
-        Change::DropBlock { extent, name } => {
-            return drops::drop_ref(sheet, stand, extent, Wanted::Block(name), out);
+        Change::DropBlock { extent: _, name } => {
+            return transaction::drop_ref(sheet, target, Wanted::Block(name), out);
         }
-        Change::DropData { extent, name } => {
-            return drops::drop_ref(sheet, stand, extent, Wanted::Data(name), out);
+        Change::DropData { extent: _, name } => {
+            return transaction::drop_ref(sheet, target, Wanted::Data(name), out);
         }
-        Change::DropShared { extent, name } => {
+        Change::DropShared { extent: _, name } => {
             let wanted = shared_wanted(name);
-            return drops::drop_ref(sheet, stand, extent, wanted, out);
+            return transaction::drop_ref(sheet, target, wanted, out);
         }
     }
 }
 
-// Questions 3 and 4: the refusal, or 0. The check of balance is called from here alone, so that the compiler joins it to its caller;
-// called from two places it takes twice the time.
-fn before_five(sheet: &[u8], nodesize: u32, change: Change) -> u32
+// Question 4: `otherwise` where it is answered with yes. The check of balance is called from here alone, so that the compiler
+// inlines it; called from two places it takes twice the time.
+fn unbalanced_or(sheet: &[u8], otherwise: u32) -> u32
     requires { ⌜ Listed (now sheet) ⌝ }
-    ensures { λ r. ⌜ r ≡ beforeFive (nodesizeFits nodesize && kindFits change) (balanced (itemsOf (now (sheet .entry)))) ⌝ }
+    ensures { λ r. ⌜ r ≡ unbalancedOr (balanced (itemsOf (now (sheet .entry)))) otherwise ⌝ }
 {
-    if change_fits(nodesize, change) {
-        if balance::balanced(sheet) {
-            return 0;
-        }
-        return 4;
+    if balance::balanced(sheet) {
+        return otherwise;
     }
-    3
+    4
 }
 
 // Document 01's posting: the sheet with the change, into `out`.
 pub fn post(sheet: &[u8], nodesize: u32, change: Change, out: &mut [u8]) -> Edited
     ensures { λ r. ⌜ Kept (now (sheet .entry)) (record { nodesize = nodesize; change = change; old = now (out .entry); new = now (out .exit); result = r }) ⌝ }
 {
-    let listing = item_list::find(sheet, item_list::Wanted::Record(extent_of(change)));
-    match listing {
-        Listing::Refused(number) => return Edited::Refused(number),
-        Listing::Missing { count: _ } => {
-            let refusal = before_five(sheet, nodesize, change);
+    let three = change_fits(nodesize, change);
+    let found = record_edit::find_record(sheet, extent_of(change), three);
+    match found {
+        FoundRecord::Refused(number) => return Edited::Refused(number),
+        FoundRecord::Missing => return Edited::Refused(unbalanced_or(sheet, 5)),
+        FoundRecord::At { index: _, target } => {
+            let refusal = unbalanced_or(sheet, 0);
             if refusal == 0 {
-                return Edited::Refused(5);
-            }
-            return Edited::Refused(refusal);
-        }
-        Listing::Found {
-            count: items,
-            number: _,
-            start,
-            end,
-        } => {
-            let refusal = before_five(sheet, nodesize, change);
-            if refusal == 0 {
-                let stand = Stand { start, end, items };
-                return change_at(sheet, stand, nodesize, change, out);
+                return change_at(sheet, target, nodesize, change, out);
             }
             return Edited::Refused(refusal);
         }

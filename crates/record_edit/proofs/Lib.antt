@@ -1,3 +1,5 @@
 pub mod Writes
 pub mod Held
 pub mod Places
+pub mod Stands
+pub mod Searches

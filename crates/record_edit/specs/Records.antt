@@ -4,7 +4,7 @@ use mathlib.Core.Bool.{_&&_}
 use mathlib.Core.List.{List, _++_}
 use Prim.Native.Nat.{ℕ, _+_, _-_, _≤_}
 use lib.Dec.{leb}
-use lib.ListN.{length, take, drop}
+use lib.ListN.{length, take, drop, replicate}
 use Rattle.fields.specs.Parts.{part, spliced}
 use Rattle.format.specs.Questions.{Answer, accepted, ask}
 use Rattle.format.specs.Items.{itemBytes}
@@ -28,6 +28,10 @@ pub record BehindIn (b : Behind) (end : ℕ) (s : List ℕ) : Type 0 where
   pub high : b .to ≤ length s
   pub small : b .size ≤ 4
   pub full : length (b .new) ≡ 4
+
+-- nothing changes behind it
+abbrev pub nothing : ℕ → Behind
+nothing size = record { from = size; to = size; new = replicate 4 0; size = 0 }
 
 -- what stands from the end of the record on, with the second edit
 abbrev pub restOf : Behind → ℕ → List ℕ → List ℕ

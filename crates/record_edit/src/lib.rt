@@ -2,9 +2,12 @@
 // edit, and a second place behind the record may change with it.
 use format::Key;
 
+mod search;
 mod write;
 
+pub use search::find_record;
 pub use write::edit_record;
+pub use write::put_record;
 
 // Where an extent's record stands: its key, its first byte, the position past it, and how many items its list has.
 pub struct RecordAt {
@@ -12,6 +15,13 @@ pub struct RecordAt {
     pub start: usize,
     pub end: usize,
     pub item_count: usize,
+}
+
+// Questions 1, 2 and 3: the refusal; or where the extent's record stands, and its item number.
+pub enum FoundRecord {
+    Refused(u32),
+    Missing,
+    At { index: usize, target: RecordAt },
 }
 
 // A second edit, behind the record: the bytes from `from` up to `to` give way to the first `size` of `new`.

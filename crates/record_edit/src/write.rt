@@ -13,7 +13,7 @@ ghost use Rattle.fields.specs.Parts.{written};
 ghost use Rattle.format.specs.Questions.{Answered, bind};
 ghost use Rattle.format.specs.Items.{itemBytes};
 ghost use Rattle.backref.specs.Plans.{edited, planAnswer, EditIn, PlanIn};
-ghost use Rattle.record_edit.specs.Records.{dataOf, editLength, BehindIn, restOf, restLength, sheetLength, editedSheet, heldEdit};
+ghost use Rattle.record_edit.specs.Records.{dataOf, editLength, BehindIn, nothing, restOf, restLength, sheetLength, editedSheet, heldEdit};
 
 // The planned body goes to `out` at `at`. Returns the position past it.
 fn append_edit(body: &[u8], plan: Plan, out: &mut [u8], at: usize) -> usize
@@ -124,4 +124,26 @@ pub fn edit_record(
         Outcome::Remove => Edited::Remove,
         Outcome::Refused(number) => Edited::Refused(number),
     }
+}
+
+// The record alone changes.
+pub fn put_record(
+    sheet: &[u8],
+    target: RecordAt,
+    plan: Plan,
+    limit: usize,
+    out: &mut [u8],
+) -> Edited
+    requires { ⌜ PlanIn plan (dataOf (now sheet) (target .start) (target .end)) ⌝ }
+    requires { ⌜ (target .start + 21 ≤ target .end) × (target .end ≤ length (now sheet)) × (length (now sheet) ≤ 262144) ⌝ }
+    ensures { λ r. ⌜ Answered (bind (planAnswer plan (dataOf (now (sheet .entry)) (target .start) (target .end))) (heldEdit (length (now (out .entry))) (target .«item_count») limit (editedSheet (now (sheet .entry)) target (nothing (length (now (sheet .entry))))))) r (now (out .entry)) (now (out .exit)) ⌝ }
+{
+    let n = sheet.len();
+    let behind = Behind {
+        from: n,
+        to: n,
+        new: [0; 4],
+        size: 0,
+    };
+    edit_record(sheet, target, plan, behind, limit, target.item_count, out)
 }

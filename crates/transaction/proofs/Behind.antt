@@ -24,7 +24,7 @@ use Rattle.item_list.specs.Seeks.{seekIn}
 use Rattle.item_list.proofs.Places.{Sits, sits, no-cut, Inside, inside}
 use Rattle.item_list.proofs.Behind.{behind-listed, found-behind, seek-behind}
 use Rattle.record_edit.specs.declared.RecordAt.{RecordAt}
-use Rattle.transaction.proofs.Stands.{Stands}
+use Rattle.record_edit.proofs.Stands.{Stands}
 
 -- ---- a cut behind an element that does not pass, and those before it
 
@@ -130,7 +130,7 @@ module _ {s : List ℕ} {c : Cut Item} {target : RecordAt} (st : Stands s c targ
         }
 
     -- as the search from the record's end on answers it
-    behind-is : seekIn key (target .end) (itemsFrom s (target .end)) ≡ seekIn key 1 (itemsOf s)
+    pub behind-is : seekIn key (target .end) (itemsFrom s (target .end)) ≡ seekIn key 1 (itemsOf s)
     behind-is = seek-behind (st .list) (c .front) (c .hit) (c .back) (st .same) (target .end) (st .ends) key key-above
 
     pub behind-at : (from to : ℕ) → seekIn key (target .end) (itemsFrom s (target .end)) ≡ Present from to → BehindAt s c (target .end) key from to

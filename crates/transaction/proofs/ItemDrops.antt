@@ -26,8 +26,8 @@ use Rattle.backref.specs.Plans.{edited, planned, planAnswer, Planned}
 use Rattle.backref.proofs.plan.Outcome.{the-type}
 use Rattle.backref.proofs.Outcomes.{plan-is}
 use Rattle.record_edit.specs.declared.RecordAt.{RecordAt}
-use Rattle.record_edit.specs.Records.{dataOf}
-use Rattle.transaction.specs.Edits.{nothing, gone, counts, heldPlan, heldAt}
+use Rattle.record_edit.specs.Records.{dataOf, nothing, editedSheet, heldEdit}
+use Rattle.transaction.specs.Edits.{gone, counts, heldPlan, heldAt}
 use Rattle.transaction.proofs.Rewrites.{last-four}
 
 -- ---- the item's own drop
@@ -96,14 +96,14 @@ module _ (s : List ℕ) (target : RecordAt) (from to : ℕ) (name : DataRef) (ro
 pub total-refused : (s : List ℕ) (target : RecordAt) (room : ℕ) (next : List ℕ → Answer (List ℕ)) (p : Plan) (r : Edited) (old new : List ℕ)
     → Planned p (dataOf s (target .start) (target .end)) (lowerTotal (dataOf s (target .start) (target .end)))
     → (tagOf the-type (p .outcome) ≡ 1) ⊎ ((tagOf the-type (p .outcome) ≡ 2) ⊎ (tagOf the-type (p .outcome) ≡ 3))
-    → Answered (heldPlan room (target .«item_count») s target p (nothing (length s))) r old new
+    → Answered (bind (planAnswer p (dataOf s (target .start) (target .end))) (heldEdit room (target .«item_count») 65564 (editedSheet s target (nothing (length s))))) r old new
     → Answered (bind (lowerTotal (dataOf s (target .start) (target .end))) next) r old new
 unfolding bind planned
 total-refused s target room next p r old new total tag w =
     subst (λ (a : Answer (List ℕ)). Answered a r old new) (go (p .outcome) refl tag ∙ ap (λ (a : Answer (List ℕ)). bind a next) (total .says)) w
   where
     go : (o : Outcome) → p .outcome ≡ o → (tagOf the-type o ≡ 1) ⊎ ((tagOf the-type o ≡ 2) ⊎ (tagOf the-type o ≡ 3))
-        → heldPlan room (target .«item_count») s target p (nothing (length s)) ≡ bind (planAnswer p (dataOf s (target .start) (target .end))) next
+        → bind (planAnswer p (dataOf s (target .start) (target .end))) (heldEdit room (target .«item_count») 65564 (editedSheet s target (nothing (length s)))) ≡ bind (planAnswer p (dataOf s (target .start) (target .end))) next
     go Edit e (inl z) = absurd (let y : _≡_ {A = ℕ} 0 1 = z in omega arith)
     go Edit e (inr (inl z)) = absurd (let y : _≡_ {A = ℕ} 0 2 = z in omega arith)
     go Edit e (inr (inr z)) = absurd (let y : _≡_ {A = ℕ} 0 3 = z in omega arith)

@@ -5,32 +5,34 @@ use mathlib.Core.Bool.{Bool, true, false, _||_}
 use mathlib.Core.List.{List}
 use Prim.Native.Nat.{ℕ, zero, suc, _+_, _-_, _≤_, _<_}
 use native.Mathlib.Omega.{arith}
-use lib.Dec.{leb, eqb}
+use lib.Dec.{leb, eqb, T}
 use lib.ListN.{length}
 use borrow.Author.Tests.{eqb-true, lt-ltb, le-ltb, le-leb, lt-leb}
 use Rattle.fields.proofs.Lists.{lt-or}
-use Rattle.format.specs.declared.Key.{Key}
 use Rattle.format.specs.declared.Keyed.{Keyed}
 use Rattle.format.specs.declared.Keyed.the-variants.{Block, Data}
 use Rattle.format.specs.declared.BlockRef.{BlockRef}
 use Rattle.format.specs.declared.DataRef.{DataRef}
 use Rattle.format.specs.declared.Edited.{Edited}
 use Rattle.format.specs.declared.Edited.the-variants.{Refused as Denied}
-use Rattle.format.specs.Questions.{Answer, accepted, ask, bind, Answered}
+use Rattle.format.specs.Questions.{Answer, accepted, ask, bind, Answered, refused}
 use Rattle.format.specs.Bodies.{raiseTotal, addInlineTreeRef, addInlineData}
-use Rattle.format.specs.Items.{Item, readSheet, nodesizeFits, heldSheet, putBack}
+use Rattle.format.specs.Items.{Item, nodesizeFits, heldSheet, putBack}
 use Rattle.format.specs.Apply.{inlineLimit, keyedBody, applyKeyedAdd, applyKeyedAddTo}
-use Rattle.item_list.specs.Steps.{itemAt, itemsOf}
+use Rattle.item_list.specs.Steps.{itemsOf}
 use Rattle.item_list.specs.ItemWrites.{heldBytes}
 use Rattle.item_list.proofs.ItemWrites.{answered-no, answered-by}
 use Rattle.backref.specs.declared.plan.Plan.{Plan}
 use Rattle.backref.specs.Plans.{planAnswer, Planned}
-use Rattle.record_edit.specs.Records.{dataOf, heldEdit}
-use Rattle.transaction.specs.declared.Spot.the-variants.{Refused}
-use Rattle.transaction.specs.Spots.{spotOf, withBody}
+use Rattle.record_edit.specs.Records.{dataOf, heldEdit, nothing, editedSheet}
 use Rattle.transaction.specs.Keyed.{unread, keyedPlan, larger, limitFor}
-use Rattle.transaction.proofs.Spots.{Standing, spot-refused, stands-answer}
-use Rattle.transaction.proofs.Records.{put-answered}
+use Rattle.fields.specs.Lists.{Cut}
+use Rattle.fields.specs.Numbers.{areBytes}
+use Rattle.record_edit.specs.declared.RecordAt.{RecordAt}
+use Rattle.record_edit.specs.Stands.{askedSheet, RecordMissing, RecordFound}
+use Rattle.record_edit.proofs.Stands.{Stands, stands}
+use Rattle.record_edit.proofs.Searches.{on-refused, on-missing, on-found}
+use Rattle.transaction.proofs.Records.{put-limited}
 
 -- ---- the larger of two limits
 
@@ -106,53 +108,63 @@ module _ (i : Item) (keyed : Keyed) (count : ℕ) (plan : Plan) (asItem : Bool) 
 
 -- ---- the call
 
-pub keyed-add-refused : (nodesize : ℕ) (s : List ℕ) (extent : ℕ) (keyed : Keyed) (count : ℕ) (asItem : Bool) (room k : ℕ) (old : List ℕ)
-    → spotOf extent (nodesizeFits nodesize) (readSheet s) ≡ Refused k
-    → Answered (heldSheet room (applyKeyedAddTo nodesize s extent keyed count asItem)) (Denied k) old old
-unfolding applyKeyedAddTo applyKeyedAdd
-keyed-add-refused nodesize s extent keyed count asItem room k old e = answered-no _ room k old (spot-refused s extent (nodesizeFits nodesize) k _ e)
+module _ (nodesize room : ℕ) (keyed : Keyed) (count : ℕ) (asItem : Bool) where
+  abbrev keyed-next : Cut Item → Answer (List Item)
+  keyed-next c =
+      bind (keyedBody (c .hit) keyed count asItem) (λ body.
+      ask (leb (length body) (length (c .hit .bytes)) || leb (length body) (inlineLimit nodesize)) 17 (accepted (putBack c body)))
 
-module _ (nodesize : ℕ) {s : List ℕ} {extent number start end n : ℕ} (st : Standing s extent (nodesizeFits nodesize) number start end n)
-    (room : ℕ) (keyed : Keyed) (count : ℕ) (asItem : Bool) where
-  abbrev hit : Item
-  hit = st .at-cut .hit
+  pub keyed-add-refused : (s : List ℕ) (extent k : ℕ) (old : List ℕ) → askedSheet s (nodesizeFits nodesize) ≡ refused k
+      → Answered (heldSheet room (applyKeyedAddTo nodesize s extent keyed count asItem)) (Denied k) old old
+  unfolding applyKeyedAddTo
+  keyed-add-refused s extent k old e = answered-no _ room k old (on-refused s (nodesizeFits nodesize) k (applyKeyedAdd nodesize extent keyed count asItem) e)
 
-  abbrev test : List ℕ → Bool
-  test body = leb (length body) (length (hit .bytes)) || leb (length body) (inlineLimit nodesize)
-
-  keyed-is : applyKeyedAddTo nodesize s extent keyed count asItem
-      ≡ bind (keyedBody hit keyed count asItem) (λ body. ask (test body) 17 (accepted (putBack (st .at-cut) body)))
+  pub keyed-add-missing : {s : List ℕ} {extent : ℕ} → RecordMissing s extent (nodesizeFits nodesize) → (old : List ℕ)
+      → Answered (heldSheet room (applyKeyedAddTo nodesize s extent keyed count asItem)) (Denied 5) old old
   unfolding applyKeyedAddTo applyKeyedAdd
-  keyed-is =
-      stands-answer st
-      (λ c. bind (keyedBody (c .hit) keyed count asItem) (λ body.
-      ask (leb (length body) (length (c .hit .bytes)) || leb (length body) (inlineLimit nodesize)) 17 (accepted (putBack c body))))
+  keyed-add-missing l old = answered-no _ room 5 old (on-missing l (λ items. keyed-next))
 
-  -- the same items
-  pub keyed-add-kept : (r : Edited) (old new : List ℕ) → unread keyed count asItem ≡ true
-      → Answered (heldBytes room n s) r old new
-      → Answered (heldSheet room (applyKeyedAddTo nodesize s extent keyed count asItem)) r old new
-  unfolding bind ask
-  keyed-add-kept r old new e w =
-      let fits : test (hit .bytes) ≡ true = rw (le-leb (length (hit .bytes)) (length (hit .bytes)) (omega arith)) refl in
-      answered-by _ room n (itemsOf s) s r old new
-      (keyed-is ∙ ap (λ (a : Answer (List ℕ)). bind a (λ body. ask (test body) 17 (accepted (putBack (st .at-cut) body)))) (body-unread hit keyed count asItem e)
-      ∙ ap (λ (b : Bool). ask b 17 (accepted (putBack (st .at-cut) (hit .bytes)))) fits
-      ∙ ap accepted (sym (st .same)))
-      (st .bytes-are) (st .count) (st .fit) w
+  module _ {s : List ℕ} {extent index : ℕ} {target : RecordAt} (bytes : T (areBytes s)) (found : RecordFound s extent (nodesizeFits nodesize) index target) where
+    abbrev c : Cut Item
+    c = found .there .stands .at-cut
 
-  pub keyed-add-answered : (key : Key) (limit : ℕ) (plan : Plan) (r : Edited) (old new : List ℕ)
-      → unread keyed count asItem ≡ false
-      → key ≡ itemAt s start .key
-      → limit ≡ limitFor nodesize (end - (start + 21)) true
-      → Planned plan (dataOf s start end) (keyedPlan (record { key = key; bytes = dataOf s start end }) keyed count asItem)
-      → Answered (bind (planAnswer plan (dataOf s start end)) (heldEdit room n limit (withBody s start end))) r old new
-      → Answered (heldSheet room (applyKeyedAddTo nodesize s extent keyed count asItem)) r old new
-  unfolding limitFor
-  keyed-add-answered key limit plan r old new e key-is limit-is p w =
-      let same : record { key = key; bytes = dataOf s start end } ≡ hit = (λ j. record { key = key-is j; bytes = dataOf s start end }) ∙ sym (st .hit-is) in
-      let long : length (hit .bytes) ≡ end - (start + 21) = let a = st .starts in let b = st .ends in omega arith in
-      let limits : limit ≡ larger (length (hit .bytes)) (inlineLimit nodesize) = limit-is ∙ ap (λ (n : ℕ). larger n (inlineLimit nodesize)) (sym long) in
-      put-answered st room limit plan (keyedBody hit keyed count asItem) test _ r old new
-      (λ d f. either (length d) (length (hit .bytes)) (inlineLimit nodesize) ∙ ap (leb (length d)) (sym limits)) keyed-is
-      (p .says ∙ ap (λ (i : Item). keyedPlan i keyed count asItem) same ∙ body-read hit keyed count asItem e) w
+    abbrev hit : Item
+    hit = c .hit
+
+    st : Stands s c target
+    st = stands bytes (found .there .stands)
+
+    abbrev test : List ℕ → Bool
+    test body = leb (length body) (length (hit .bytes)) || leb (length body) (inlineLimit nodesize)
+
+    keyed-is : applyKeyedAddTo nodesize s extent keyed count asItem
+        ≡ bind (keyedBody hit keyed count asItem) (λ body. ask (test body) 17 (accepted (putBack c body)))
+    unfolding applyKeyedAddTo applyKeyedAdd
+    keyed-is = on-found found (λ items. keyed-next)
+
+    -- the same items
+    pub keyed-add-kept : (r : Edited) (old new : List ℕ) → unread keyed count asItem ≡ true
+        → Answered (heldBytes room (target .«item_count») s) r old new
+        → Answered (heldSheet room (applyKeyedAddTo nodesize s extent keyed count asItem)) r old new
+    unfolding bind ask
+    keyed-add-kept r old new e w =
+        let fits : test (hit .bytes) ≡ true = rw (le-leb (length (hit .bytes)) (length (hit .bytes)) (omega arith)) refl in
+        answered-by _ room (target .«item_count») (itemsOf s) s r old new
+        (keyed-is ∙ ap (λ (a : Answer (List ℕ)). bind a (λ body. ask (test body) 17 (accepted (putBack c body)))) (body-unread hit keyed count asItem e)
+        ∙ ap (λ (b : Bool). ask b 17 (accepted (putBack c (hit .bytes)))) fits
+        ∙ ap accepted (sym (st .same)))
+        (st .bytes-are) (st .count) (st .fit) w
+
+    pub keyed-add-answered : (limit : ℕ) (plan : Plan) (r : Edited) (old new : List ℕ)
+        → unread keyed count asItem ≡ false
+        → limit ≡ limitFor nodesize (target .end - (target .start + 21)) true
+        → Planned plan (dataOf s (target .start) (target .end)) (keyedPlan (record { key = target .key; bytes = dataOf s (target .start) (target .end) }) keyed count asItem)
+        → Answered (bind (planAnswer plan (dataOf s (target .start) (target .end))) (heldEdit room (target .«item_count») limit (editedSheet s target (nothing (length s))))) r old new
+        → Answered (heldSheet room (applyKeyedAddTo nodesize s extent keyed count asItem)) r old new
+    unfolding limitFor
+    keyed-add-answered limit plan r old new e limit-is p w =
+        let long : length (hit .bytes) ≡ target .end - (target .start + 21) = let a = st .starts in let b = st .ends in omega arith in
+        let limits : limit ≡ larger (length (hit .bytes)) (inlineLimit nodesize) = limit-is ∙ ap (λ (n : ℕ). larger n (inlineLimit nodesize)) (sym long) in
+        put-limited st room limit plan (keyedBody hit keyed count asItem) test _ r old new
+        (λ d f. either (length d) (length (hit .bytes)) (inlineLimit nodesize) ∙ ap (leb (length d)) (sym limits)) keyed-is
+        (p .says ∙ ap (λ (i : Item). keyedPlan i keyed count asItem) (sym (st .hit-is)) ∙ body-read hit keyed count asItem e) w

@@ -8,13 +8,11 @@ pub mod RefDrops
 pub mod Owned
 pub mod OwnDrops
 pub mod KeptRecords
-pub mod Stands
 pub mod Plans
 pub mod Turns
 pub mod Rewrites
 pub mod Behind
 pub mod Puts
-pub mod Spots
 pub mod Records
 pub mod Additions
 pub mod KeyedAdditions

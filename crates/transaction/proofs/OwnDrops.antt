@@ -30,9 +30,9 @@ use Rattle.item_list.specs.Steps.{itemsOf}
 use Rattle.item_list.specs.Seeks.{seekIn}
 use Rattle.item_list.proofs.Places.{no-cut}
 use Rattle.record_edit.specs.declared.RecordAt.{RecordAt}
-use Rattle.transaction.specs.Stands.{StandsAt, onKey}
+use Rattle.record_edit.specs.Stands.{StandsAt, onKey}
 use Rattle.transaction.specs.Drops.{dropRef}
-use Rattle.transaction.proofs.Stands.{Stands, stands, on-key}
+use Rattle.record_edit.proofs.Stands.{Stands, stands, on-key}
 use Rattle.transaction.proofs.Turns.{accepted-absent, stays}
 use Rattle.transaction.proofs.Behind.{BehindAt, rises, stands-at}
 use Rattle.transaction.proofs.Puts.{replaced-without}

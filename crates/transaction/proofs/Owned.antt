@@ -24,7 +24,7 @@ use Rattle.format.proofs.Items.{length-itemBytes}
 use Rattle.format.proofs.Splices.{sheet-join, sheet-data}
 use Rattle.record_edit.specs.declared.RecordAt.{RecordAt}
 use Rattle.transaction.specs.Edits.{ownAt}
-use Rattle.transaction.proofs.Stands.{Stands}
+use Rattle.record_edit.proofs.Stands.{Stands}
 use Rattle.transaction.proofs.Rewrites.{sheet-part, part-inside}
 
 -- ---- from the answer without the flag to that with it, in a lent output

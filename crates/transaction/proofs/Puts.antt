@@ -26,10 +26,10 @@ use Rattle.backref.specs.declared.plan.Plan.{Plan}
 use Rattle.backref.specs.Plans.{planAnswer}
 use Rattle.record_edit.specs.declared.Behind.{Behind}
 use Rattle.record_edit.specs.declared.RecordAt.{RecordAt}
-use Rattle.record_edit.specs.Records.{dataOf, editedSheet, heldRecord}
+use Rattle.record_edit.specs.Records.{dataOf, editedSheet, heldRecord, nothing}
 use Rattle.record_edit.proofs.Held.{held-items, held-bind, all-but}
-use Rattle.transaction.specs.Edits.{nothing, gone, counts, heldPlan}
-use Rattle.transaction.proofs.Stands.{Stands}
+use Rattle.transaction.specs.Edits.{gone, counts, heldPlan}
+use Rattle.record_edit.proofs.Stands.{Stands}
 use Rattle.transaction.proofs.Turns.{not-absent, stays}
 use Rattle.transaction.proofs.Rewrites.{sheet-part}
 use Rattle.transaction.proofs.Behind.{BehindAt, rises}

@@ -1,13 +1,13 @@
 -- A reference dropped, whatever its kind: what the call answers inline, without an item and at an item. Assumes nothing.
 use mathlib.Core.Path.{_≡_, refl, sym, ap, ap₂, _∙_, subst}
 use mathlib.Core.Logic.{_⊎_, inl, inr}
-use mathlib.Core.Bool.{Bool, true, false, cond}
+use mathlib.Core.Bool.{Bool, true, false}
 use mathlib.Core.Option.{Option, none, some}
 use mathlib.Core.List.{List}
-use Prim.Native.Nat.{ℕ, _+_, _-_, _≤_}
+use Prim.Native.Nat.{ℕ, _-_, _≤_}
 use native.Mathlib.Omega.{arith}
 use lib.Dec.{T, eqb}
-use lib.ListN.{length, take}
+use lib.ListN.{length}
 use lib.Seq.{take-all}
 use borrow.Author.Tests.{eqb-true}
 use denote.Enum.Declared.{tagOf}
@@ -46,15 +46,16 @@ use Rattle.backref.specs.Steps.{Reduces}
 use Rattle.backref.proofs.Reductions.{reduces-whole}
 use Rattle.backref.proofs.Takings.{taken-whole}
 use Rattle.record_edit.specs.declared.RecordAt.{RecordAt}
-use Rattle.record_edit.specs.Records.{dataOf, editedSheet, heldRecord}
+use Rattle.record_edit.specs.Records.{dataOf, editedSheet, heldRecord, nothing, heldEdit}
 use Rattle.record_edit.proofs.Held.{held-bind}
-use Rattle.transaction.specs.Edits.{nothing, gone, counts, heldPlan, heldAt}
+use Rattle.transaction.specs.Edits.{gone, counts, heldPlan, heldAt}
 use Rattle.transaction.specs.Drops.{sharedRef, dropRef, InForm, takenWhole, droppedInline, loweredTotal, itemDrop, CountFits}
-use Rattle.transaction.proofs.Stands.{Stands}
+use Rattle.record_edit.proofs.Stands.{Stands}
 use Rattle.transaction.proofs.Turns.{is-absent, turns}
 use Rattle.transaction.proofs.Behind.{BehindAt, behind-at, behind-none}
 use Rattle.transaction.proofs.Puts.{inline-answered, held-second, item-bytes, without-it, replaced-without, counted-it, replaced-counted}
 use Rattle.transaction.proofs.ItemDrops.{keyed-out, count-is}
+use Rattle.transaction.proofs.Plans.{put-held}
 
 -- ---- the planned bodies
 
@@ -151,7 +152,7 @@ at-other w s target from to room q r old new tag h written =
 
 -- ---- the definition in one form
 
-kind-high : (w : Wanted) → 170 ≤ kindOf w
+pub kind-high : (w : Wanted) → 170 ≤ kindOf w
 unfolding kindOf
 kind-high (Block name) = omega arith
 kind-high (Data name) = omega arith
@@ -267,11 +268,12 @@ module _ {s : List ℕ} {c : Cut Item} {target : RecordAt} (st : Stands s c targ
   other = bind (needed 5 (cut (hasKey (own-key (itemsOf s) c w)) (itemsOf s))) (at-item (itemsOf s) c w)
 
   pub drop-inline : (p .outcome ≡ Absent → ⊥) → (r : Edited) (old new : List ℕ)
-      → Answered (heldPlan room (target .«item_count») s target p (nothing (length s))) r old new
+      → Answered (bind (planAnswer p (dataOf s (target .start) (target .end))) (heldEdit room (target .«item_count») 65564 (editedSheet s target (nothing (length s))))) r old new
       → Answered (heldSheet room (dropRef w (itemsOf s) c)) r old new
   drop-inline there r old new h =
       subst (λ (a : Answer (List Item)). Answered (heldSheet room a) r old new) (sym (in-one-form (itemsOf s) c w))
-      (inline-answered st p (droppedInline w (c .hit .key .kind) (c .hit .bytes)) other room r old new there says h)
+      (inline-answered st p (droppedInline w (c .hit .key .kind) (c .hit .bytes)) other room r old new there says
+      (put-held s target p (nothing (length s)) room (target .«item_count») r old new (planned .inside) h))
 
   module _ (out : p .outcome ≡ Absent) (kind rank : ℕ) (kind-is : kind ≡ kindOf w) (rank-is : rank ≡ placeOf (kindOf w) (fieldsOf w)) where
     abbrev item-key : Key

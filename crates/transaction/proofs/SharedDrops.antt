@@ -11,28 +11,27 @@ use Rattle.fields.specs.Lists.{Cut}
 use Rattle.fields.specs.Numbers.{leBytes, areBytes}
 use Rattle.fields.proofs.Numbers.{length-leBytes}
 use Rattle.fields.proofs.Parts.{length-written}
-use Rattle.format.specs.declared.Key.{Key}
 use Rattle.format.specs.declared.SharedRef.{SharedRef}
 use Rattle.format.specs.declared.Edited.{Edited}
 use Rattle.format.specs.declared.Edited.the-variants.{Refused as Denied}
 use Rattle.format.specs.Questions.{Answer, refused, accepted, ask, bind, ifAbsent, bytesOf, Answered}
 use Rattle.format.specs.References.{totalOf}
 use Rattle.format.specs.Bodies.{bodyFits, onHead, sharedKind, reducedBy, onTotal, reduceTotal, takeInlineShared}
-use Rattle.format.specs.Items.{Item, readSheet, heldSheet, putBack}
+use Rattle.format.specs.Items.{Item, heldSheet, putBack}
 use Rattle.format.specs.Apply.{sharedRest, applySharedDrop, applySharedDropTo}
 use Rattle.format.proofs.Answers.{ask-ok, bind-ok, bind-next, accepted-inj}
-use Rattle.item_list.specs.Steps.{itemAt}
 use Rattle.item_list.proofs.ItemWrites.{answered-no}
 use Rattle.backref.specs.declared.plan.Plan.{Plan}
 use Rattle.backref.specs.Plans.{planAnswer, Planned, PlannedTaken}
 use Rattle.backref.specs.Steps.{Reduces, Needs}
 use Rattle.backref.proofs.Reductions.{reduces-whole, needs-whole}
 use Rattle.backref.proofs.Takings.{taken-says, taken-whole}
-use Rattle.record_edit.specs.Records.{dataOf, heldEdit}
-use Rattle.transaction.specs.declared.Spot.the-variants.{Refused}
-use Rattle.transaction.specs.Spots.{spotOf, withBody}
-use Rattle.transaction.proofs.Spots.{Standing, spot-refused, stands-answer}
-use Rattle.transaction.proofs.Records.{put-answered}
+use Rattle.record_edit.specs.Records.{dataOf, heldEdit, nothing, editedSheet}
+use Rattle.record_edit.specs.declared.RecordAt.{RecordAt}
+use Rattle.record_edit.specs.Stands.{askedSheet, RecordMissing, RecordFound}
+use Rattle.record_edit.proofs.Stands.{stands}
+use Rattle.record_edit.proofs.Searches.{on-refused, on-missing, on-found}
+use Rattle.transaction.proofs.Records.{put-limited}
 
 -- ---- the planned body
 
@@ -76,26 +75,30 @@ dropped-fits a amount d e =
     let r = bind-ok a _ e in
     sym (le-leb _ _ (reduced-fits (r .0) amount d (r .2)))
 
-pub shared-drop-refused : (s : List ℕ) (extent : ℕ) (name : SharedRef) (count : ℕ) (asItem : Bool) (room k : ℕ) (old : List ℕ)
-    → spotOf extent (sharedKind (name .kind)) (readSheet s) ≡ Refused k
-    → Answered (heldSheet room (applySharedDropTo s extent name count asItem)) (Denied k) old old
-unfolding applySharedDropTo applySharedDrop
-shared-drop-refused s extent name count asItem room k old e = answered-no _ room k old (spot-refused s extent (sharedKind (name .kind)) k _ e)
+module _ (name : SharedRef) (count : ℕ) (asItem : Bool) (room : ℕ) where
+  abbrev drop-next : Cut Item → Answer (List Item)
+  drop-next c = bind (sharedRest (c .hit) name asItem) (λ rest. bind (reduceTotal rest count) (λ body. accepted (putBack c body)))
 
-pub shared-drop-answered : {s : List ℕ} {extent : ℕ} {number start end n : ℕ} (name : SharedRef)
-    → Standing s extent (sharedKind (name .kind)) number start end n
-    → (room count : ℕ) (asItem : Bool) (key : Key) (plan : Plan) (r : Edited) (old new : List ℕ)
-    → key ≡ itemAt s start .key
-    → Planned plan (dataOf s start end) (dropped (record { key = key; bytes = dataOf s start end }) name count asItem)
-    → Answered (bind (planAnswer plan (dataOf s start end)) (heldEdit room n 65535 (withBody s start end))) r old new
-    → Answered (heldSheet room (applySharedDropTo s extent name count asItem)) r old new
-unfolding applySharedDropTo applySharedDrop ask
-shared-drop-answered {s} {extent} {number} {start} {end} {n} name st room count asItem key plan r old new key-is p w =
-    let hit : Item = st .at-cut .hit in
-    let next : Cut Item → Answer (List Item) =
-    λ c. bind (sharedRest (c .hit) name asItem) (λ rest. bind (reduceTotal rest count) (λ body. accepted (putBack c body))) in
-    let same : record { key = key; bytes = dataOf s start end } ≡ hit = (λ j. record { key = key-is j; bytes = dataOf s start end }) ∙ sym (st .hit-is) in
-    put-answered st room 65535 plan (dropped hit name count asItem) (λ d. true) _ r old new
-    (dropped-fits (sharedRest hit name asItem) count)
-    (stands-answer st next ∙ bind-next (sharedRest hit name asItem) (λ rest. reduceTotal rest count) (λ body. accepted (putBack (st .at-cut) body)))
-    (p .says ∙ ap (λ (i : Item). dropped i name count asItem) same) w
+  pub shared-drop-refused : (s : List ℕ) (extent k : ℕ) (old : List ℕ) → askedSheet s (sharedKind (name .kind)) ≡ refused k
+      → Answered (heldSheet room (applySharedDropTo s extent name count asItem)) (Denied k) old old
+  unfolding applySharedDropTo
+  shared-drop-refused s extent k old e = answered-no _ room k old (on-refused s (sharedKind (name .kind)) k (applySharedDrop extent name count asItem) e)
+
+  pub shared-drop-missing : {s : List ℕ} {extent : ℕ} → RecordMissing s extent (sharedKind (name .kind)) → (old : List ℕ)
+      → Answered (heldSheet room (applySharedDropTo s extent name count asItem)) (Denied 5) old old
+  unfolding applySharedDropTo applySharedDrop
+  shared-drop-missing l old = answered-no _ room 5 old (on-missing l (λ items. drop-next))
+
+  pub shared-drop-answered : {s : List ℕ} {extent index : ℕ} {target : RecordAt} → T (areBytes s) → RecordFound s extent (sharedKind (name .kind)) index target
+      → (plan : Plan) (r : Edited) (old new : List ℕ)
+      → Planned plan (dataOf s (target .start) (target .end)) (dropped (record { key = target .key; bytes = dataOf s (target .start) (target .end) }) name count asItem)
+      → Answered (bind (planAnswer plan (dataOf s (target .start) (target .end))) (heldEdit room (target .«item_count») 65535 (editedSheet s target (nothing (length s))))) r old new
+      → Answered (heldSheet room (applySharedDropTo s extent name count asItem)) r old new
+  unfolding applySharedDropTo applySharedDrop ask
+  shared-drop-answered bytes h plan r old new p w =
+      let c : Cut Item = h .there .stands .at-cut in
+      let st = stands bytes (h .there .stands) in
+      put-limited st room 65535 plan (dropped (c .hit) name count asItem) (λ d. true) _ r old new
+      (dropped-fits (sharedRest (c .hit) name asItem) count)
+      (on-found h (λ items. drop-next) ∙ bind-next (sharedRest (c .hit) name asItem) (λ rest. reduceTotal rest count) (λ body. accepted (putBack c body)))
+      (p .says ∙ ap (λ (i : Item). dropped i name count asItem) (sym (st .hit-is))) w

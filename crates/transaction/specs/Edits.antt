@@ -12,10 +12,7 @@ use Rattle.record_edit.specs.declared.Behind.{Behind}
 use Rattle.record_edit.specs.declared.RecordAt.{RecordAt}
 use Rattle.record_edit.specs.Records.{dataOf, editedSheet, heldRecord}
 
--- nothing changes behind it; an item goes; the last four bytes of an item are another count
-abbrev pub nothing : ℕ → Behind
-nothing size = record { from = size; to = size; new = replicate 4 0; size = 0 }
-
+-- an item goes; the last four bytes of an item are another count
 abbrev pub gone : ℕ → ℕ → Behind
 gone from to = record { from = from; to = to; new = replicate 4 0; size = 0 }
 

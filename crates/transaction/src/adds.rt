@@ -1,11 +1,10 @@
 // apply_keyed_add and apply_shared_add.
-use super::Spot;
-use super::stand;
 use backref::Plan;
 use format::Edited;
 use format::Key;
 use format::Keyed;
 use format::SharedRef;
+use record_edit::FoundRecord;
 ghost use mathlib.Core.Path.{_≡_};
 ghost use mathlib.Core.Bool.{_&&_};
 ghost use lib.ListN.{length};
@@ -77,19 +76,16 @@ pub fn apply_shared_add(
 ) -> Edited
     ensures { λ r. ⌜ Answered (heldSheet (length (now (out .entry))) (applySharedAddTo nodesize (now (sheet .entry)) bytenr name count «as_item»)) r (now (out .entry)) (now (out .exit)) ⌝ }
 {
-    let spot = stand::find(sheet, bytenr, shared_fits(nodesize, name.kind));
-    match spot {
-        Spot::Refused(number) => return Edited::Refused(number),
-        Spot::At {
-            number: _,
-            start,
-            end,
-            count: items,
-        } => {
-            let key = item_list::key_at(sheet, start);
-            let plan = plan_shared(key, &sheet[start + 21..end], name, count, as_item);
+    let found = record_edit::find_record(sheet, bytenr, shared_fits(nodesize, name.kind));
+    match found {
+        FoundRecord::Refused(number) => return Edited::Refused(number),
+        FoundRecord::Missing => return Edited::Refused(5),
+        FoundRecord::At { index: _, target } => {
+            let start = target.start;
+            let end = target.end;
+            let plan = plan_shared(target.key, &sheet[start + 21..end], name, count, as_item);
             let limit = limit_for(nodesize, end - (start + 21), false);
-            return stand::put_back(sheet, start, end, plan, limit, items, out);
+            return record_edit::put_record(sheet, target, plan, limit, out);
         }
     }
 }
@@ -132,22 +128,19 @@ pub fn apply_keyed_add(
 ) -> Edited
     ensures { λ r. ⌜ Answered (heldSheet (length (now (out .entry))) (applyKeyedAddTo nodesize (now (sheet .entry)) bytenr keyed count «as_item»)) r (now (out .entry)) (now (out .exit)) ⌝ }
 {
-    let spot = stand::find(sheet, bytenr, item_list::nodesize_fits(nodesize));
-    match spot {
-        Spot::Refused(number) => return Edited::Refused(number),
-        Spot::At {
-            number: _,
-            start,
-            end,
-            count: items,
-        } => {
+    let found = record_edit::find_record(sheet, bytenr, item_list::nodesize_fits(nodesize));
+    match found {
+        FoundRecord::Refused(number) => return Edited::Refused(number),
+        FoundRecord::Missing => return Edited::Refused(5),
+        FoundRecord::At { index: _, target } => {
             if is_unread(keyed, count, as_item) {
-                return item_list::remove_item(sheet, 0, 0, items, out);
+                return item_list::remove_item(sheet, 0, 0, target.item_count, out);
             }
-            let key = item_list::key_at(sheet, start);
-            let plan = plan_keyed(key, &sheet[start + 21..end], keyed, count, as_item);
+            let start = target.start;
+            let end = target.end;
+            let plan = plan_keyed(target.key, &sheet[start + 21..end], keyed, count, as_item);
             let limit = limit_for(nodesize, end - (start + 21), true);
-            return stand::put_back(sheet, start, end, plan, limit, items, out);
+            return record_edit::put_record(sheet, target, plan, limit, out);
         }
     }
 }

@@ -9,41 +9,8 @@ ghost use lib.ListN.{length};
 ghost use Rattle.fields.specs.Numbers.{leBytes};
 ghost use Rattle.format.specs.Questions.{Answered};
 ghost use Rattle.backref.specs.Plans.{PlanIn};
-ghost use Rattle.record_edit.specs.Records.{dataOf, BehindIn};
-ghost use Rattle.transaction.specs.Edits.{nothing, gone, counts, heldPlan};
-
-// No limit is asked: a planned body has at most 65,564 bytes.
-fn put(
-    sheet: &[u8],
-    target: RecordAt,
-    plan: Plan,
-    behind: Behind,
-    count: usize,
-    out: &mut [u8],
-) -> Edited
-    requires { ⌜ PlanIn plan (dataOf (now sheet) (target .start) (target .end)) ⌝ }
-    requires { ⌜ BehindIn behind (target .end) (now sheet) ⌝ }
-    requires { ⌜ (target .start + 21 ≤ target .end) × (length (now sheet) ≤ 262144) ⌝ }
-    ensures { λ r. ⌜ Answered (heldPlan (length (now (out .entry))) count (now (sheet .entry)) target plan behind) r (now (out .entry)) (now (out .exit)) ⌝ }
-{
-    record_edit::edit_record(sheet, target, plan, behind, 65564, count, out)
-}
-
-// The record alone changes.
-pub fn put_record(sheet: &[u8], target: RecordAt, plan: Plan, out: &mut [u8]) -> Edited
-    requires { ⌜ PlanIn plan (dataOf (now sheet) (target .start) (target .end)) ⌝ }
-    requires { ⌜ (target .start + 21 ≤ target .end) × (target .end ≤ length (now sheet)) × (length (now sheet) ≤ 262144) ⌝ }
-    ensures { λ r. ⌜ Answered (heldPlan (length (now (out .entry))) (target .«item_count») (now (sheet .entry)) target plan (nothing (length (now (sheet .entry))))) r (now (out .entry)) (now (out .exit)) ⌝ }
-{
-    let n = sheet.len();
-    let behind = Behind {
-        from: n,
-        to: n,
-        new: [0; 4],
-        size: 0,
-    };
-    put(sheet, target, plan, behind, target.item_count, out)
-}
+ghost use Rattle.record_edit.specs.Records.{dataOf};
+ghost use Rattle.transaction.specs.Edits.{gone, counts, heldPlan};
 
 fn one_less(items: usize) -> usize
     ensures { λ r. ⌜ r ≡ items - 1 ⌝ }
@@ -54,7 +21,7 @@ fn one_less(items: usize) -> usize
     items - 1
 }
 
-// With it goes the item that stands from `from` up to `to`.
+// The record changes, and with it goes the item that stands from `from` up to `to`.
 pub fn put_without(
     sheet: &[u8],
     target: RecordAt,
@@ -73,14 +40,8 @@ pub fn put_without(
         new: [0; 4],
         size: 0,
     };
-    put(
-        sheet,
-        target,
-        plan,
-        behind,
-        one_less(target.item_count),
-        out,
-    )
+    let count = one_less(target.item_count);
+    record_edit::edit_record(sheet, target, plan, behind, crate::NO_LIMIT, count, out)
 }
 
 // A number of four bytes.
@@ -92,7 +53,7 @@ fn count_bytes(count: u32) -> [u8; 4]
     new
 }
 
-// With it the item that ends at `to` gets another count in its last four bytes.
+// The record changes, and with it the item that ends at `to` gets another count in its last four bytes.
 pub fn put_count(
     sheet: &[u8],
     target: RecordAt,
@@ -111,5 +72,6 @@ pub fn put_count(
         new: count_bytes(count),
         size: 4,
     };
-    put(sheet, target, plan, behind, target.item_count, out)
+    let items = target.item_count;
+    record_edit::edit_record(sheet, target, plan, behind, crate::NO_LIMIT, items, out)
 }

@@ -14,7 +14,7 @@ ghost use Rattle.format.specs.Questions.{Answered};
 ghost use Rattle.format.specs.Items.{heldSheet};
 ghost use Rattle.format.specs.Apply.{dropTreeRef, dropKeptTreeRefFrom};
 ghost use Rattle.item_list.specs.Steps.{itemsOf};
-ghost use Rattle.transaction.specs.Stands.{StandsAt, onKey};
+ghost use Rattle.record_edit.specs.Stands.{StandsAt, onKey};
 ghost use Rattle.transaction.specs.Edits.{ownAt};
 
 // The own-flag set in the flags that stand at `at`.

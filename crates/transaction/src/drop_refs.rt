@@ -16,7 +16,7 @@ ghost use Rattle.format.specs.Items.{heldSheet};
 ghost use Rattle.item_list.specs.Steps.{itemsOf};
 ghost use Rattle.backref.specs.Plans.{Planned};
 ghost use Rattle.record_edit.specs.Records.{dataOf};
-ghost use Rattle.transaction.specs.Stands.{StandsAt, onKey};
+ghost use Rattle.record_edit.specs.Stands.{StandsAt, onKey};
 ghost use Rattle.transaction.specs.Edits.{heldAt};
 ghost use Rattle.transaction.specs.Drops.{dropRef, InForm, takenWhole, droppedInline, loweredTotal, itemDrop, CountFits};
 
@@ -76,7 +76,7 @@ fn drop_count(
     let rest = backref::plan_lower_total(&sheet[start + 21..end]);
     let total = rest.outcome;
     let Outcome::Edit = total else {
-        return crate::put_record(sheet, target, rest, out);
+        return record_edit::put_record(sheet, target, rest, crate::NO_LIMIT, out);
     };
     let item = backref::plan_drop_keyed(&sheet[from + 21..to], name);
     let outcome = item.outcome;
@@ -124,7 +124,7 @@ pub fn drop_ref(sheet: &[u8], target: RecordAt, name: Wanted, out: &mut [u8]) ->
     let plan = plan_inline(target.key.kind, &sheet[start + 21..end], name);
     let outcome = plan.outcome;
     let Outcome::Absent = outcome else {
-        return crate::put_record(sheet, target, plan, out);
+        return record_edit::put_record(sheet, target, plan, crate::NO_LIMIT, out);
     };
     let item = Key {
         objectid: target.key.objectid,

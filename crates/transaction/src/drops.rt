@@ -1,10 +1,9 @@
 // apply_shared_drop.
-use super::Spot;
-use super::stand;
 use backref::Plan;
 use format::Edited;
 use format::Key;
 use format::SharedRef;
+use record_edit::FoundRecord;
 ghost use lib.ListN.{length};
 ghost use Rattle.format.specs.Questions.{Answered, bind};
 ghost use Rattle.format.specs.Bodies.{reduceTotal};
@@ -35,19 +34,16 @@ pub fn apply_shared_drop(
 ) -> Edited
     ensures { λ r. ⌜ Answered (heldSheet (length (now (out .entry))) (applySharedDropTo (now (sheet .entry)) bytenr name count «as_item»)) r (now (out .entry)) (now (out .exit)) ⌝ }
 {
-    let spot = stand::find(sheet, bytenr, backref::shared_kind(name.kind));
-    match spot {
-        Spot::Refused(number) => return Edited::Refused(number),
-        Spot::At {
-            number: _,
-            start,
-            end,
-            count: items,
-        } => {
-            let key = item_list::key_at(sheet, start);
-            let plan = plan_drop_shared(key, &sheet[start + 21..end], name, count, as_item);
+    let found = record_edit::find_record(sheet, bytenr, backref::shared_kind(name.kind));
+    match found {
+        FoundRecord::Refused(number) => return Edited::Refused(number),
+        FoundRecord::Missing => return Edited::Refused(5),
+        FoundRecord::At { index: _, target } => {
+            let start = target.start;
+            let end = target.end;
+            let plan = plan_drop_shared(target.key, &sheet[start + 21..end], name, count, as_item);
             // Question 17 is not asked: no body is longer than this limit.
-            return stand::put_back(sheet, start, end, plan, 65535, items, out);
+            return record_edit::put_record(sheet, target, plan, 65535, out);
         }
     }
 }

@@ -11,8 +11,11 @@ mod held_sums;
 mod held_tests;
 mod keyed_names;
 mod limit;
+mod record_index;
 mod shared_adds;
-mod stand;
+
+// Question 17 is not asked: a planned body has at most 65,564 bytes.
+const NO_LIMIT: usize = 65564;
 
 pub use adds::apply_keyed_add;
 pub use adds::apply_shared_add;
@@ -22,7 +25,6 @@ pub use adds::limit_for;
 pub use adds::plan_keyed;
 pub use adds::plan_shared;
 pub use drop_edits::put_count;
-pub use drop_edits::put_record;
 pub use drop_edits::put_without;
 pub use drop_kept::drop_kept_tree_ref;
 pub use drop_refs::drop_ref;
@@ -30,20 +32,7 @@ pub use drops::apply_shared_drop;
 pub use held::held_only_by;
 pub use keyed_names::keyed_data_ref_names;
 pub use limit::max_inline_extent_item;
+pub use record_index::record_of;
 pub use shared_adds::shared_add_inline_size;
 pub use shared_adds::shared_add_item;
 pub use shared_adds::shared_add_key;
-pub use stand::find;
-pub use stand::put_back;
-pub use stand::record_of;
-
-// Where an extent's record stands and how many items there are; or the refusal.
-pub enum Spot {
-    At {
-        number: usize,
-        start: usize,
-        end: usize,
-        count: usize,
-    },
-    Refused(u32),
-}

@@ -7,6 +7,10 @@ use Rattle.inline_refs.specs.Scans.{kindOf}
 use Rattle.item_list.specs.Steps.{itemsOf}
 use Rattle.ledger.specs.Adding.{addChange}
 use Rattle.ledger.proofs.Postings.{drop-block, drop-data, drop-shared, as-drop, as-change, entered-as, fits-as, not-block}
+use Rattle.inline_refs.specs.declared.wanted.Wanted.the-variants.{Block, Data}
+use Rattle.theorems.proofs.Edit.{balanced-out}
+use Rattle.transaction.specs.Drops.{dropRef}
+use Rattle.ledger.proofs.Dropping.{in-form, drop-answered}
 use borrow.Author.Needs.{needs}
 use Rattle.ledger.proofs.posting.change_at.Statement.{statement}
 use Rattle.ledger.proofs.posting.change_at.Tie as tie
@@ -15,7 +19,7 @@ add-requires : tie.Need-add-requires
 unfolding kindOf
 add-requires c κs =
     let s = c .before .before .before .before .before .before in
-    (s .pre .0, (entered-as (s .args .change) (c .before .before .change .given .1) (s .pre .1 .0), λ h. refl))
+    (entered-as (s .args .change) (c .before .before .change .given .1) (s .pre .0), (s .pre .1 .0, λ h. refl))
 
 returns : tie.Need-returns
 unfolding addChange
@@ -27,7 +31,7 @@ add-requires-2 : tie.Need-add-requires-2
 unfolding kindOf
 add-requires-2 c κs =
     let s = c .before .before .before .before .before .before in
-    (s .pre .0, (entered-as (s .args .change) (c .before .before .change2 .given .1) (s .pre .1 .0), λ h. absurd (let z : _≡_ {A = ℕ} 178 176 = h in omega arith)))
+    (entered-as (s .args .change) (c .before .before .change2 .given .1) (s .pre .0), (s .pre .1 .0, λ h. absurd (let z : _≡_ {A = ℕ} 178 176 = h in omega arith)))
 
 returns-2 : tie.Need-returns-2
 unfolding addChange
@@ -42,7 +46,7 @@ add-requires-3 : tie.Need-add-requires-3
 add-requires-3 c κs =
     let s = c .before .before .before .before .before .before .before in
     let e = c .before .before .before .change3 .given .1 in
-    (s .pre .0, (entered-as (s .args .change) e (s .pre .1 .0), not-block _ _ (c .before .shared-wanted .ensures) (fits-as (s .args .change) e (s .pre .1 .1))))
+    (entered-as (s .args .change) e (s .pre .0), (s .pre .1 .0, not-block _ _ (c .before .shared-wanted .ensures) (fits-as (s .args .change) e (s .pre .1 .1))))
 
 returns-3 : tie.Need-returns-3
 returns-3 c =
@@ -51,31 +55,44 @@ returns-3 c =
     (c .before .before .before .before .before .before .change3 .given .1 ∙ c .before .before .before .before .shared-wanted .ensures .change _ _) (c .before .before .add3 .ensures)
 
 drop-ref-requires : tie.Need-drop-ref-requires
-drop-ref-requires c κs = let s = c .before .before .before .before .before .before in (s .pre .0, entered-as (s .args .change) (c .before .before .change4 .given .1) (s .pre .1 .0))
+drop-ref-requires c κs =
+    let s = c .before .before .before .before .before .before in
+    (entered-as (s .args .change) (c .before .before .change4 .given .1) (s .pre .0) .stands, tt)
 
 returns-4 : tie.Need-returns-4
 returns-4 c =
-    let a = c .before .before .before .before .before .before .before .before .before .args in
-    as-drop (a .nodesize) (length (now (a .out))) (itemsOf (now (a .sheet))) (a .change) _ _ (c .before .before .before .before .before .change4 .given .1) (drop-block (a .nodesize) _ (itemsOf (now (a .sheet))) _) (c .before .before .drop-ref .ensures)
+    let s = c .before .before .before .before .before .before .before .before .before in
+    let a = s .args in
+    as-drop (a .nodesize) (length (now (a .out))) (itemsOf (now (a .sheet))) (a .change) _ _ (c .before .before .before .before .before .change4 .given .1) (drop-block (a .nodesize) _ (itemsOf (now (a .sheet))) _)
+    (drop-answered (entered-as (a .change) (c .before .before .before .before .before .change4 .given .1) (s .pre .0)) (dropRef (Block _) (itemsOf (now (a .sheet)))) (length (now (a .out))) _ (now (a .out)) _ (c .before .before .drop-ref .ensures))
 
 drop-ref-requires-2 : tie.Need-drop-ref-requires-2
-drop-ref-requires-2 c κs = let s = c .before .before .before .before .before .before in (s .pre .0, entered-as (s .args .change) (c .before .before .change5 .given .1) (s .pre .1 .0))
+drop-ref-requires-2 c κs =
+    let s = c .before .before .before .before .before .before in
+    (entered-as (s .args .change) (c .before .before .change5 .given .1) (s .pre .0) .stands, tt)
 
 returns-5 : tie.Need-returns-5
 returns-5 c =
-    let a = c .before .before .before .before .before .before .before .before .before .args in
-    as-drop (a .nodesize) (length (now (a .out))) (itemsOf (now (a .sheet))) (a .change) _ _ (c .before .before .before .before .before .change5 .given .1) (drop-data (a .nodesize) _ (itemsOf (now (a .sheet))) _) (c .before .before .drop-ref2 .ensures)
+    let s = c .before .before .before .before .before .before .before .before .before in
+    let a = s .args in
+    as-drop (a .nodesize) (length (now (a .out))) (itemsOf (now (a .sheet))) (a .change) _ _ (c .before .before .before .before .before .change5 .given .1) (drop-data (a .nodesize) _ (itemsOf (now (a .sheet))) _)
+    (drop-answered (entered-as (a .change) (c .before .before .before .before .before .change5 .given .1) (s .pre .0)) (dropRef (Data _) (itemsOf (now (a .sheet)))) (length (now (a .out))) _ (now (a .out)) _ (c .before .before .drop-ref2 .ensures))
 
 shared-wanted-requires-2 : tie.Need-shared-wanted-requires-2
 shared-wanted-requires-2 c κs = fits-as (c .before .before .before .before .before .args .change) (c .before .change6 .given .1) (c .before .before .before .before .before .pre .1 .1)
 
 drop-ref-requires-3 : tie.Need-drop-ref-requires-3
-drop-ref-requires-3 c κs = let s = c .before .before .before .before .before .before .before in (s .pre .0, entered-as (s .args .change) (c .before .before .before .change6 .given .1) (s .pre .1 .0))
+drop-ref-requires-3 c κs =
+    let s = c .before .before .before .before .before .before .before in
+    (entered-as (s .args .change) (c .before .before .before .change6 .given .1) (s .pre .0) .stands, in-form (c .before .shared-wanted2 .result) _ (balanced-out _ (s .pre .1 .0) .goods))
 
 returns-6 : tie.Need-returns-6
 returns-6 c =
-    let a = c .before .before .before .before .before .before .before .before .before .before .args in
-    as-drop (a .nodesize) (length (now (a .out))) (itemsOf (now (a .sheet))) (a .change) _ _ (c .before .before .before .before .before .before .change6 .given .1) (drop-shared (a .nodesize) _ (itemsOf (now (a .sheet))) _ _ (c .before .before .before .before .shared-wanted2 .ensures)) (c .before .before .drop-ref3 .ensures)
+    let s = c .before .before .before .before .before .before .before .before .before .before in
+    let a = s .args in
+    let w = c .before .before .before .before .shared-wanted2 .result in
+    as-drop (a .nodesize) (length (now (a .out))) (itemsOf (now (a .sheet))) (a .change) _ _ (c .before .before .before .before .before .before .change6 .given .1) (drop-shared (a .nodesize) _ (itemsOf (now (a .sheet))) _ w (c .before .before .before .before .shared-wanted2 .ensures))
+    (drop-answered (entered-as (a .change) (c .before .before .before .before .before .before .change6 .given .1) (s .pre .0)) (dropRef w (itemsOf (now (a .sheet)))) (length (now (a .out))) _ (now (a .out)) _ (c .before .before .drop-ref3 .ensures))
 
 pub change-at-spec : {M : Type 1} → statement M
 change-at-spec =

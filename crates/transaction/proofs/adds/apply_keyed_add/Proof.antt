@@ -1,13 +1,15 @@
-use mathlib.Core.Path.{sym, ap, _∙_}
-use mathlib.Core.Bool.{Bool}
+use mathlib.Core.Path.{sym, _∙_}
 use native.Mathlib.Omega.{arith}
 use lib.ListN.{length}
 use denote.Ref.{now}
+use lib.Dec.{T}
+use Rattle.fields.specs.Numbers.{areBytes}
 use Rattle.fields.proofs.Numbers.{areBytes-in}
-use Rattle.format.specs.Items.{readSheet, nodesizeFits}
-use Rattle.transaction.specs.Spots.{spotOf}
-use Rattle.transaction.proofs.Spots.{Standing, spot-stands}
-use Rattle.transaction.proofs.KeyedAdditions.{keyed-add-refused, keyed-add-kept, keyed-add-answered}
+use Rattle.format.specs.Items.{nodesizeFits}
+use Rattle.record_edit.specs.Stands.{RecordFound}
+use Rattle.record_edit.proofs.Stands.{Stands, stands}
+use Rattle.record_edit.proofs.Searches.{finds-as}
+use Rattle.transaction.proofs.KeyedAdditions.{keyed-add-refused, keyed-add-missing, keyed-add-kept, keyed-add-answered}
 use borrow.Author.Needs.{needs}
 use Rattle.transaction.proofs.adds.apply_keyed_add.Statement.{statement}
 use Rattle.transaction.proofs.adds.apply_keyed_add.Tie as tie
@@ -15,61 +17,62 @@ use Rattle.transaction.proofs.adds.apply_keyed_add.Tie as tie
 returns : tie.Need-returns
 returns c =
     let a = c .before .before .before .before .before .before .before .args in
-    let e = ap (λ (f : Bool). spotOf (a .bytenr) f (readSheet (now (a .sheet)))) (c .before .before .before .before .nodesize-fits .ensures) in
-    keyed-add-refused (a .nodesize) (now (a .sheet)) (a .bytenr) (a .keyed) (a .count) (a .as-item) _ _ (now (a .out))
-    (sym e ∙ sym (c .before .before .before .find .ensures) ∙ c .before .spot .given .1)
-
--- the record was found
-found : (c : tie.After-known-told2) → Standing (now (c .before .before .before .before .before .before .before .args .sheet)) (c .before .before .before .before .before .before .before .args .bytenr) (nodesizeFits (c .before .before .before .before .before .before .before .args .nodesize)) (c .before .spot2 .given .0 .0) (c .before .spot2 .given .0 .1 .0) (c .before .spot2 .given .0 .1 .1 .0) (c .before .spot2 .given .0 .1 .1 .1 .0)
-found c =
-    let a = c .before .before .before .before .before .before .before .args in
-    let e = ap (λ (f : Bool). spotOf (a .bytenr) f (readSheet (now (a .sheet)))) (c .before .before .before .before .nodesize-fits .ensures) in
-    spot-stands _ _ (areBytes-in (now (a .sheet)) (λ i. c .before .before .before .before .before .before .shared-slice-known .given i .fits)) _ _ _ _ _
-    (sym e ∙ sym (c .before .before .before .find .ensures) ∙ c .before .spot2 .given .1)
-
-remove-item-requires : tie.Need-remove-item-requires
-remove-item-requires c κs = let d = found (c .before .before .before) in (omega arith, omega arith, d .small)
+    keyed-add-refused (a .nodesize) (length (now (a .out))) (a .keyed) (a .count) (a .as-item) (now (a .sheet)) (a .bytenr) _ (now (a .out))
+    (finds-as (now (a .sheet)) (a .bytenr) (c .before .before .before .before .nodesize-fits .ensures) (c .before .found .given .1) (c .before .before .before .find-record .ensures))
 
 returns-2 : tie.Need-returns-2
 returns-2 c =
-    let a = c .before .before .before .before .before .before .before .before .before .before .before .before .before .args in
-    keyed-add-kept (a .nodesize) (found (c .before .before .before .before .before .before)) (length (now (a .out))) (a .keyed) (a .count) (a .as-item) _ (now (a .out)) _
-    (sym (c .before .before .before .before .before .is-unread .ensures) ∙ c .before .before .before .before .if1 .taken) (c .before .before .remove-item .ensures)
+    let a = c .before .before .before .before .before .before .args in
+    keyed-add-missing (a .nodesize) (length (now (a .out))) (a .keyed) (a .count) (a .as-item)
+    (finds-as (now (a .sheet)) (a .bytenr) (c .before .before .before .nodesize-fits .ensures) (c .enum-told .given .1) (c .before .before .find-record .ensures)) (now (a .out))
 
-key-at-requires : tie.Need-key-at-requires
-key-at-requires c κs = let d = found (c .before .before) in let p = d .ordered in let q = d .within in omega arith
+-- the record was found
+found : (c : tie.After-known-told2) → RecordFound (now (c .before .before .before .before .before .before .before .args .sheet)) (c .before .before .before .before .before .before .before .args .bytenr) (nodesizeFits (c .before .before .before .before .before .before .before .args .nodesize)) (c .before .found2 .given .0 .0) (c .before .found2 .given .0 .1 .0)
+found c = finds-as (now (c .before .before .before .before .before .before .before .args .sheet)) (c .before .before .before .before .before .before .before .args .bytenr) (c .before .before .before .before .nodesize-fits .ensures) (c .before .found2 .given .1) (c .before .before .before .find-record .ensures)
 
-add-plan-keyed : tie.Need-add-plan-keyed
-add-plan-keyed c = let d = found (c .before .before .before) in let p = d .ordered in let q = d .within in omega arith
+bytes : (c : tie.After-known-told2) → T (areBytes (now (c .before .before .before .before .before .before .before .args .sheet)))
+bytes c = areBytes-in (now (c .before .before .before .before .before .before .before .args .sheet)) (λ i. c .before .before .before .before .before .before .shared-slice-known .given i .fits)
 
-sub-plan-keyed : tie.Need-sub-plan-keyed
-sub-plan-keyed c = let d = found (c .before .before .before) in let p = d .ordered in let q = d .within in omega arith
+stood : (c : tie.After-known-told2) → Stands (now (c .before .before .before .before .before .before .before .args .sheet)) (found c .there .stands .at-cut) (c .before .found2 .given .0 .1 .0)
+stood c = stands (bytes c) (found c .there .stands)
 
-part-plan-keyed-start : tie.Need-part-plan-keyed-start
-part-plan-keyed-start c = let d = found (c .before .before .before) in let p = d .ordered in let q = d .within in omega arith
-
-part-plan-keyed-end : tie.Need-part-plan-keyed-end
-part-plan-keyed-end c = let d = found (c .before .before .before) in let p = d .ordered in let q = d .within in omega arith
-
-add-limit-for : tie.Need-add-limit-for
-add-limit-for c = let d = found (c .before .before .before .before .before) in let p = d .ordered in let q = d .within in omega arith
-
-sub-limit-for : tie.Need-sub-limit-for
-sub-limit-for c = let d = found (c .before .before .before .before .before) in let p = d .ordered in omega arith
-
-put-back-requires : tie.Need-put-back-requires
-put-back-requires c κs =
-    let d = found (c .before .before .before .before .before .before .before) in
-    (c .before .before .plan-keyed .ensures .inside, (d .ordered, d .within, d .small))
+remove-item-requires : tie.Need-remove-item-requires
+remove-item-requires c κs = let d = stood (c .before .before .before) in (omega arith, omega arith, d .small)
 
 returns-3 : tie.Need-returns-3
 returns-3 c =
-    let a = c .before .before .before .before .before .before .before .before .before .before .before .before .before .before .before .before .before .args in
-    keyed-add-answered (a .nodesize) (found (c .before .before .before .before .before .before .before .before .before .before)) (length (now (a .out))) (a .keyed) (a .count) (a .as-item) _ _ _ _ (now (a .out)) _
-    (sym (c .before .before .before .before .before .before .before .before .before .is-unread .ensures) ∙ c .before .before .before .before .before .before .before .before .if1 .left) (c .before .before .before .before .before .before .before .key-at .ensures) (c .before .before .before .before .limit-for .ensures)
-    (c .before .before .before .before .before .plan-keyed .ensures) (c .before .before .put-back .ensures)
+    let a = c .before .before .before .before .before .before .before .before .before .before .before .before .before .args in
+    keyed-add-kept (a .nodesize) (length (now (a .out))) (a .keyed) (a .count) (a .as-item) (bytes (c .before .before .before .before .before .before)) (found (c .before .before .before .before .before .before)) _ (now (a .out)) _
+    (sym (c .before .before .before .before .before .is-unread .ensures) ∙ c .before .before .before .before .if1 .taken) (c .before .before .remove-item .ensures)
+
+add-plan-keyed : tie.Need-add-plan-keyed
+add-plan-keyed c = let d = stood (c .before .before) in let p = d .ordered in let q = d .within in let m = d .small in omega arith
+
+sub-plan-keyed : tie.Need-sub-plan-keyed
+sub-plan-keyed c = let d = stood (c .before .before) in let p = d .ordered in let q = d .within in let m = d .small in omega arith
+
+part-plan-keyed-start : tie.Need-part-plan-keyed-start
+part-plan-keyed-start c = let d = stood (c .before .before) in let p = d .ordered in let q = d .within in omega arith
+
+part-plan-keyed-end : tie.Need-part-plan-keyed-end
+part-plan-keyed-end c = let d = stood (c .before .before) in d .within
+
+add-limit-for : tie.Need-add-limit-for
+add-limit-for c = let d = stood (c .before .before .before .before) in let p = d .ordered in let q = d .within in let m = d .small in omega arith
+
+sub-limit-for : tie.Need-sub-limit-for
+sub-limit-for c = let d = stood (c .before .before .before .before) in let p = d .ordered in let q = d .within in let m = d .small in omega arith
+
+put-record-requires : tie.Need-put-record-requires
+put-record-requires c κs = let d = stood (c .before .before .before .before .before .before) in (c .before .before .plan-keyed .ensures .inside, (d .ordered, d .within, d .small))
+
+returns-4 : tie.Need-returns-4
+returns-4 c =
+    let a = c .before .before .before .before .before .before .before .before .before .before .before .before .before .before .before .before .args in
+    keyed-add-answered (a .nodesize) (length (now (a .out))) (a .keyed) (a .count) (a .as-item) (bytes (c .before .before .before .before .before .before .before .before .before)) (found (c .before .before .before .before .before .before .before .before .before)) _ _ _ (now (a .out)) _
+    (sym (c .before .before .before .before .before .before .before .before .is-unread .ensures) ∙ c .before .before .before .before .before .before .before .if1 .left) (c .before .before .before .before .limit-for .ensures) (c .before .before .before .before .before .plan-keyed .ensures) (c .before .before .put-record .ensures)
 
 pub apply-keyed-add-spec : {M : Type 1} → statement M
 apply-keyed-add-spec =
     tie.close
-    (tie.spec (λ c κs. search needs) (λ c κs. search needs) (λ c. search needs) returns (λ c. search needs) (λ c κs. search needs) remove-item-requires (λ c. search needs) returns-2 key-at-requires add-plan-keyed sub-plan-keyed part-plan-keyed-start part-plan-keyed-end (λ c κs. search needs) add-limit-for sub-limit-for (λ c κs. search needs) put-back-requires (λ c. search needs) returns-3)
+    (tie.spec (λ c κs. search needs) (λ c κs. search needs) (λ c. search needs) returns (λ c. search needs) returns-2 (λ c. search needs) (λ c κs. search needs) remove-item-requires (λ c. search needs) returns-3 add-plan-keyed sub-plan-keyed part-plan-keyed-start part-plan-keyed-end (λ c κs. search needs) add-limit-for sub-limit-for (λ c κs. search needs) put-record-requires (λ c. search needs) returns-4)

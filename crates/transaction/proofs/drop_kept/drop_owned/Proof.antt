@@ -2,7 +2,7 @@ use native.Mathlib.Omega.{arith}
 use denote.Ref.{now}
 use lib.ListN.{length}
 use Rattle.fields.proofs.Numbers.{areBytes-in}
-use Rattle.transaction.proofs.Stands.{stands}
+use Rattle.record_edit.proofs.Stands.{stands}
 use Rattle.transaction.proofs.Owned.{own-fits, own-written, own-absent, own-remove, own-refused}
 use Rattle.transaction.proofs.OwnDrops.{key-owned}
 use borrow.Author.Needs.{needs}

@@ -5,7 +5,7 @@ use lib.ListN.{length}
 use Rattle.fields.proofs.Numbers.{areBytes-in}
 use Rattle.item_list.specs.Steps.{itemsOf}
 use Rattle.transaction.specs.Drops.{dropRef}
-use Rattle.transaction.proofs.Stands.{Stands, stands, key-answered}
+use Rattle.record_edit.proofs.Stands.{Stands, stands, key-answered}
 use Rattle.transaction.proofs.Behind.{listed-behind, place-behind}
 use Rattle.transaction.proofs.Turns.{other-outcome}
 use Rattle.transaction.proofs.RefDrops.{drop-inline, drop-none, drop-item, count-fits}
