@@ -13,9 +13,9 @@ use Rattle.fields.specs.Numbers.{le, areBytes}
 use Rattle.fields.specs.Parts.{part}
 use Rattle.fields.proofs.Lists.{lt-or}
 use Rattle.format.specs.Questions.{Answer, refused, accepted, ask, bind}
-use Rattle.format.specs.References.{payloadLength, counted, Ref, refBytes, totalOf, startOf, Body, bodyWith, readBody, bodyBytes}
+use Rattle.format.specs.References.{payloadLength, counted, Ref, refBytes, startOf, Body, bodyWith, readBody, bodyBytes}
 use Rattle.format.specs.Bodies.{weighed, raisedBy, Spot, gap, standing, spotAnywhere, isGap, standingWeight, addedAt, addAt, keyedAt}
-use Rattle.format.proofs.Bodies.{on-body, read-total}
+use Rattle.format.proofs.Bodies.{on-body}
 use Rattle.format.proofs.Splices.{refsBytes-one}
 use Rattle.inline_refs.specs.declared.wanted.Wanted.{Wanted}
 use Rattle.inline_refs.specs.declared.scan.Seen.{Seen}
@@ -34,7 +34,7 @@ use Rattle.backref.specs.Adds.{newRef, ownPlace, spotOf, siteOf, Raised,
 use Rattle.backref.proofs.NewBytes.{Holds, wanted-small}
 use Rattle.backref.proofs.Outcomes.{plan-refused}
 use Rattle.backref.proofs.PlannedTotals.{raised-yes, raised-no}
-use Rattle.backref.proofs.Sites.{ReadIn, scan-faults, ends, placed, planOf, site-plan, wanted-is}
+use Rattle.backref.proofs.Sites.{ReadIn, total-read, scan-faults, ends, placed, planOf, site-plan, wanted-is}
 
 or-true : (b : Bool) → b || true ≡ true
 or-true true = refl
@@ -152,7 +152,7 @@ module _ (type : ℕ) (d : List ℕ) (w : Wanted) (place amount : ℕ) (byScan :
       give-full k o =
           plan-refused plan d given 12 o
           (given-is ∙ add-gap (startOf type d) (r .from .refs) w amount (r .from) p spot (view-of (NewAt p) i) h small (refused 12)
-          (ap (raisedBy amount) (sym (read-total type d (r .from) (r .read))) ∙ raised-no d t is amount k))
+          (ap (raisedBy amount) (total-read type d r t is) ∙ raised-no t amount k))
 
       give-new : (size : ℕ) (new : List ℕ) → t ≤ 18446744073709551615 - amount → size ≡ 1 + payloadLength (kindOf w) → Holds w amount new
           → plan ≡ planOf p p new size (t + amount) 0 → Planned plan d given
@@ -160,7 +160,7 @@ module _ (type : ℕ) (d : List ℕ) (w : Wanted) (place amount : ℕ) (byScan :
       give-new size new k s n o =
           put-new type d w amount plan (r .from) (r .fits) (r .read) bytes (t + amount) size new s given p spot (view-of (NewAt p) i) n o
           (given-is ∙ add-gap (startOf type d) (r .from .refs) w amount (r .from) p spot (view-of (NewAt p) i) h small (accepted (t + amount))
-          (ap (raisedBy amount) (sym (read-total type d (r .from) (r .read))) ∙ raised-yes d t is amount k (omega arith)))
+          (ap (raisedBy amount) (total-read type d r t is) ∙ raised-yes t amount k (omega arith)))
 
       pub give-gap : Raised p p w amount t amount plan → Planned plan d given
       give-gap u = go (lt-or (18446744073709551615 - amount) t)
@@ -185,7 +185,7 @@ module _ (type : ℕ) (d : List ℕ) (w : Wanted) (place amount : ℕ) (byScan :
         give-full-more k o =
             plan-refused plan d given 12 o
             (given-is ∙ add-standing (startOf type d) (r .from .refs) w amount (r .from) p q x spot (view-of (Standing p q x) i) h l small (refused 12)
-            (ap (raisedBy amount) (sym (read-total type d (r .from) (r .read))) ∙ raised-no d t is amount k))
+            (ap (raisedBy amount) (total-read type d r t is) ∙ raised-no t amount k))
 
         give-more : (size : ℕ) (new : List ℕ) → t ≤ 18446744073709551615 - amount → size ≡ 1 + payloadLength (kindOf w) → Holds w (x + amount) new
             → plan ≡ planOf p q new size (t + amount) 0 → Planned plan d given
@@ -193,7 +193,7 @@ module _ (type : ℕ) (d : List ℕ) (w : Wanted) (place amount : ℕ) (byScan :
         give-more size new k s n o =
             put-more type d w amount plan (r .from) (r .fits) (r .read) bytes (t + amount) size new s given p q x spot (view-of (Standing p q x) i) n o
             (given-is ∙ add-standing (startOf type d) (r .from .refs) w amount (r .from) p q x spot (view-of (Standing p q x) i) h l small (accepted (t + amount))
-            (ap (raisedBy amount) (sym (read-total type d (r .from) (r .read))) ∙ raised-yes d t is amount k (omega arith)))
+            (ap (raisedBy amount) (total-read type d r t is) ∙ raised-yes t amount k (omega arith)))
 
         pub give-standing : Raised p q w (x + amount) t amount plan → Planned plan d given
         give-standing u = go (lt-or (18446744073709551615 - amount) t)
@@ -268,11 +268,6 @@ module _ (type : ℕ) (d : List ℕ) (w : Wanted) (place amount : ℕ) (plan : P
   key-view : (i : Site) → i ≡ siteAnywhere (length d) seen → keySited i keySpot
   key-view i e = any-spot type d w place seen i bytes r e
 
-  -- a total that stays
-  kept : (t : ℕ) → t ≡ le (part 0 8 d) → r .from .total ≡ t
-  unfolding totalOf
-  kept t e = sym (read-total type d (r .from) (r .read)) ∙ sym e
-
   done : Spot → Answer (List ℕ)
   done spot = accepted (bodyBytes (bodyWith (r .from) (r .from .total) (addedAt (newRef w amount) spot)))
 
@@ -311,7 +306,7 @@ module _ (type : ℕ) (d : List ℕ) (w : Wanted) (place amount : ℕ) (plan : P
 
   done-at : (t : ℕ) → t ≡ le (part 0 8 d) → (spot : Spot) → done spot ≡ accepted (bodyBytes (bodyWith (r .from) t (addedAt (newRef w amount) spot)))
   unfolding done
-  done-at t e spot = ap (λ (n : ℕ). accepted (bodyBytes (bodyWith (r .from) n (addedAt (newRef w amount) spot)))) (kept t e)
+  done-at t e spot = ap (λ (n : ℕ). accepted (bodyBytes (bodyWith (r .from) n (addedAt (newRef w amount) spot)))) (total-read type d r t e)
 
   module _ (p : ℕ) (i : NewAt p ≡ siteAnywhere (length d) seen) (kin : Bool) (k : kin ≡ kinIn seen) where
     kin-here : kin ≡ anyKin w place (r .from .refs)

@@ -11,15 +11,19 @@ use borrow.Author.Tests.{le-leb, lt-leb, leb-true}
 use Rattle.fields.specs.Numbers.{le, leBytes, areBytes}
 use Rattle.fields.specs.Parts.{part, written, spliced}
 use Rattle.fields.proofs.Numbers.{length-leBytes}
+use Rattle.format.specs.declared.Told.{Told}
 use Rattle.format.specs.declared.Told.the-variants.{Value, Refused as Untold}
 use Rattle.format.specs.Questions.{Answer, refused, accepted, ask, bind, toldOf}
 use Rattle.format.specs.References.{totalOf, flagsOf}
-use Rattle.format.specs.Bodies.{bodyFits, onHead, onTotal, flags, withFlags}
+use Rattle.format.specs.Bodies.{bodyFits, onHead, onTotal, raiseTotal, lowerTotal, reduceTotal, flags, withFlags}
 use Rattle.backref.specs.declared.plan.Outcome.the-variants.{Edit, Refused}
 use Rattle.backref.specs.declared.plan.Plan.{Plan}
 use Rattle.backref.specs.Plans.{edited, Planned}
 use Rattle.backref.specs.Heads.{headOf}
-use Rattle.backref.proofs.Outcomes.{plan-edit, plan-refused}
+use Rattle.backref.specs.declared.total_plans.TotalChange.{TotalChange}
+use Rattle.backref.specs.declared.total_plans.TotalChange.the-variants.{Raise, LowerByOne, Reduce}
+use Rattle.backref.specs.Totals.{changeTotal, totalBy, answerOf}
+use Rattle.backref.proofs.Outcomes.{plan-edit, plan-refused, plan-same}
 use Rattle.backref.proofs.PlannedTotals.{rewritten, word-front}
 
 -- ---- questions 3 and 6
@@ -80,24 +84,41 @@ total-only t body =
 abbrev pub totalPlan : ℕ → Plan
 totalPlan t = record { outcome = Edit; from = 8; to = 8; new = replicate 32 0; size = 0; total = t; count = 0 }
 
+change-is : (body : List ℕ) (change : TotalChange) → onTotal body (totalBy change) ≡ changeTotal body change
+unfolding raiseTotal lowerTotal reduceTotal
+change-is body (Raise amount) = refl
+change-is body LowerByOne = refl
+change-is body (Reduce amount) = refl
+
 module _ (body : List ℕ) (n : ℕ) (q : n ≡ headOf body) (p : Plan) where
-  pub total-plan : (t : ℕ) (next : ℕ → Answer ℕ) → n ≡ 0 → p ≡ totalPlan t → next (totalOf body) ≡ accepted t → Planned p body (onTotal body next)
-  unfolding onTotal edited bind
-  total-plan t next z e h =
-      subst (λ (x : Plan). Planned x body (onTotal body next)) (sym e)
-      (plan-edit (totalPlan t) body (onTotal body next) (written 0 (leBytes 8 t) body) refl
-      (record { low = omega arith; order = omega arith; high = omega (arith, head body n q .long z); fits = head body n q .fits z; small = omega arith; full = refl })
-      (head body n q .passes _ z ∙ ap (λ (x : Answer ℕ). bind x (λ total. accepted (written 0 (leBytes 8 total) body))) h)
-      (total-only t body))
-
-  pub total-refused : (m : ℕ) (next : ℕ → Answer ℕ) → n ≡ 0 → p .outcome ≡ Refused m → next (totalOf body) ≡ refused m → Planned p body (onTotal body next)
-  unfolding onTotal bind
-  total-refused m next z e h =
-      plan-refused p body (onTotal body next) m e
-      (head body n q .passes _ z ∙ ap (λ (x : Answer ℕ). bind x (λ total. accepted (written 0 (leBytes 8 total) body))) h)
-
   pub head-refused : (next : Answer (List ℕ)) → (n ≡ 0 → ⊥) → p .outcome ≡ Refused n → Planned p body (onHead body next)
   head-refused next z e = plan-refused p body (onHead body next) n e (head body n q .refuses next z)
+
+  module _ (change : TotalChange) where
+    pub total-head : (n ≡ 0 → ⊥) → p .outcome ≡ Refused n → Planned p body (changeTotal body change)
+    unfolding onTotal
+    total-head z e = plan-same p body _ _ (change-is body change) (head-refused _ z e)
+
+    -- behind questions 3 and 6, where the total with the change is told
+    module _ (z : n ≡ 0) (t : ℕ) (is : t ≡ le (part 0 8 body)) (told : Told) (says : answerOf told ≡ totalBy change t) where
+      becomes : (a : Answer ℕ) → answerOf told ≡ a → onTotal body (totalBy change) ≡ bind a (λ total. accepted (written 0 (leBytes 8 total) body))
+      unfolding onTotal totalOf
+      becomes a e =
+          head body n q .passes _ z
+          ∙ ap (λ (x : Answer ℕ). bind x (λ total. accepted (written 0 (leBytes 8 total) body))) (ap (totalBy change) (sym is) ∙ sym says ∙ e)
+
+      pub total-refused : (m : ℕ) → told ≡ Untold m → p .outcome ≡ Refused m → Planned p body (changeTotal body change)
+      unfolding bind
+      total-refused m e o = plan-same p body _ _ (change-is body change) (plan-refused p body _ m o (becomes (refused m) (ap answerOf e)))
+
+      pub total-plan : (new : ℕ) → told ≡ Value new → p ≡ totalPlan new → Planned p body (changeTotal body change)
+      unfolding edited bind
+      total-plan new e o =
+          subst (λ (x : Plan). Planned x body (changeTotal body change)) (sym o)
+          (plan-same (totalPlan new) body _ _ (change-is body change)
+          (plan-edit (totalPlan new) body _ (written 0 (leBytes 8 new) body) refl
+          (record { low = omega arith; order = omega arith; high = omega (arith, head body n q .long z); fits = head body n q .fits z; small = omega arith; full = refl })
+          (becomes (accepted new) (ap answerOf e)) (total-only new body)))
 
 -- ---- flags
 

@@ -11,41 +11,45 @@ use Rattle.fields.specs.Numbers.{le, leBytes, areBytes}
 use Rattle.fields.specs.Parts.{part, written, spliced}
 use Rattle.fields.proofs.Numbers.{areBytes-take, leBytes-le-at, length-leBytes}
 use Rattle.fields.proofs.Parts.{length-written, written-front, spliced-written}
-use Rattle.format.specs.Questions.{refused, accepted, ask}
-use Rattle.format.specs.References.{totalOf}
+use Rattle.format.specs.Questions.{Answer, refused, accepted, ask}
 use Rattle.format.specs.Bodies.{raisedBy, loweredByOne, reducedBy}
+use Rattle.backref.specs.declared.total_plans.TotalChange.{TotalChange}
+use Rattle.backref.specs.Totals.{totalBy}
 
 -- ---- a total that is moved
 
-module _ (body : List ℕ) (t : ℕ) (e : t ≡ le (part 0 8 body)) (amount : ℕ) where
-  pub raised-yes : t ≤ 18446744073709551615 - amount → amount < 18446744073709551616 → raisedBy amount (totalOf body) ≡ accepted (t + amount)
-  unfolding raisedBy totalOf ask
+module _ (t amount : ℕ) where
+  pub raised-yes : t ≤ 18446744073709551615 - amount → amount < 18446744073709551616 → raisedBy amount t ≡ accepted (t + amount)
+  unfolding raisedBy ask
   raised-yes h k =
       let z : t + amount < 2 ^ 64 = omega arith in
-      rw (← e) (simp (lt-ltb _ _ z))
+      simp (lt-ltb _ _ z)
 
-  pub raised-no : 18446744073709551615 - amount < t → raisedBy amount (totalOf body) ≡ refused 12
-  unfolding raisedBy totalOf ask
+  pub raised-no : 18446744073709551615 - amount < t → raisedBy amount t ≡ refused 12
+  unfolding raisedBy ask
   raised-no h =
       let z : 2 ^ 64 ≤ t + amount = omega arith in
-      rw (← e) (simp (le-ltb _ _ z))
+      simp (le-ltb _ _ z)
 
-  pub reduced-yes : amount ≤ t → reducedBy amount (totalOf body) ≡ accepted (t - amount)
-  unfolding reducedBy totalOf ask
-  reduced-yes h = rw (← e) (simp (le-leb _ _ h))
+  pub reduced-yes : amount ≤ t → reducedBy amount t ≡ accepted (t - amount)
+  unfolding reducedBy ask
+  reduced-yes h = simp (le-leb _ _ h)
 
-  pub reduced-no : t < amount → reducedBy amount (totalOf body) ≡ refused 14
-  unfolding reducedBy totalOf ask
-  reduced-no h = rw (← e) (simp (lt-leb _ _ h))
+  pub reduced-no : t < amount → reducedBy amount t ≡ refused 14
+  unfolding reducedBy ask
+  reduced-no h = simp (lt-leb _ _ h)
 
-module _ (body : List ℕ) (t : ℕ) (e : t ≡ le (part 0 8 body)) where
-  pub lowered-yes : 2 ≤ t → loweredByOne (totalOf body) ≡ accepted (t - 1)
-  unfolding loweredByOne totalOf ask
-  lowered-yes h = rw (← e) (simp (le-leb _ _ h))
+pub lowered-yes : (t : ℕ) → 2 ≤ t → loweredByOne t ≡ accepted (t - 1)
+unfolding loweredByOne ask
+lowered-yes t h = simp (le-leb _ _ h)
 
-  pub lowered-no : t < 2 → loweredByOne (totalOf body) ≡ refused 13
-  unfolding loweredByOne totalOf ask
-  lowered-no h = rw (← e) (simp (lt-leb _ _ h))
+pub lowered-no : (t : ℕ) → t < 2 → loweredByOne t ≡ refused 13
+unfolding loweredByOne ask
+lowered-no t h = simp (lt-leb _ _ h)
+
+-- what is told of a change that is that one
+pub by-change : (t : ℕ) {x y : TotalChange} {a : Answer ℕ} → x ≡ y → totalBy y t ≡ a → a ≡ totalBy x t
+by-change t e h = sym (ap (λ (z : TotalChange). totalBy z t) e ∙ h)
 
 -- ---- a body whose first eight bytes stay
 

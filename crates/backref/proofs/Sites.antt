@@ -9,14 +9,14 @@ use lib.Dec.{T, eqb, leb, eqb→eq}
 use lib.ListN.{length, take, length-append}
 use mir.Facts.{and-yes}
 use Rattle.fields.specs.Lists.{sum, all, same, cut}
-use Rattle.fields.specs.Numbers.{leBytes, areBytes}
-use Rattle.fields.specs.Parts.{written, spliced}
+use Rattle.fields.specs.Numbers.{le, leBytes, areBytes}
+use Rattle.fields.specs.Parts.{part, written, spliced}
 use Rattle.fields.proofs.Lists.{by-test, all-left, all-right, same-yes}
 use Rattle.format.specs.Questions.{Answer, refused, accepted, ask, bind}
-use Rattle.format.specs.References.{Ref, ref, refBytes, refsBytes, startOf, Body, bodyWith, readBody, bodyBytes}
+use Rattle.format.specs.References.{Ref, ref, refBytes, refsBytes, startOf, Body, bodyWith, readBody, bodyBytes, totalOf}
 use Rattle.format.specs.Bodies.{bodyFits, onBody, named}
 use Rattle.format.proofs.Refs.{whole, length-refBytes, refsBytes-append}
-use Rattle.format.proofs.Bodies.{on-body, read-start, read-sound, bodyBytes-read, length-bodyBytes, start-least, ReadsBody, body, short, strange, cutOff, readBody-decides}
+use Rattle.format.proofs.Bodies.{on-body, read-start, read-total, read-sound, bodyBytes-read, length-bodyBytes, start-least, ReadsBody, body, short, strange, cutOff, readBody-decides}
 use Rattle.format.proofs.Splices.{body-edit}
 use Rattle.inline_refs.specs.declared.wanted.Wanted.{Wanted}
 use Rattle.inline_refs.specs.declared.scan.Seen.{Seen}
@@ -56,6 +56,11 @@ pub record ReadIn (type : ℕ) (d : List ℕ) (w : Wanted) (place : ℕ) (seen :
   pub fits : length d ≤ 65535
   pub read : readBody type d ≡ accepted from
   pub view : View w place (startOf type d) (from .refs) false seen
+
+-- the total of the body that was read
+pub total-read : (type : ℕ) (d : List ℕ) {w : Wanted} {place : ℕ} {seen : Seen} (r : ReadIn type d w place seen) (t : ℕ) → t ≡ le (part 0 8 d) → r .from .total ≡ t
+unfolding totalOf
+total-read type d r t e = sym (e ∙ read-total type d (r .from) (r .read))
 
 module _ (type : ℕ) (d : List ℕ) (w : Wanted) (place : ℕ) where
   scan-other : {X : Type 0} (seen : Seen) (n : ℕ) → Scanned seen ≡ Fault n → X

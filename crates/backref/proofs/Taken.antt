@@ -9,8 +9,8 @@ use lib.ListN.{replicate}
 use Rattle.fields.specs.Numbers.{le, areBytes}
 use Rattle.fields.specs.Parts.{part}
 use Rattle.format.specs.Questions.{Answer, accepted, bind, found, TakenOut}
-use Rattle.format.specs.References.{refsBytes, totalOf, startOf, bodyWith, bodyBytes}
-use Rattle.format.proofs.Bodies.{on-body, read-total}
+use Rattle.format.specs.References.{refsBytes, startOf, bodyWith, bodyBytes}
+use Rattle.format.proofs.Bodies.{on-body}
 use Rattle.inline_refs.specs.declared.wanted.Wanted.{Wanted}
 use Rattle.inline_refs.specs.declared.scan.Seen.{Seen}
 use Rattle.inline_refs.specs.declared.scan.Seen.the-variants.{Open}
@@ -25,7 +25,7 @@ use Rattle.backref.specs.declared.plan.Plan.{Plan}
 use Rattle.backref.specs.Plans.{PlannedTaken}
 use Rattle.backref.proofs.TakenPlans.{with-count, taken-refused, taken-absent, taken-edit}
 use Rattle.backref.specs.Takes.{takeInline}
-use Rattle.backref.proofs.Sites.{ReadIn, scan-faults, placed, planOf, site-plan}
+use Rattle.backref.proofs.Sites.{ReadIn, total-read, scan-faults, placed, planOf, site-plan}
 
 module _ (type : ℕ) (d : List ℕ) (w : Wanted) (plan : Plan) where
   abbrev taken : Answer TakenOut
@@ -54,10 +54,6 @@ module _ (type : ℕ) (d : List ℕ) (w : Wanted) (plan : Plan) where
       unfolding takeInline found bind
       take-found = on-body type d (r .from) _ (r .fits) (r .read) ∙ rw (hit .cuts) refl
 
-      total-is : r .from .total ≡ t
-      unfolding totalOf
-      total-is = sym (is ∙ read-total type d (r .from) (r .read))
-
       pub take-gone : T (areBytes d) → plan ≡ planOf p q (replicate 32 0) 0 t x → PlannedTaken plan d taken
       unfolding refsBytes
       take-gone bytes o =
@@ -67,4 +63,4 @@ module _ (type : ℕ) (d : List ℕ) (w : Wanted) (plan : Plan) where
           (site-plan plan d (r .from) (c .front) (c .hit ∷ []) (c .back) p q (replicate 32 0) 0 t x [] (accepted (left t))
           (placed type d (r .from) bytes (r .read) (c .front) (c .hit ∷ []) (c .back) p q (cut-between (isWanted w) (startOf type d) (r .from .refs) p q x hit))
           (r .fits) o refl refl (omega arith) refl)
-          (take-found ∙ ap (λ (m : ℕ). with-count m (left (r .from .total))) (sym counts) ∙ ap (λ (m : ℕ). with-count (plan .count) (left m)) total-is)
+          (take-found ∙ ap (λ (m : ℕ). with-count m (left (r .from .total))) (sym counts) ∙ ap (λ (m : ℕ). with-count (plan .count) (left m)) (total-read type d r t is))

@@ -13,7 +13,7 @@ use Rattle.fields.specs.Parts.{part}
 use Rattle.format.specs.Questions.{Answer, accepted, bind, found}
 use Rattle.format.specs.References.{payloadLength, Ref, ref, refBytes, refsBytes, startOf, Body, bodyWith, bodyBytes}
 use Rattle.format.specs.Bodies.{less, weighed, loweredByOne, dropInline}
-use Rattle.format.proofs.Bodies.{on-body, read-total}
+use Rattle.format.proofs.Bodies.{on-body}
 use Rattle.format.proofs.Splices.{refsBytes-one}
 use Rattle.inline_refs.specs.declared.wanted.Wanted.{Wanted}
 use Rattle.inline_refs.specs.declared.scan.Seen.{Seen}
@@ -30,7 +30,7 @@ use Rattle.backref.specs.Plans.{Planned}
 use Rattle.backref.proofs.NewBytes.{Holds}
 use Rattle.backref.proofs.Outcomes.{plan-absent, plan-refused}
 use Rattle.backref.proofs.PlannedTotals.{lowered-yes, lowered-no}
-use Rattle.backref.proofs.Sites.{ReadIn, scan-faults, placed, planOf, site-plan, wanted-is}
+use Rattle.backref.proofs.Sites.{ReadIn, total-read, scan-faults, placed, planOf, site-plan, wanted-is}
 
 module _ (type : ℕ) (d : List ℕ) (w : Wanted) (plan : Plan) where
   abbrev dropped : Answer (List ℕ)
@@ -64,13 +64,13 @@ module _ (type : ℕ) (d : List ℕ) (w : Wanted) (plan : Plan) where
       drop-low h o =
           plan-refused plan d dropped 13 o
           (drop-found ∙ ap (λ (a : Answer ℕ). bind a (λ total. accepted (bodyBytes (bodyWith (r .from) total (hit .parts .front ++ (less (hit .parts .hit) 1 ++ hit .parts .back))))))
-          (ap loweredByOne (sym (read-total type d (r .from) (r .read))) ∙ lowered-no d t is h))
+          (ap loweredByOne (total-read type d r t is) ∙ lowered-no t h))
 
       drop-edit : 2 ≤ t → dropped ≡ accepted (bodyBytes (bodyWith (r .from) (t - 1) (hit .parts .front ++ (less (hit .parts .hit) 1 ++ hit .parts .back))))
       unfolding bind
       drop-edit h =
           drop-found ∙ ap (λ (a : Answer ℕ). bind a (λ total. accepted (bodyBytes (bodyWith (r .from) total (hit .parts .front ++ (less (hit .parts .hit) 1 ++ hit .parts .back))))))
-          (ap loweredByOne (sym (read-total type d (r .from) (r .read))) ∙ lowered-yes d t is h)
+          (ap loweredByOne (total-read type d r t is) ∙ lowered-yes t h)
 
       module _ (bytes : T (areBytes d)) (h : 2 ≤ t) where
         pub drop-gone : x < 2 → plan ≡ planOf p q (replicate 32 0) 0 (t - 1) 0 → Planned plan d dropped

@@ -1,6 +1,7 @@
 pub mod Places
 pub mod Picks
 pub mod Heads
+pub mod Totals
 pub mod Adds
 pub mod Takes
 pub mod Plans

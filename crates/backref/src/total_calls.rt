@@ -1,4 +1,5 @@
 // The calls on a body's total and flags.
+use crate::TotalChange;
 use crate::total_plans;
 use format::Edited;
 use format::Told;
@@ -21,21 +22,21 @@ pub fn flags(body: &[u8]) -> Told
 pub fn raise_total(body: &[u8], amount: u64, out: &mut [u8]) -> Edited
     ensures { λ r. ⌜ Answered (heldBody (length (now (out .entry))) (raiseTotal (now (body .entry)) amount)) r (now (out .entry)) (now (out .exit)) ⌝ }
 {
-    let plan = total_plans::plan_raise_total(body, amount);
+    let plan = total_plans::plan_total(body, TotalChange::Raise(amount));
     crate::write_same(body, plan, out)
 }
 
 pub fn lower_total(body: &[u8], out: &mut [u8]) -> Edited
     ensures { λ r. ⌜ Answered (heldBody (length (now (out .entry))) (lowerTotal (now (body .entry)))) r (now (out .entry)) (now (out .exit)) ⌝ }
 {
-    let plan = total_plans::plan_lower_total(body);
+    let plan = total_plans::plan_total(body, TotalChange::LowerByOne);
     crate::write_same(body, plan, out)
 }
 
 pub fn reduce_total(body: &[u8], amount: u64, out: &mut [u8]) -> Edited
     ensures { λ r. ⌜ Answered (heldBody (length (now (out .entry))) (reduceTotal (now (body .entry)) amount)) r (now (out .entry)) (now (out .exit)) ⌝ }
 {
-    let plan = total_plans::plan_reduce_total(body, amount);
+    let plan = total_plans::plan_total(body, TotalChange::Reduce(amount));
     crate::write_same(body, plan, out)
 }
 

@@ -1,14 +1,23 @@
 // Plans that read no references: the item's type plays no part in them.
 use crate::Outcome;
 use crate::Plan;
+use format::Told;
 ghost use mathlib.Core.Path.{_≡_};
 ghost use Prim.Native.Nat.{_+_};
 ghost use lib.ListN.{replicate};
 ghost use Rattle.fields.specs.Numbers.{leBytes};
 ghost use Rattle.fields.specs.Parts.{written};
-ghost use Rattle.format.specs.Bodies.{raiseTotal, lowerTotal, reduceTotal, withFlags};
+ghost use Rattle.format.specs.Bodies.{withFlags};
 ghost use Rattle.backref.specs.Plans.{Planned};
 ghost use Rattle.backref.specs.Heads.{headOf};
+ghost use Rattle.backref.specs.Totals.{answerOf, totalBy, changeTotal};
+
+// What becomes of a total.
+pub enum TotalChange {
+    Raise(u64),
+    LowerByOne,
+    Reduce(u64),
+}
 
 // Questions 3 and 6 of a call that reads no references: 0, or the one that is answered "no".
 pub fn head_fault(body: &[u8]) -> u32
@@ -30,49 +39,44 @@ fn set_total(total: u64) -> Plan
     crate::edit(8, 8, [0; 32], 0, total, 0)
 }
 
-pub fn plan_raise_total(body: &[u8], amount: u64) -> Plan
-    ensures { λ r. ⌜ Planned r (now (body .entry)) (raiseTotal (now (body .entry)) amount) ⌝ }
-    ensures { λ r. ⌜ r .from + r .size ≡ r .to ⌝ }
+// The total with a change, or the question that is answered "no". Totals are compared first, so that none wraps.
+fn changed_total(change: TotalChange, total: u64) -> Told
+    ensures { λ r. ⌜ answerOf r ≡ totalBy change total ⌝ }
 {
-    let fault = head_fault(body);
-    if fault != 0 {
-        return crate::refuse(fault);
+    match change {
+        TotalChange::Raise(amount) => {
+            if 18446744073709551615 - amount < total {
+                return Told::Refused(12);
+            }
+            Told::Value(total + amount)
+        }
+        TotalChange::LowerByOne => {
+            if total < 2 {
+                return Told::Refused(13);
+            }
+            Told::Value(total - 1)
+        }
+        TotalChange::Reduce(amount) => {
+            if total < amount {
+                return Told::Refused(14);
+            }
+            Told::Value(total - amount)
+        }
     }
-    let total = fields::get_u64_le(body, 0);
-    if 18446744073709551615 - amount < total {
-        return crate::refuse(12);
-    }
-    set_total(total + amount)
 }
 
-pub fn plan_lower_total(body: &[u8]) -> Plan
-    ensures { λ r. ⌜ Planned r (now (body .entry)) (lowerTotal (now (body .entry))) ⌝ }
+pub fn plan_total(body: &[u8], change: TotalChange) -> Plan
+    ensures { λ r. ⌜ Planned r (now (body .entry)) (changeTotal (now (body .entry)) change) ⌝ }
     ensures { λ r. ⌜ r .from + r .size ≡ r .to ⌝ }
 {
     let fault = head_fault(body);
     if fault != 0 {
         return crate::refuse(fault);
     }
-    let total = fields::get_u64_le(body, 0);
-    if total < 2 {
-        return crate::refuse(13);
+    match changed_total(change, fields::get_u64_le(body, 0)) {
+        Told::Refused(number) => crate::refuse(number),
+        Told::Value(total) => set_total(total),
     }
-    set_total(total - 1)
-}
-
-pub fn plan_reduce_total(body: &[u8], amount: u64) -> Plan
-    ensures { λ r. ⌜ Planned r (now (body .entry)) (reduceTotal (now (body .entry)) amount) ⌝ }
-    ensures { λ r. ⌜ r .from + r .size ≡ r .to ⌝ }
-{
-    let fault = head_fault(body);
-    if fault != 0 {
-        return crate::refuse(fault);
-    }
-    let total = fields::get_u64_le(body, 0);
-    if total < amount {
-        return crate::refuse(14);
-    }
-    set_total(total - amount)
 }
 
 // A number of eight bytes in front of zeros.

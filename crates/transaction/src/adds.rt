@@ -1,5 +1,6 @@
 // apply_keyed_add and apply_shared_add.
 use backref::Plan;
+use backref::TotalChange;
 use format::Edited;
 use format::Key;
 use format::Keyed;
@@ -59,7 +60,7 @@ pub fn plan_shared(key: Key, body: &[u8], name: SharedRef, count: u32, as_item: 
     ensures { λ r. ⌜ Planned r (now (body .entry)) (sharedBody (record { key = key; bytes = now (body .entry) }) name count «as_item») ⌝ }
 {
     if as_item {
-        return backref::plan_raise_total(body, count as u64);
+        return backref::plan_total(body, TotalChange::Raise(count as u64));
     }
     backref::plan_add_shared(key.kind, body, name, count)
 }
@@ -108,7 +109,7 @@ pub fn plan_keyed(key: Key, body: &[u8], keyed: Keyed, count: u32, as_item: bool
     ensures { λ r. ⌜ Planned r (now (body .entry)) (keyedPlan (record { key = key; bytes = now (body .entry) }) keyed count «as_item») ⌝ }
 {
     if as_item {
-        return backref::plan_raise_total(body, count as u64);
+        return backref::plan_total(body, TotalChange::Raise(count as u64));
     }
     match keyed {
         Keyed::Block(name) => backref::plan_add_tree(key.kind, body, name),

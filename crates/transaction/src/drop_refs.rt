@@ -1,6 +1,7 @@
 // A reference dropped: inline, or else at its own item.
 use backref::Outcome;
 use backref::Plan;
+use backref::TotalChange;
 use format::DataRef;
 use format::Edited;
 use format::Key;
@@ -44,17 +45,17 @@ fn plan_inline(item_type: u8, body: &[u8], name: Wanted) -> Plan
 }
 
 // The record's body with a lower total: by one, or by all that an item of shared data counts.
-fn plan_total(item: &[u8], body: &[u8], name: Wanted) -> Plan
+fn plan_lowered(item: &[u8], body: &[u8], name: Wanted) -> Plan
     requires { ⌜ CountFits name (now item) ⌝ }
     ensures { λ r. ⌜ Planned r (now (body .entry)) (loweredTotal name (now (item .entry)) (now (body .entry))) ⌝ }
 {
     match name {
-        Wanted::Block(_) => backref::plan_lower_total(body),
-        Wanted::Data(_) => backref::plan_lower_total(body),
-        Wanted::SharedBlock(_) => backref::plan_reduce_total(body, 1),
+        Wanted::Block(_) => backref::plan_total(body, TotalChange::LowerByOne),
+        Wanted::Data(_) => backref::plan_total(body, TotalChange::LowerByOne),
+        Wanted::SharedBlock(_) => backref::plan_total(body, TotalChange::Reduce(1)),
         Wanted::SharedData(_) => {
             let count = fields::get_u32_le(item, 0);
-            backref::plan_reduce_total(body, count as u64)
+            backref::plan_total(body, TotalChange::Reduce(count as u64))
         }
     }
 }
@@ -73,7 +74,7 @@ fn drop_count(
 {
     let start = target.start;
     let end = target.end;
-    let rest = backref::plan_lower_total(&sheet[start + 21..end]);
+    let rest = backref::plan_total(&sheet[start + 21..end], TotalChange::LowerByOne);
     let total = rest.outcome;
     let Outcome::Edit = total else {
         return record_edit::put_record(sheet, target, rest, crate::NO_LIMIT, out);
@@ -107,7 +108,7 @@ fn drop_at_item(
     let Wanted::Data(data) = name else {
         let start = target.start;
         let end = target.end;
-        let rest = plan_total(&sheet[from + 21..to], &sheet[start + 21..end], name);
+        let rest = plan_lowered(&sheet[from + 21..to], &sheet[start + 21..end], name);
         return crate::put_without(sheet, target, rest, from, to, out);
     };
     drop_count(sheet, target, from, to, data, out)

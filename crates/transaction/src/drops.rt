@@ -1,5 +1,6 @@
 // apply_shared_drop.
 use backref::Plan;
+use backref::TotalChange;
 use format::Edited;
 use format::Key;
 use format::SharedRef;
@@ -16,7 +17,7 @@ fn plan_drop_shared(key: Key, body: &[u8], name: SharedRef, count: u32, as_item:
     ensures { λ r. ⌜ Planned r (now (body .entry)) (bind (sharedRest (record { key = key; bytes = now (body .entry) }) name «as_item») (λ rest. reduceTotal rest count)) ⌝ }
 {
     if as_item {
-        return backref::plan_reduce_total(body, count as u64);
+        return backref::plan_total(body, TotalChange::Reduce(count as u64));
     }
     let taken = backref::plan_take_shared(key.kind, body, name);
     let present = backref::plan_needed(taken);

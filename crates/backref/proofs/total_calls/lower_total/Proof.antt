@@ -6,7 +6,7 @@ use Rattle.backref.proofs.total_calls.lower_total.Tie as tie
 returns : tie.Need-returns
 returns c =
     let write = c .before .before in
-    answered _ (write .before .before .plan-lower-total .ensures .0) (write .write-same .ensures)
+    answered _ (write .before .before .plan-total .ensures .0) (write .write-same .ensures)
 
 pub lower-total-spec : {M : Type 1} → statement M
 lower-total-spec =

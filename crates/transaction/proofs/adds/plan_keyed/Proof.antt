@@ -4,7 +4,7 @@ use Rattle.transaction.proofs.adds.plan_keyed.Statement.{statement}
 use Rattle.transaction.proofs.adds.plan_keyed.Tie as tie
 
 returns : tie.Need-returns
-returns c = keyed-item _ _ _ _ _ (c .before .if1 .taken) (c .plan-raise-total .ensures .0)
+returns c = keyed-item _ _ _ _ _ (c .before .if1 .taken) (c .plan-total .ensures .0)
 
 returns-2 : tie.Need-returns-2
 returns-2 c = keyed-block _ _ _ _ _ _ (c .before .before .before .before .if1 .left) (c .before .before .keyed .given .1) (c .plan-add-tree .ensures)

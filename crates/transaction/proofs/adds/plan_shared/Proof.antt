@@ -6,7 +6,7 @@ use Rattle.transaction.proofs.adds.plan_shared.Tie as tie
 returns : tie.Need-returns
 returns c =
     let a = c .before .before .before .args in
-    shared-item _ _ _ _ _ (c .before .if1 .taken) (c .plan-raise-total .ensures .0)
+    shared-item _ _ _ _ _ (c .before .if1 .taken) (c .plan-total .ensures .0)
 
 returns-2 : tie.Need-returns-2
 returns-2 c = shared-inline _ _ _ _ _ (c .before .if1 .left) (c .plan-add-shared .ensures)

@@ -8,7 +8,7 @@ use Rattle.transaction.proofs.drop_refs.drop_at_item.Tie as tie
 returns : tie.Need-returns
 returns c =
     let a = c .before .before .before .before .before .before .before .before .before .before .args in
-    at-other (a .name) (now (a .sheet)) (a .target) (a .from) (a .to) (length (now (a .out))) _ _ (now (a .out)) _ (c .before .before .before .before .before .before .before .match .keys2) (c .before .before .before .before .plan-total .ensures) (c .before .before .put-without .ensures)
+    at-other (a .name) (now (a .sheet)) (a .target) (a .from) (a .to) (length (now (a .out))) _ _ (now (a .out)) _ (c .before .before .before .before .before .before .before .match .keys2) (c .before .before .before .before .plan-lowered .ensures) (c .before .before .put-without .ensures)
 
 returns-2 : tie.Need-returns-2
 returns-2 c =

@@ -9,7 +9,7 @@ returns : tie.Need-returns
 returns c =
     let s = c .before .before .before .before .before .before .before .before .before in
     total-refused (now (s .args .sheet)) (s .args .target) (length (now (s .args .out))) _ _ _ (now (s .args .out)) _
-    (c .before .before .before .before .before .plan-lower-total .ensures .0) (c .before .before .before .before .match .keys2) (c .before .before .put-record .ensures)
+    (c .before .before .before .before .before .plan-total .ensures .0) (c .before .before .before .before .match .keys2) (c .before .before .put-record .ensures)
 
 sub-put-count : tie.Need-sub-put-count
 sub-put-count c =
@@ -20,28 +20,28 @@ returns-2 : tie.Need-returns-2
 returns-2 c =
     let s = c .before .before .before .before .before .before .before .before .before .before .before in
     item-refused (now (s .args .sheet)) (s .args .target) (s .args .from) (s .args .to) (s .args .name) (length (now (s .args .out))) _ _
-    (c .before .before .before .before .before .before .before .plan-lower-total .ensures .0) (c .before .before .before .plan-drop-keyed .ensures .0) _ (now (s .args .out))
+    (c .before .before .before .before .before .before .before .plan-total .ensures .0) (c .before .before .before .plan-drop-keyed .ensures .0) _ (now (s .args .out))
     (c .before .before .before .before .before .enum-told .given .1) (c .before .outcome .given .1)
 
 returns-3 : tie.Need-returns-3
 returns-3 c =
     let s = c .before .before .before .before .before .before .before .before .before .before in
     item-absent (now (s .args .sheet)) (s .args .target) (s .args .from) (s .args .to) (s .args .name) (length (now (s .args .out))) _ _
-    (c .before .before .before .before .before .before .plan-lower-total .ensures .0) (c .before .before .plan-drop-keyed .ensures .0) (now (s .args .out))
+    (c .before .before .before .before .before .before .plan-total .ensures .0) (c .before .before .plan-drop-keyed .ensures .0) (now (s .args .out))
     (c .before .before .before .before .enum-told .given .1) (c .enum-told2 .given .1)
 
 returns-4 : tie.Need-returns-4
 returns-4 c =
     let s = c .before .before .before .before .before .before .before .before .before .before .before .before .before .before in
     item-goes (now (s .args .sheet)) (s .args .target) (s .args .from) (s .args .to) (s .args .name) (length (now (s .args .out))) _ _
-    (c .before .before .before .before .before .before .before .before .before .before .plan-lower-total .ensures .0) (c .before .before .before .before .before .before .plan-drop-keyed .ensures .0) _ (now (s .args .out)) _
+    (c .before .before .before .before .before .before .before .before .before .before .plan-total .ensures .0) (c .before .before .before .before .before .before .plan-drop-keyed .ensures .0) _ (now (s .args .out)) _
     (c .before .before .before .before .enum-told3 .given .1) (c .before .before .put-without .ensures)
 
 returns-5 : tie.Need-returns-5
 returns-5 c =
     let s = c .before .before .before .before .before .before .before .before .before .before .before .before .before .before .before in
     item-counts (now (s .args .sheet)) (s .args .target) (s .args .from) (s .args .to) (s .args .name) (length (now (s .args .out))) _ _
-    (c .before .before .before .before .before .before .before .before .before .before .before .plan-lower-total .ensures .0) (c .before .before .before .before .before .before .before .plan-drop-keyed .ensures .0) _ _ (now (s .args .out)) _
+    (c .before .before .before .before .before .before .before .before .before .before .before .plan-total .ensures .0) (c .before .before .before .before .before .before .before .plan-drop-keyed .ensures .0) _ _ (now (s .args .out)) _
     (c .before .before .before .before .before .enum-told4 .given .1) (c .before .before .before .before .get-u32-le .ensures) (c .before .before .put-count .ensures)
 
 pub drop-count-spec : {M : Type 1} → statement M

@@ -6,7 +6,7 @@ use Rattle.transaction.proofs.drops.plan_drop_shared.Statement.{stateme
 use Rattle.transaction.proofs.drops.plan_drop_shared.Tie as tie
 
 returns : tie.Need-returns
-returns c = drop-item _ _ _ _ _ (c .before .if1 .taken) (c .plan-reduce-total .ensures .0)
+returns c = drop-item _ _ _ _ _ (c .before .if1 .taken) (c .plan-total .ensures .0)
 
 returns-2 : tie.Need-returns-2
 returns-2 c =
