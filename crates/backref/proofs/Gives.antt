@@ -13,11 +13,12 @@ use Rattle.fields.specs.Numbers.{le, areBytes}
 use Rattle.fields.specs.Parts.{part}
 use Rattle.fields.proofs.Lists.{lt-or}
 use Rattle.format.specs.Questions.{Answer, refused, accepted, ask, bind}
-use Rattle.format.specs.References.{payloadLength, counted, Ref, refBytes, startOf, Body, bodyWith, readBody, bodyBytes}
-use Rattle.format.specs.Bodies.{weighed, raisedBy, Spot, gap, standing, spotAnywhere, isGap, standingWeight, addedAt, addAt, keyedAt}
+use Rattle.format.specs.References.{payloadLength, counted, Ref, refBytes, startOf, placeOf, Body, bodyWith, readBody, bodyBytes}
+use Rattle.format.specs.Bodies.{onBody, sharedKind, weighed, raisedBy, Spot, gap, standing, spotAnywhere, isGap, standingWeight, addedAt, addAt, addInlineData, addInlineShared, keyedAt}
 use Rattle.format.proofs.Bodies.{on-body}
 use Rattle.format.proofs.Splices.{refsBytes-one}
 use Rattle.inline_refs.specs.declared.wanted.Wanted.{Wanted}
+use Rattle.inline_refs.specs.declared.wanted.Wanted.the-variants.{Block, Data, SharedBlock, SharedData}
 use Rattle.inline_refs.specs.declared.scan.Seen.{Seen}
 use Rattle.inline_refs.specs.declared.scan.Seen.the-variants.{Open, Gap, Hit, Late}
 use Rattle.inline_refs.specs.declared.scan.Scan.the-variants.{Fault}
@@ -30,7 +31,7 @@ use Rattle.inline_refs.proofs.Spots.{SpotView, spot-anywhere, spot-by-scan}
 use Rattle.backref.specs.declared.plan.Outcome.the-variants.{Refused}
 use Rattle.backref.specs.declared.plan.Plan.{Plan}
 use Rattle.backref.specs.Plans.{Planned}
-use Rattle.backref.specs.Adds.{newRef, ownPlace, spotOf, siteOf, Raised, addInline, addKeyed}
+use Rattle.backref.specs.Adds.{newRef, ownPlace, byScan, spotOf, siteOf, Raised, addInline, addKeyed}
 use Rattle.backref.proofs.NewBytes.{Holds, wanted-small}
 use Rattle.backref.proofs.Outcomes.{plan-refused}
 use Rattle.backref.proofs.PlannedTotals.{raised-yes, raised-no}
@@ -42,9 +43,9 @@ or-true false = refl
 
 -- ---- the spot
 
-pub own-spot : (type : ℕ) (d : List ℕ) (w : Wanted) (place : ℕ) (seen : Seen) (byScan : Bool) (i : Site) → T (areBytes d) → place ≡ ownPlace w
-    → (r : ReadIn type d w place seen) → i ≡ siteOf byScan (length d) seen
-    → SpotView w (startOf type d) (r .from .refs) i (spotOf byScan w (r .from .refs))
+pub own-spot : (type : ℕ) (d : List ℕ) (w : Wanted) (place : ℕ) (seen : Seen) (scans : Bool) (i : Site) → T (areBytes d) → place ≡ ownPlace w
+    → (r : ReadIn type d w place seen) → i ≡ siteOf scans (length d) seen
+    → SpotView w (startOf type d) (r .from .refs) i (spotOf scans w (r .from .refs))
 unfolding spotOf siteOf ownPlace
 own-spot type d w place seen true i b p r e =
     spot-by-scan w place (startOf type d) (length d) (r .from .refs) (ends type d (r .from) b (r .read)) p seen i e (r .view)
@@ -122,27 +123,35 @@ module _ (start : ℕ) (refs : List Ref) (w : Wanted) (amount : ℕ) (b : Body) 
       let z : c .hit .weight + amount < 2 ^ 32 = omega (arith, v .weighs) in
       simp (h, lt-ltb _ _ z, e)
 
+-- the definition without cases
+pub add-is : (type : ℕ) (d : List ℕ) (w : Wanted) (amount : ℕ)
+    → addInline type d w amount ≡ onBody type d (λ b. addAt b (newRef w amount) (spotOf (byScan w) w (b .refs)))
+unfolding addInlineData addInlineShared sharedKind ask spotOf ownPlace placeOf kindOf fieldsOf
+add-is type d (Block name) amount = refl
+add-is type d (Data name) amount = refl
+add-is type d (SharedBlock parent) amount = refl
+add-is type d (SharedData parent) amount = refl
+
 -- ---- the ways out of an add, from what the scan and its site say
 
-module _ (type : ℕ) (d : List ℕ) (w : Wanted) (place amount : ℕ) (byScan : Bool) (plan : Plan) (seen : Seen) (r : ReadIn type d w place seen)
+module _ (type : ℕ) (d : List ℕ) (w : Wanted) (place amount : ℕ) (plan : Plan) (seen : Seen) (r : ReadIn type d w place seen)
     (bytes : T (areBytes d)) (own : place ≡ ownPlace w) where
   abbrev spot : Spot
-  spot = spotOf byScan w (r .from .refs)
+  spot = spotOf (byScan w) w (r .from .refs)
 
   abbrev given : Answer (List ℕ)
-  given = addInline type d w amount byScan
+  given = addInline type d w amount
 
   given-is : given ≡ addAt (r .from) (newRef w amount) spot
-  unfolding addInline
-  given-is = on-body type d (r .from) _ (r .fits) (r .read)
+  given-is = add-is type d w amount ∙ on-body type d (r .from) _ (r .fits) (r .read)
 
   abbrev sited : Site → Type 0
   sited i = SpotView w (startOf type d) (r .from .refs) i spot
 
-  view-of : (i : Site) → i ≡ siteOf byScan (length d) seen → sited i
-  view-of i e = own-spot type d w place seen byScan i bytes own r e
+  view-of : (i : Site) → i ≡ siteOf (byScan w) (length d) seen → sited i
+  view-of i e = own-spot type d w place seen (byScan w) i bytes own r e
 
-  module _ (p : ℕ) (i : NewAt p ≡ siteOf byScan (length d) seen) where
+  module _ (p : ℕ) (i : NewAt p ≡ siteOf (byScan w) (length d) seen) where
     pub give-ten : counted (kindOf w) || eqb amount 1 ≡ false → plan .outcome ≡ Refused 10 → Planned plan d given
     give-ten h o = plan-refused plan d given 10 o (given-is ∙ add-ten (startOf type d) (r .from .refs) w amount (r .from) p spot (view-of (NewAt p) i) h)
 
@@ -169,7 +178,7 @@ module _ (type : ℕ) (d : List ℕ) (w : Wanted) (place amount : ℕ) (byScan :
           go (inl k) = give-full k (u .full k)
           go (inr k) = give-new _ _ k refl (record { front = u .front k; long = u .long k }) (u .is k)
 
-  module _ (p q x : ℕ) (i : Standing p q x ≡ siteOf byScan (length d) seen) where
+  module _ (p q x : ℕ) (i : Standing p q x ≡ siteOf (byScan w) (length d) seen) where
     pub give-nine : counted (kindOf w) ≡ false → plan .outcome ≡ Refused 9 → Planned plan d given
     give-nine h o = plan-refused plan d given 9 o (given-is ∙ add-nine (startOf type d) (r .from .refs) w amount (r .from) p q x spot (view-of (Standing p q x) i) h)
 
@@ -219,11 +228,10 @@ module _ {from to : ℕ} {w : Wanted} {count total amount : ℕ} {p : Plan} wher
         long = λ _. ap length (sym is-new) ∙ n .long;
       }
 
-pub give-fault : (type : ℕ) (d : List ℕ) (w : Wanted) (place amount n : ℕ) (byScan : Bool) (plan : Plan)
-    → Fault n ≡ scanOf w place (startOf type d) (Open false) (refsIn type d) → plan .outcome ≡ Refused n → Planned plan d (addInline type d w amount byScan)
-unfolding addInline
-give-fault type d w place amount n byScan plan e o =
-    plan-refused plan d (addInline type d w amount byScan) n o (scan-faults type d w place n _ e)
+pub give-fault : (type : ℕ) (d : List ℕ) (w : Wanted) (place amount n : ℕ) (plan : Plan)
+    → Fault n ≡ scanOf w place (startOf type d) (Open false) (refsIn type d) → plan .outcome ≡ Refused n → Planned plan d (addInline type d w amount)
+give-fault type d w place amount n plan e o =
+    plan-refused plan d (addInline type d w amount) n o (add-is type d w amount ∙ scan-faults type d w place n _ e)
 
 -- ---- keyed references
 

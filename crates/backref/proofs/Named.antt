@@ -1,9 +1,9 @@
 -- The plans by wanted name, as the definitions have them. Assumes nothing.
-use mathlib.Core.Path.{_≡_, refl, sym, subst}
+use mathlib.Core.Path.{_≡_, refl, sym, subst, _∙_}
 use mathlib.Core.Bool.{true, false}
 use mathlib.Core.List.{List}
 use Prim.Native.Nat.{ℕ}
-use lib.Dec.{T, eqb→eq}
+use lib.Dec.{T, eqb, eqb→eq}
 use borrow.Author.Tests.{ne-eqb}
 use Rattle.format.specs.declared.BlockRef.{BlockRef}
 use Rattle.format.specs.declared.DataRef.{DataRef}
@@ -21,6 +21,7 @@ use Rattle.backref.specs.declared.plan.Outcome.the-variants.{Refused}
 use Rattle.backref.specs.Plans.{Planned, PlannedTaken}
 use Rattle.backref.specs.Adds.{ownPlace, spotOf, addInline, addKeyed}
 use Rattle.backref.specs.Takes.{takeInline}
+use Rattle.backref.proofs.Gives.{add-is}
 use Rattle.backref.proofs.Outcomes.{plan-refused, plan-same}
 use Rattle.backref.proofs.TakenPlans.{taken-refused, taken-same}
 
@@ -28,12 +29,17 @@ pub other-kind : (kind : ℕ) → sharedKind kind ≡ true → (kind ≡ 182 →
 unfolding sharedKind
 other-kind kind t h = eqb→eq kind 184 (subst T (sym (rw (ne-eqb kind 182 h) at t)) tt)
 
+not-data : (kind : ℕ) → sharedKind kind ≡ true → eqb kind 178 ≡ false
+unfolding sharedKind
+not-data kind t = ne-eqb kind 178 (λ e. subst T (sym (subst (λ (k : ℕ). sharedKind k ≡ true) e t)) tt)
+
 -- a wanted name that is the shared one, of a kind that is shared
 module _ (type : ℕ) (d : List ℕ) (s : SharedRef) (plan : Plan) where
   module _ (w : Wanted) (shared : sharedKind (s .kind) ≡ true) (names : (kindOf w ≡ s .kind) × (fieldsOf w ≡ one (s .parent)) × (ownPlace w ≡ s .parent)) where
-    pub shared-is : (amount : ℕ) → Planned plan d (addInline type d w amount false) → Planned plan d (addInlineShared type d s amount)
-    unfolding addInlineShared addInline spotOf ask
-    shared-is amount h = plan-same plan d _ _ (rw (shared, names .0, names .1, names .2) refl) h
+    pub shared-is : (amount : ℕ) → Planned plan d (addInline type d w amount) → Planned plan d (addInlineShared type d s amount)
+    unfolding addInlineShared spotOf ask
+    shared-is amount h =
+        plan-same plan d _ _ (add-is type d w amount ∙ rw (names .0, not-data (s .kind) shared, names .0, names .1, names .2, shared) refl) h
 
     pub take-is : PlannedTaken plan d (takeInline type d w) → PlannedTaken plan d (takeInlineShared type d s)
     unfolding takeInlineShared takeInline ask

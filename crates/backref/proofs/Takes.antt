@@ -12,10 +12,11 @@ use Rattle.fields.specs.Numbers.{le, areBytes}
 use Rattle.fields.specs.Parts.{part}
 use Rattle.format.specs.Questions.{Answer, accepted, bind, found}
 use Rattle.format.specs.References.{payloadLength, Ref, ref, refBytes, refsBytes, startOf, Body, bodyWith, bodyBytes}
-use Rattle.format.specs.Bodies.{less, weighed, loweredByOne, dropInline}
+use Rattle.format.specs.Bodies.{less, weighed, loweredByOne, dropInline, dropInlineTreeRef, dropInlineDataRef}
 use Rattle.format.proofs.Bodies.{on-body}
 use Rattle.format.proofs.Splices.{refsBytes-one}
 use Rattle.inline_refs.specs.declared.wanted.Wanted.{Wanted}
+use Rattle.inline_refs.specs.declared.wanted.Wanted.the-variants.{Block, Data, SharedBlock, SharedData}
 use Rattle.inline_refs.specs.declared.scan.Seen.{Seen}
 use Rattle.inline_refs.specs.declared.scan.Seen.the-variants.{Open}
 use Rattle.inline_refs.specs.declared.scan.Scan.the-variants.{Fault}
@@ -27,18 +28,27 @@ use Rattle.inline_refs.proofs.Spots.{cut-between, cut-passed, found-view}
 use Rattle.backref.specs.declared.plan.Outcome.the-variants.{Absent, Refused}
 use Rattle.backref.specs.declared.plan.Plan.{Plan}
 use Rattle.backref.specs.Plans.{Planned}
+use Rattle.backref.specs.Takes.{dropNamed}
 use Rattle.backref.proofs.NewBytes.{Holds}
 use Rattle.backref.proofs.Outcomes.{plan-absent, plan-refused}
 use Rattle.backref.proofs.PlannedTotals.{lowered-yes, lowered-no}
 use Rattle.backref.proofs.Sites.{ReadIn, total-read, scan-faults, placed, planOf, site-plan, wanted-is}
 
+-- the definition without cases
+drop-is : (type : ℕ) (d : List ℕ) (w : Wanted) → dropNamed type d w ≡ dropInline type d (kindOf w) (fieldsOf w)
+unfolding dropInlineTreeRef dropInlineDataRef kindOf fieldsOf
+drop-is type d (Block name) = refl
+drop-is type d (Data name) = refl
+drop-is type d (SharedBlock parent) = refl
+drop-is type d (SharedData parent) = refl
+
 module _ (type : ℕ) (d : List ℕ) (w : Wanted) (plan : Plan) where
   abbrev dropped : Answer (List ℕ)
-  dropped = dropInline type d (kindOf w) (fieldsOf w)
+  dropped = dropNamed type d w
 
   pub drop-fault : (n : ℕ) → Fault n ≡ scanOf w 0 (startOf type d) (Open false) (refsIn type d) → plan .outcome ≡ Refused n → Planned plan d dropped
   unfolding dropInline
-  drop-fault n e o = plan-refused plan d dropped n o (scan-faults type d w 0 n _ e)
+  drop-fault n e o = plan-refused plan d dropped n o (drop-is type d w ∙ scan-faults type d w 0 n _ e)
 
   module _ (seen : Seen) (r : ReadIn type d w 0 seen) where
     abbrev after : Body → Cut Ref → Answer (List ℕ)
@@ -48,7 +58,7 @@ module _ (type : ℕ) (d : List ℕ) (w : Wanted) (plan : Plan) where
     unfolding dropInline found bind
     drop-absent e o =
         plan-absent plan d dropped o
-        (on-body type d (r .from) _ (r .fits) (r .read)
+        (drop-is type d w ∙ on-body type d (r .from) _ (r .fits) (r .read)
         ∙ rw (found-view w 0 (startOf type d) (r .from .refs) seen Nothing e (r .view)) refl)
 
     module _ (p q x t : ℕ) (e : At p q x ≡ hitOf seen) (is : t ≡ le (part 0 8 d)) where
@@ -57,7 +67,7 @@ module _ (type : ℕ) (d : List ℕ) (w : Wanted) (plan : Plan) where
 
       drop-found : dropped ≡ after (r .from) (hit .parts)
       unfolding dropInline found bind
-      drop-found = on-body type d (r .from) _ (r .fits) (r .read) ∙ rw (hit .cuts) refl
+      drop-found = drop-is type d w ∙ on-body type d (r .from) _ (r .fits) (r .read) ∙ rw (hit .cuts) refl
 
       pub drop-low : t < 2 → plan .outcome ≡ Refused 13 → Planned plan d dropped
       unfolding bind

@@ -3,14 +3,16 @@ use mathlib.Core.Path.{_≡_}
 use mathlib.Core.Bool.{Bool, true, false, cond}
 use mathlib.Core.List.{List}
 use Prim.Native.Nat.{ℕ, _+_, _-_, _≤_, _<_}
-use lib.Dec.{leb}
+use lib.Dec.{leb, eqb}
 use lib.ListN.{length, take}
 use Rattle.fields.specs.Numbers.{leBytes}
 use Rattle.fields.specs.Parts.{written}
+use Rattle.format.specs.declared.SharedRef.{SharedRef}
 use Rattle.format.specs.Questions.{Answer}
 use Rattle.format.specs.References.{payloadLength, Ref, ref, refBytes, placeOf}
-use Rattle.format.specs.Bodies.{onBody, Spot, spotAnywhere, spotByScan, addAt, keyedAt}
+use Rattle.format.specs.Bodies.{one, onBody, Spot, spotAnywhere, spotByScan, addAt, addInlineData, addInlineShared, keyedAt}
 use Rattle.inline_refs.specs.declared.wanted.Wanted.{Wanted}
+use Rattle.inline_refs.specs.declared.wanted.Wanted.the-variants.{Block, Data, SharedBlock, SharedData}
 use Rattle.inline_refs.specs.declared.scan.Seen.{Seen}
 use Rattle.inline_refs.specs.declared.site.Site.{Site}
 use Rattle.inline_refs.specs.Scans.{kindOf, fieldsOf}
@@ -29,7 +31,10 @@ newRef wanted amount = ref (kindOf wanted) (fieldsOf wanted) amount
 unfoldable pub ownPlace : Wanted → ℕ
 ownPlace wanted = placeOf (kindOf wanted) (fieldsOf wanted)
 
--- by one scan up to the insert position, or anywhere
+-- a data reference goes by one scan up to the insert position, another to an equal one anywhere
+abbrev pub byScan : Wanted → Bool
+byScan wanted = eqb (kindOf wanted) 178
+
 unfoldable pub spotOf : Bool → Wanted → List Ref → Spot
 spotOf true wanted refs = spotByScan (kindOf wanted) (fieldsOf wanted) refs
 spotOf false wanted refs = spotAnywhere (kindOf wanted) (fieldsOf wanted) (ownPlace wanted) refs
@@ -38,9 +43,17 @@ unfoldable pub siteOf : Bool → ℕ → Seen → Site
 siteOf true end seen = siteByScan end seen
 siteOf false end seen = siteAnywhere end seen
 
--- add_inline_tree_ref, add_inline_data_ref and add_inline_shared in one
-unfoldable pub addInline : ℕ → List ℕ → Wanted → ℕ → Bool → Answer (List ℕ)
-addInline type body wanted amount byScan = onBody type body (λ b. addAt b (newRef wanted amount) (spotOf byScan wanted (b .refs)))
+abbrev pub sharedRef : ℕ → ℕ → SharedRef
+sharedRef kind parent = record { kind = kind; parent = parent }
+
+-- add_inline_tree_ref, whose amount is 1, add_inline_data_ref and add_inline_shared in one
+abbrev pub addInline : ℕ → List ℕ → Wanted → ℕ → Answer (List ℕ)
+addInline type body (Block name) amount =
+    onBody type body (λ b.
+    addAt b (ref 176 (one (name .tree)) amount) (spotAnywhere 176 (one (name .tree)) (name .tree) (b .refs)))
+addInline type body (Data name) amount = addInlineData type body name amount
+addInline type body (SharedBlock parent) amount = addInlineShared type body (sharedRef 182 parent) amount
+addInline type body (SharedData parent) amount = addInlineShared type body (sharedRef 184 parent) amount
 
 -- add_inline_keyed's two cases in one
 unfoldable pub addKeyed : ℕ → List ℕ → Wanted → ℕ → ℕ → Answer (List ℕ)

@@ -1,5 +1,6 @@
 // Plans that add references. The total and the count are compared before they are summed, so that no sum wraps.
 use crate::Plan;
+use inline_refs::OwnPlace;
 use inline_refs::Scan;
 use inline_refs::Seen;
 use inline_refs::Site;
@@ -8,9 +9,9 @@ ghost use mathlib.Core.Path.{_≡_};
 ghost use mathlib.Core.Bool.{_||_, not};
 ghost use lib.Dec.{eqb};
 ghost use Rattle.format.specs.References.{counted};
-ghost use Rattle.inline_refs.specs.Scans.{kindOf};
+ghost use Rattle.inline_refs.specs.Scans.{kindOf, KnownFor};
 ghost use Rattle.backref.specs.Plans.{Planned};
-ghost use Rattle.backref.specs.Adds.{siteOf, Raised, addInline, addKeyed};
+ghost use Rattle.backref.specs.Adds.{byScan, siteOf, Raised, addInline, addKeyed};
 
 // Question 10: amount 1 where the kind has no count.
 fn may_add(wanted: Wanted, amount: u32) -> bool
@@ -22,10 +23,10 @@ fn may_add(wanted: Wanted, amount: u32) -> bool
     amount == 1
 }
 
-fn site_of(seen: Seen, end: usize, by_scan: bool) -> Site
-    ensures { λ r. ⌜ r ≡ siteOf «by_scan» end seen ⌝ }
+fn site_of(seen: Seen, end: usize, wanted: Wanted) -> Site
+    ensures { λ r. ⌜ r ≡ siteOf (byScan wanted) end seen ⌝ }
 {
-    if by_scan {
+    if inline_refs::kind_of(wanted) == 178 {
         return inline_refs::site_by_scan(seen, end);
     }
     inline_refs::site_anywhere(seen, end)
@@ -45,20 +46,15 @@ fn edit_raised(from: usize, to: usize, wanted: Wanted, count: u32, total: u64, a
 }
 
 // The amount is added at one name, and to the total.
-pub fn plan_add_inline(
-    item_type: u8,
-    body: &[u8],
-    wanted: Wanted,
-    amount: u32,
-    by_scan: bool,
-) -> Plan
-    ensures { λ r. ⌜ Planned r (now (body .entry)) (addInline «item_type» (now (body .entry)) wanted amount «by_scan») ⌝ }
+pub fn plan_add(item_type: u8, body: &[u8], wanted: Wanted, known: OwnPlace, amount: u32) -> Plan
+    requires { ⌜ KnownFor wanted known ⌝ }
+    ensures { λ r. ⌜ Planned r (now (body .entry)) (addInline «item_type» (now (body .entry)) wanted amount) ⌝ }
 {
-    match inline_refs::scan_to_add(item_type, body, wanted) {
+    match inline_refs::scan_to_add(item_type, body, wanted, known) {
         Scan::Fault(number) => crate::refuse(number),
         Scan::Read(seen) => {
             let total = fields::get_u64_le(body, 0);
-            match site_of(seen, body.len(), by_scan) {
+            match site_of(seen, body.len(), wanted) {
                 Site::Gap(at) => {
                     if !may_add(wanted, amount) {
                         return crate::refuse(10);

@@ -5,6 +5,7 @@ use format::Edited;
 use format::Keyed;
 use format::SharedRef;
 use format::Taken;
+use inline_refs::OwnPlace;
 use inline_refs::Wanted;
 ghost use lib.ListN.{length};
 ghost use Rattle.format.specs.Questions.{Answered, AnsweredTaken};
@@ -14,28 +15,29 @@ ghost use Rattle.backref.specs.Adds.{addKeyed};
 pub fn drop_inline_tree_ref(item_type: u8, body: &[u8], tree: u64, out: &mut [u8]) -> Edited
     ensures { λ r. ⌜ Answered (heldBody (length (now (out .entry))) (dropInlineTreeRef «item_type» (now (body .entry)) (record { tree = tree }))) r (now (out .entry)) (now (out .exit)) ⌝ }
 {
-    let plan = crate::plans::plan_drop_tree(item_type, body, BlockRef { tree });
+    let plan = crate::plan_drop(item_type, body, Wanted::Block(BlockRef { tree }));
     crate::write_plan(body, plan, out)
 }
 
 pub fn drop_inline_data_ref(item_type: u8, body: &[u8], name: DataRef, out: &mut [u8]) -> Edited
     ensures { λ r. ⌜ Answered (heldBody (length (now (out .entry))) (dropInlineDataRef «item_type» (now (body .entry)) name)) r (now (out .entry)) (now (out .exit)) ⌝ }
 {
-    let plan = crate::plans::plan_drop_data(item_type, body, name);
+    let plan = crate::plan_drop(item_type, body, Wanted::Data(name));
     crate::write_plan(body, plan, out)
 }
 
 pub fn add_inline_tree_ref(item_type: u8, body: &[u8], tree: u64, out: &mut [u8]) -> Edited
     ensures { λ r. ⌜ Answered (heldBody (length (now (out .entry))) (addInlineTreeRef «item_type» (now (body .entry)) (record { tree = tree }))) r (now (out .entry)) (now (out .exit)) ⌝ }
 {
-    let plan = crate::plans::plan_add_tree(item_type, body, BlockRef { tree });
+    let wanted = Wanted::Block(BlockRef { tree });
+    let plan = crate::plan_add(item_type, body, wanted, OwnPlace::Unknown, 1);
     crate::write_plan(body, plan, out)
 }
 
 pub fn add_inline_data_ref(item_type: u8, body: &[u8], name: DataRef, out: &mut [u8]) -> Edited
     ensures { λ r. ⌜ Answered (heldBody (length (now (out .entry))) (addInlineDataRef «item_type» (now (body .entry)) name)) r (now (out .entry)) (now (out .exit)) ⌝ }
 {
-    let plan = crate::plans::plan_add_data(item_type, body, name, 1);
+    let plan = crate::plan_add(item_type, body, Wanted::Data(name), OwnPlace::Unknown, 1);
     crate::write_plan(body, plan, out)
 }
 

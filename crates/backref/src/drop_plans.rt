@@ -4,14 +4,12 @@ use crate::Plan;
 use inline_refs::Found;
 use inline_refs::Scan;
 use inline_refs::Wanted;
-ghost use Rattle.format.specs.Bodies.{dropInline};
-ghost use Rattle.inline_refs.specs.Scans.{kindOf, fieldsOf};
 ghost use Rattle.backref.specs.Plans.{Planned, PlannedTaken};
-ghost use Rattle.backref.specs.Takes.{takeInline};
+ghost use Rattle.backref.specs.Takes.{dropNamed, takeInline};
 
 // One count off the wanted reference, and off the total. Place 0: no gap is looked for, so no hash is computed.
-pub fn plan_drop_inline(item_type: u8, body: &[u8], wanted: Wanted) -> Plan
-    ensures { λ r. ⌜ Planned r (now (body .entry)) (dropInline «item_type» (now (body .entry)) (kindOf wanted) (fieldsOf wanted)) ⌝ }
+pub fn plan_drop(item_type: u8, body: &[u8], wanted: Wanted) -> Plan
+    ensures { λ r. ⌜ Planned r (now (body .entry)) (dropNamed «item_type» (now (body .entry)) wanted) ⌝ }
 {
     match inline_refs::scan_body(item_type, body, wanted, 0) {
         Scan::Fault(number) => crate::refuse(number),
@@ -40,7 +38,7 @@ pub fn plan_drop_inline(item_type: u8, body: &[u8], wanted: Wanted) -> Plan
 }
 
 // The wanted reference goes whole, and the total stays.
-pub fn plan_take_inline(item_type: u8, body: &[u8], wanted: Wanted) -> Plan
+pub fn plan_take(item_type: u8, body: &[u8], wanted: Wanted) -> Plan
     ensures { λ r. ⌜ PlannedTaken r (now (body .entry)) (takeInline «item_type» (now (body .entry)) wanted) ⌝ }
 {
     match inline_refs::scan_body(item_type, body, wanted, 0) {

@@ -1,6 +1,6 @@
 -- Laws of the scan: what is noted at one reference, a step of the walk, and where the references of a body are read.
 -- Assumes nothing.
-use mathlib.Core.Path.{_≡_, refl, sym, ap, subst, _∙_}
+use mathlib.Core.Path.{_≡_, refl, sym, ap, ap₂, subst, _∙_}
 use mathlib.Core.Bool.{Bool, true, false, _||_}
 use mathlib.Core.List.{List, [], _∷_}
 use Prim.Native.Nat.{ℕ, _+_, _/_, _%_, _≤_, _<_}
@@ -13,10 +13,13 @@ use Rattle.fields.proofs.Lists.{by-test}
 use Rattle.fields.specs.Numbers.{le}
 use Rattle.fields.specs.Parts.{part}
 use Rattle.format.specs.Questions.{Answer, refused, absent, remove, accepted, ask, bind}
-use Rattle.format.specs.References.{payloadLength, Ref, refAt, readRefs, flagsOf, startOf, Body, readBody}
+use Rattle.format.specs.References.{payloadLength, Ref, refAt, readRefs, flagsOf, startOf, placeOf, Body, readBody}
 use Rattle.format.specs.Bodies.{onBody, bodyFits, stops}
 use Rattle.format.proofs.Refs.{readRefs-enough}
 use Rattle.inline_refs.specs.declared.wanted.Wanted.{Wanted}
+use Rattle.inline_refs.specs.declared.wanted.Placed.{Placed}
+use Rattle.inline_refs.specs.declared.wanted.OwnPlace.{OwnPlace}
+use Rattle.inline_refs.specs.declared.wanted.OwnPlace.the-variants.{Known}
 use Rattle.inline_refs.specs.declared.scan.Seen.{Seen}
 use Rattle.inline_refs.specs.declared.scan.Seen.the-variants.{Open, Gap, Hit, Late}
 use Rattle.inline_refs.specs.declared.scan.Scan.{Scan}
@@ -26,7 +29,7 @@ use Rattle.inline_refs.specs.declared.scan.Rest.the-variants.{Clean, Fau
 use Rattle.inline_refs.specs.declared.start.Start.{Start}
 use Rattle.inline_refs.specs.declared.start.Start.the-variants.{From, Refused as Shut}
 use Rattle.inline_refs.specs.Steps.{readFrom, openOf}
-use Rattle.inline_refs.specs.Scans.{kindOf, isWanted, sizeOf, noted, walk, scanOf, restOf, refsIn}
+use Rattle.inline_refs.specs.Scans.{kindOf, fieldsOf, PlacedFor, KnownFor, isWanted, sizeOf, noted, walk, scanOf, restOf, refsIn}
 use Rattle.inline_refs.proofs.Steps.{At}
 
 -- ---- what is noted
@@ -228,3 +231,24 @@ opened type s =
 
 pub opens : (type : ℕ) (s : List ℕ) (r : Start) → r ≡ openOf type s → Opened type s r
 opens type s r e = subst (Opened type s) (sym e) (opened type s)
+
+-- a scan from where the references start is the scan of the body
+module _ (type : ℕ) (s : List ℕ) (w : Wanted) (place : ℕ) where
+  pub scan-opened : (start : ℕ) {scan : Scan} → From start ≡ openOf type s → scan ≡ scanOf w place start (Open false) (readFrom s start)
+      → scan ≡ scanOf w place (startOf type s) (Open false) (refsIn type s)
+  scan-opened start o e =
+      let w₁ = opens type s _ o in
+      e ∙ ap₂ (λ (at : ℕ) (x : Answer (List Ref)). scanOf w place at (Open false) x) (w₁ .at) (sym (w₁ .reads))
+
+  pub scan-shut : (n : ℕ) → Shut n ≡ openOf type s → Fault n ≡ scanOf w place (startOf type s) (Open false) (refsIn type s)
+  scan-shut n o = scan-fault w place _ n _ _ (opens type s _ o)
+
+-- ---- a name's own place
+
+-- a scan by a place that is the name's own
+pub by-place : (w : Wanted) (placed : Placed) (start : ℕ) (x : Answer (List Ref)) {scan : Scan} → PlacedFor w placed
+    → scan ≡ scanOf w (placed .place) start (Open false) x → scan ≡ scanOf w (placeOf (kindOf w) (fieldsOf w)) start (Open false) x
+by-place w placed start x h e = e ∙ ap (λ (place : ℕ). scanOf w place start (Open false) x) (h .0)
+
+pub known-placed : (w : Wanted) {known : OwnPlace} {placed : Placed} → KnownFor w known → known ≡ Known placed → PlacedFor w placed
+known-placed w h e = subst (KnownFor w) e h

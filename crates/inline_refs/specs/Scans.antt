@@ -1,13 +1,18 @@
 -- The one scan over the references of a body: what it notes on the way, and what it hands back. Assumes nothing.
+use mathlib.Core.Path.{_≡_}
 use mathlib.Core.Bool.{Bool, _||_, cond}
 use mathlib.Core.List.{List, [], _∷_}
 use Prim.Native.Nat.{ℕ, _+_}
 use lib.Dec.{eqb}
 use Rattle.format.specs.Questions.{Answer, refused, absent, remove, accepted}
-use Rattle.format.specs.References.{payloadLength, Ref}
+use Rattle.extent_write.specs.Runs.{Fits}
+use Rattle.format.specs.References.{payloadLength, placeOf, Ref}
 use Rattle.format.specs.Bodies.{onBody, named, one, triple, stops}
 use Rattle.inline_refs.specs.declared.wanted.Wanted.{Wanted}
 use Rattle.inline_refs.specs.declared.wanted.Wanted.the-variants.{Block, Data, SharedBlock, SharedData}
+use Rattle.inline_refs.specs.declared.wanted.Placed.{Placed}
+use Rattle.inline_refs.specs.declared.wanted.OwnPlace.{OwnPlace}
+use Rattle.inline_refs.specs.declared.wanted.OwnPlace.the-variants.{Known, Unknown}
 use Rattle.inline_refs.specs.declared.scan.Seen.{Seen}
 use Rattle.inline_refs.specs.declared.scan.Seen.the-variants.{Open, Gap, Hit, Late}
 use Rattle.inline_refs.specs.declared.scan.Scan.{Scan}
@@ -33,6 +38,14 @@ treeOf (Block name) = 0
 treeOf (Data name) = name .tree
 treeOf (SharedBlock parent) = 0
 treeOf (SharedData parent) = 0
+
+-- a name's own place, with a run over a tree
+abbrev pub PlacedFor : Wanted → Placed → Type 0
+PlacedFor wanted placed = (placed .place ≡ placeOf (kindOf wanted) (fieldsOf wanted)) × Fits (placed .own)
+
+abbrev pub KnownFor : Wanted → OwnPlace → Type 0
+KnownFor wanted (Known placed) = PlacedFor wanted placed
+KnownFor wanted Unknown = Unit {0}
 
 -- the wanted reference
 abbrev pub isWanted : Wanted → Ref → Bool

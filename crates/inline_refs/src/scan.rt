@@ -2,6 +2,7 @@
 use crate::start::Start;
 use crate::step::Cursor;
 use crate::step::Step;
+use crate::wanted::OwnPlace;
 use crate::wanted::Wanted;
 use extent_write::TreeRun;
 ghost use mathlib.Core.Path.{_≡_};
@@ -12,7 +13,7 @@ ghost use lib.ListN.{length, drop};
 ghost use Rattle.extent_write.specs.Runs.{Fits};
 ghost use Rattle.format.specs.References.{kinds, known, payloadLength, countPosition, refAt, startOf, placeOf};
 ghost use Rattle.inline_refs.specs.Steps.{readFrom};
-ghost use Rattle.inline_refs.specs.Scans.{kindOf, fieldsOf, scanOf, restOf, refsIn};
+ghost use Rattle.inline_refs.specs.Scans.{kindOf, fieldsOf, KnownFor, scanOf, restOf, refsIn};
 
 // What a scan has noted.
 pub enum Seen {
@@ -206,9 +207,8 @@ fn scan_placed(rows: &[[u8; 3]; 5], body: &[u8], start: usize, wanted: Wanted) -
     requires { ⌜ now rows ≡ kinds ⌝ }
     ensures { λ r. ⌜ r ≡ scanOf wanted (placeOf (kindOf wanted) (fieldsOf wanted)) start (Seen.Open false) (readFrom (now (body .entry)) start) ⌝ }
 {
-    let own = crate::wanted::run_of(wanted);
-    let place = crate::wanted::place_with(wanted, own);
-    scan_from(rows, body, start, wanted, place, own)
+    let placed = crate::wanted::place_of(wanted);
+    scan_from(rows, body, start, wanted, placed.place, placed.own)
 }
 
 // The same. The first reference is looked at before a place is asked for, which may cost a hash: where a count is raised again,
@@ -252,13 +252,19 @@ pub fn scan_body(item_type: u8, body: &[u8], wanted: Wanted, place: u64) -> Scan
 }
 
 // The same for a reference that is to be added, by its own place.
-pub fn scan_to_add(item_type: u8, body: &[u8], wanted: Wanted) -> Scan
+pub fn scan_to_add(item_type: u8, body: &[u8], wanted: Wanted, known: OwnPlace) -> Scan
+    requires { ⌜ KnownFor wanted known ⌝ }
     ensures { λ r. ⌜ r ≡ scanOf wanted (placeOf (kindOf wanted) (fieldsOf wanted)) (startOf «item_type» (now (body .entry))) (Seen.Open false) (refsIn «item_type» (now (body .entry))) ⌝ }
 {
     match crate::start::open_body(item_type, body) {
         Start::From(start) => {
             let rows = crate::kinds::rows();
-            scan_first(&rows, body, start, wanted)
+            match known {
+                OwnPlace::Known(placed) => {
+                    scan_from(&rows, body, start, wanted, placed.place, placed.own)
+                }
+                OwnPlace::Unknown => scan_first(&rows, body, start, wanted),
+            }
         }
         Start::Refused(number) => Scan::Fault(number),
     }

@@ -12,7 +12,7 @@ ghost use Rattle.format.specs.Bodies.{named, stops, triple};
 ghost use Rattle.extent_write.specs.Runs.{Fits};
 ghost use Rattle.fields.specs.Lists.{same};
 ghost use Rattle.fields.specs.Numbers.{words};
-ghost use Rattle.inline_refs.specs.Scans.{kindOf, fieldsOf, treeOf};
+ghost use Rattle.inline_refs.specs.Scans.{kindOf, fieldsOf, treeOf, PlacedFor};
 
 // The name of the reference that is looked for.
 pub enum Wanted {
@@ -97,7 +97,7 @@ pub fn place_below(body: &[u8], kind: u8, start: usize, own: TreeRun, limit: u64
 }
 
 // The run over the wanted one's own tree. Only a data reference has hashes compared with its own.
-pub fn run_of(wanted: Wanted) -> TreeRun
+fn run_of(wanted: Wanted) -> TreeRun
     ensures { λ r. ⌜ (r .tree ≡ treeOf wanted) × Fits r ⌝ }
 {
     match wanted {
@@ -109,7 +109,7 @@ pub fn run_of(wanted: Wanted) -> TreeRun
 }
 
 // What the wanted reference is ordered by, from the run over its own tree.
-pub fn place_with(wanted: Wanted, own: TreeRun) -> u64
+fn place_with(wanted: Wanted, own: TreeRun) -> u64
     requires { ⌜ (own .tree ≡ treeOf wanted) × Fits own ⌝ }
     ensures { λ r. ⌜ r ≡ placeOf (kindOf wanted) (fieldsOf wanted) ⌝ }
 {
@@ -121,11 +121,26 @@ pub fn place_with(wanted: Wanted, own: TreeRun) -> u64
     }
 }
 
-// The same where no run is at hand.
-pub fn own_place(wanted: Wanted) -> u64
-    ensures { λ r. ⌜ r ≡ placeOf (kindOf wanted) (fieldsOf wanted) ⌝ }
+// A name's own place, with the run over its own tree.
+pub struct Placed {
+    pub place: u64,
+    pub own: TreeRun,
+}
+
+pub fn place_of(wanted: Wanted) -> Placed
+    ensures { λ r. ⌜ PlacedFor wanted r ⌝ }
 {
-    place_with(wanted, run_of(wanted))
+    let own = run_of(wanted);
+    Placed {
+        place: place_with(wanted, own),
+        own,
+    }
+}
+
+// Whether a caller has the place of a name. It may cost a hash, so it is not asked for before it is needed.
+pub enum OwnPlace {
+    Known(Placed),
+    Unknown,
 }
 
 // Whether a new reference of kind `wanted` with a place goes before this one. Nothing has a place below 0, so that place

@@ -1,5 +1,5 @@
 -- A reference added to the record of an extent: from the record's place and the planned body to the change. Assumes nothing.
-use mathlib.Core.Path.{_≡_, refl, sym, ap, _∙_, subst}
+use mathlib.Core.Path.{_≡_, refl, sym, ap, _∙_}
 use mathlib.Core.Bool.{Bool, true, false, _||_}
 use mathlib.Core.List.{List}
 use Prim.Native.Nat.{ℕ, zero, suc, _+_, _-_}
@@ -7,14 +7,14 @@ use native.Mathlib.Omega.{arith}
 use lib.Dec.{leb, T}
 use lib.ListN.{length}
 use Rattle.fields.specs.Lists.{all, Cut}
+use borrow.Author.Tests.{ne-eqb}
+use Rattle.format.specs.declared.Key.{Key}
 use Rattle.format.specs.declared.Keyed.{Keyed}
 use Rattle.format.specs.declared.Keyed.the-variants.{Block as KeyedBlock, Data as KeyedData}
-use Rattle.format.specs.declared.BlockRef.{BlockRef}
 use Rattle.format.specs.declared.SharedRef.{SharedRef}
-use Rattle.format.specs.declared.DataRef.{DataRef}
 use Rattle.format.specs.declared.Edited.{Edited}
 use Rattle.format.specs.Questions.{Answer, refused, absent, remove, accepted, ask, bind, also, Answered}
-use Rattle.format.specs.Bodies.{addInlineTreeRef, addInlineData, addInlineShared}
+use Rattle.format.specs.Bodies.{addInlineTreeRef}
 use Rattle.format.specs.Items.{Item, heldSheet, putBack}
 use Rattle.format.specs.Apply.{inlineLimit, keyedBody, applyKeyedAdd, sharedBody, applySharedAdd}
 use Rattle.format.specs.Names.{Name}
@@ -26,9 +26,9 @@ use Rattle.item_list.specs.Steps.{itemsOf}
 use Rattle.backref.specs.declared.plan.Plan.{Plan}
 use Rattle.backref.specs.declared.plan.Outcome.the-variants.{Refused}
 use Rattle.backref.specs.Plans.{planAnswer, Planned}
+use Rattle.backref.specs.Adds.{sharedRef, addInline}
 use Rattle.backref.proofs.Outcomes.{plan-refused}
 use Rattle.record_edit.specs.Records.{dataOf, heldEdit, nothing, editedSheet}
-use Rattle.transaction.specs.Drops.{sharedRef}
 use Rattle.transaction.specs.Keyed.{limitFor}
 use Rattle.transaction.proofs.KeyedAdditions.{either}
 use Rattle.ledger.specs.Known.{nameIn}
@@ -44,34 +44,14 @@ use Rattle.transaction.proofs.Records.{put-limited}
 
 -- ---- the body
 
-module _ (i : Item) (w : Wanted) (amount : ℕ) (plan : Plan) where
-  pub body-block : (name : BlockRef) → w ≡ Block name → Planned plan (i .bytes) (addInlineTreeRef (i .key .kind) (i .bytes) name)
-      → Planned plan (i .bytes) (addedBody i w amount)
+module _ (i : Item) (w : Wanted) (amount : ℕ) (plan : Plan) (b : Bool) (u : b ≡ unread w amount) where
+  pub body-unread : b ≡ true → plan .outcome ≡ Refused 10 → Planned plan (i .bytes) (addedBody i w amount)
   unfolding addedBody
-  body-block name e h = rw e h
+  body-unread t h = plan-refused plan (i .bytes) (addedBody i w amount) 10 h (rw (← u, t) refl)
 
-  pub body-zero : (name : DataRef) → w ≡ Data name → amount ≡ 0 → plan .outcome ≡ Refused 10 → Planned plan (i .bytes) (addedBody i w amount)
+  pub body-read : b ≡ false → Planned plan (i .bytes) (addInline (i .key .kind) (i .bytes) w amount) → Planned plan (i .bytes) (addedBody i w amount)
   unfolding addedBody
-  body-zero name e z h = plan-refused plan (i .bytes) (addedBody i w amount) 10 h (rw (e, z) refl)
-
-  pub body-data : (name : DataRef) → w ≡ Data name → (amount ≡ 0 → ⊥) → Planned plan (i .bytes) (addInlineData (i .key .kind) (i .bytes) name amount)
-      → Planned plan (i .bytes) (addedBody i w amount)
-  unfolding addedBody
-  body-data name e n h = rw e (subst (Planned plan (i .bytes)) (go amount n) h)
-    where
-      go : (k : ℕ) → (k ≡ 0 → ⊥) → addInlineData (i .key .kind) (i .bytes) name k ≡ addedBody i (Data name) k
-      go zero n = absurd (n refl)
-      go (suc k) n = refl
-
-  pub body-shared-block : (parent : ℕ) → w ≡ SharedBlock parent → Planned plan (i .bytes) (addInlineShared (i .key .kind) (i .bytes) (sharedRef 182 parent) amount)
-      → Planned plan (i .bytes) (addedBody i w amount)
-  unfolding addedBody
-  body-shared-block parent e h = rw e h
-
-  pub body-shared-data : (parent : ℕ) → w ≡ SharedData parent → Planned plan (i .bytes) (addInlineShared (i .key .kind) (i .bytes) (sharedRef 184 parent) amount)
-      → Planned plan (i .bytes) (addedBody i w amount)
-  unfolding addedBody
-  body-shared-data parent e h = rw e h
+  body-read f h = rw (← u, f) h
 
 -- ---- the record
 
@@ -139,15 +119,16 @@ module _ {s : List ℕ} {extent : ℕ} {target : RecordAt} (there : StandsFor s 
       → changed nodesize (addChange extent w amount) (itemsOf s)
       ≡ bind (also (all (notItsOwn (nameIn extent w)) (itemsOf s)) 9 (also (leb 1 amount) 10 (addedBody hit w amount)))
       (λ d. ask (within nodesize w d) 17 (accepted (putBack c d)))
-  unfolding changed addChange addedBody keyedBody sharedBody kindOf fieldsOf grownOnly limitFor also
+  unfolding changed addChange addedBody addInlineTreeRef keyedBody sharedBody kindOf fieldsOf grownOnly limitFor also
   add-is nodesize (Block name) amount h =
       let e : amount ≡ 1 = h refl in
       keyed-is nodesize 1 (nameIn extent (Block name)) (KeyedBlock name)
       ∙ within-grown nodesize _
-      ∙ ap (λ (k : ℕ). bind (also (all (notItsOwn (nameIn extent (Block name))) (itemsOf s)) 9 (also (leb 1 k) 10 (addedBody hit (Block name) 1)))
+      ∙ ap (λ (k : ℕ). bind (also (all (notItsOwn (nameIn extent (Block name))) (itemsOf s)) 9 (also (leb 1 k) 10 (addedBody hit (Block name) k)))
       (λ d. ask (within nodesize (Block name) d) 17 (accepted (putBack c d)))) (sym e)
   add-is nodesize (Data name) zero h = keyed-is nodesize 0 (nameIn extent (Data name)) (KeyedData name) ∙ within-grown nodesize _
-  add-is nodesize (Data name) (suc amount) h = keyed-is nodesize (suc amount) (nameIn extent (Data name)) (KeyedData name) ∙ within-grown nodesize _
+  add-is nodesize (Data name) (suc amount) h =
+      rw (ne-eqb (suc amount) 0 (λ z. absurd (omega arith))) (keyed-is nodesize (suc amount) (nameIn extent (Data name)) (KeyedData name) ∙ within-grown nodesize _)
   add-is nodesize (SharedBlock parent) amount h = shared-is nodesize amount (nameIn extent (SharedBlock parent)) (record { kind = 182; parent = parent })
   add-is nodesize (SharedData parent) amount h = shared-is nodesize amount (nameIn extent (SharedData parent)) (record { kind = 184; parent = parent })
 

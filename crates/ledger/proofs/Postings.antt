@@ -27,7 +27,8 @@ use Rattle.inline_refs.specs.declared.wanted.Wanted.the-variants.{Block, Data, 
 use Rattle.inline_refs.specs.Scans.{kindOf}
 use Rattle.item_list.specs.Steps.{itemsOf}
 use Rattle.item_list.proofs.ItemWrites.{answered-no}
-use Rattle.transaction.specs.Drops.{sharedRef, dropRef}
+use Rattle.backref.specs.Adds.{sharedRef}
+use Rattle.transaction.specs.Drops.{dropRef}
 use Rattle.ledger.specs.Adding.{addChange}
 use Rattle.ledger.specs.Posting.{SharedWanted, unbalancedOr}
 use Rattle.record_edit.specs.declared.RecordAt.{RecordAt}

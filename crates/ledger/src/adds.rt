@@ -4,7 +4,8 @@ use crate::owned;
 use backref::Plan;
 use format::Edited;
 use format::Key;
-use format::SharedRef;
+use inline_refs::OwnPlace;
+use inline_refs::Placed;
 use inline_refs::Wanted;
 use record_edit::RecordAt;
 ghost use mathlib.Core.Path.{_≡_};
@@ -12,36 +13,37 @@ ghost use lib.Dec.{T};
 ghost use lib.ListN.{length};
 ghost use Rattle.fields.specs.Lists.{all};
 ghost use Rattle.format.specs.Questions.{Answered};
+ghost use Rattle.format.specs.References.{placeOf};
 ghost use Rattle.format.specs.Items.{heldSheet};
 ghost use Rattle.format.specs.Names.{balanced};
 ghost use Rattle.format.specs.Ledger.{notItsOwn, changed};
-ghost use Rattle.inline_refs.specs.Scans.{kindOf};
+ghost use Rattle.inline_refs.specs.Scans.{kindOf, fieldsOf, PlacedFor};
 ghost use Rattle.item_list.specs.Steps.{itemsOf};
 ghost use Rattle.backref.specs.Plans.{Planned};
 ghost use Rattle.record_edit.specs.Stands.{StandsFor};
 ghost use Rattle.ledger.specs.Known.{nameIn};
 ghost use Rattle.ledger.specs.Asked.{AskedAdd};
-ghost use Rattle.ledger.specs.Adding.{addChange, addedBody, grownOnly};
+ghost use Rattle.ledger.specs.Adding.{addChange, unread, addedBody, grownOnly};
+
+// Amount 0 of a data reference leaves the body unread.
+fn is_unread(wanted: Wanted, amount: u32) -> bool
+    ensures { λ r. ⌜ r ≡ unread wanted amount ⌝ }
+{
+    if inline_refs::kind_of(wanted) == 178 {
+        return amount == 0;
+    }
+    false
+}
 
 // The record's new body.
-fn plan_add(key: Key, body: &[u8], wanted: Wanted, amount: u32) -> Plan
+fn plan_add(key: Key, body: &[u8], wanted: Wanted, placed: Placed, amount: u32) -> Plan
+    requires { ⌜ PlacedFor wanted placed ⌝ }
     ensures { λ r. ⌜ Planned r (now (body .entry)) (addedBody (record { key = key; bytes = now (body .entry) }) wanted amount) ⌝ }
 {
-    match wanted {
-        Wanted::Block(name) => backref::plan_add_tree(key.kind, body, name),
-        Wanted::Data(name) => {
-            if amount == 0 {
-                return backref::refuse(10);
-            }
-            backref::plan_add_data(key.kind, body, name, amount)
-        }
-        Wanted::SharedBlock(parent) => {
-            backref::plan_add_shared(key.kind, body, SharedRef { kind: 182, parent }, amount)
-        }
-        Wanted::SharedData(parent) => {
-            backref::plan_add_shared(key.kind, body, SharedRef { kind: 184, parent }, amount)
-        }
+    if is_unread(wanted, amount) {
+        return backref::refuse(10);
     }
+    backref::plan_add(key.kind, body, wanted, OwnPlace::Known(placed), amount)
 }
 
 // Questions 9 and 10 of the added reference: no item of its own, and an amount above 0.
@@ -51,13 +53,15 @@ fn ask_add(
     target: RecordAt,
     extent: u64,
     wanted: Wanted,
+    place: u64,
     amount: u32,
 ) -> Plan
     requires { ⌜ StandsFor (now sheet) extent target ⌝ }
     requires { ⌜ T (balanced (itemsOf (now sheet))) ⌝ }
+    requires { ⌜ place ≡ placeOf (kindOf wanted) (fieldsOf wanted) ⌝ }
     ensures { λ r. ⌜ AskedAdd plan (all (notItsOwn (nameIn extent wanted)) (itemsOf (now (sheet .entry)))) amount r ⌝ }
 {
-    let none = owned::has_none(sheet, target, extent, wanted);
+    let none = owned::has_none(sheet, target, extent, wanted, place);
     let ten = also::plan_also(plan, 1 <= amount, 10);
     also::plan_also(ten, none, 9)
 }
@@ -91,8 +95,9 @@ pub fn add(
 {
     let start = target.start;
     let end = target.end;
-    let plan = plan_add(target.key, &sheet[start + 21..end], wanted, amount);
-    let asked = ask_add(plan, sheet, target, extent, wanted, amount);
+    let placed = inline_refs::place_of(wanted);
+    let plan = plan_add(target.key, &sheet[start + 21..end], wanted, placed, amount);
+    let asked = ask_add(plan, sheet, target, extent, wanted, placed.place, amount);
     let limit = transaction::limit_for(nodesize, end - (start + 21), grown_only(wanted));
     record_edit::put_record(sheet, target, asked, limit, out)
 }

@@ -10,8 +10,9 @@ ghost use lib.Dec.{T};
 ghost use lib.ListN.{length};
 ghost use Rattle.fields.specs.Lists.{all};
 ghost use Rattle.format.specs.Names.{balanced};
+ghost use Rattle.format.specs.References.{placeOf};
 ghost use Rattle.format.specs.Ledger.{notItsOwn};
-ghost use Rattle.inline_refs.specs.Scans.{kindOf};
+ghost use Rattle.inline_refs.specs.Scans.{kindOf, fieldsOf};
 ghost use Rattle.item_list.specs.Steps.{itemsOf};
 ghost use Rattle.record_edit.specs.Stands.{StandsFor};
 ghost use Rattle.ledger.specs.Known.{nameIn, ownAt};
@@ -30,15 +31,16 @@ fn is_own(wanted: Wanted, bytes: &[u8]) -> bool
 }
 
 // The search starts behind the record: the key of each of its references is above its own.
-pub fn has_none(sheet: &[u8], target: RecordAt, extent: u64, wanted: Wanted) -> bool
+pub fn has_none(sheet: &[u8], target: RecordAt, extent: u64, wanted: Wanted, place: u64) -> bool
     requires { ⌜ StandsFor (now sheet) extent target ⌝ }
     requires { ⌜ T (balanced (itemsOf (now sheet))) ⌝ }
+    requires { ⌜ place ≡ placeOf (kindOf wanted) (fieldsOf wanted) ⌝ }
     ensures { λ r. ⌜ r ≡ all (notItsOwn (nameIn extent wanted)) (itemsOf (now (sheet .entry))) ⌝ }
 {
     let key = Key {
         objectid: extent,
         kind: inline_refs::kind_of(wanted),
-        offset: inline_refs::own_place(wanted),
+        offset: place,
     };
     let sought = item_list::seek(sheet, target.end, key);
     match sought {

@@ -42,6 +42,8 @@ use Rattle.item_list.proofs.ItemWrites.{answered-no}
 use Rattle.backref.specs.declared.plan.Outcome.the-variants.{Absent}
 use Rattle.backref.specs.declared.plan.Plan.{Plan}
 use Rattle.backref.specs.Plans.{planAnswer, planTaken, Planned, PlannedTaken}
+use Rattle.backref.specs.Adds.{sharedRef}
+use Rattle.backref.specs.Takes.{dropNamed}
 use Rattle.backref.specs.Steps.{Reduces}
 use Rattle.backref.proofs.Reductions.{reduces-whole}
 use Rattle.backref.proofs.Takings.{taken-whole}
@@ -49,7 +51,7 @@ use Rattle.record_edit.specs.declared.RecordAt.{RecordAt}
 use Rattle.record_edit.specs.Records.{dataOf, editedSheet, heldRecord, nothing, heldEdit}
 use Rattle.record_edit.proofs.Held.{held-bind}
 use Rattle.transaction.specs.Edits.{gone, counts, heldPlan, heldAt}
-use Rattle.transaction.specs.Drops.{sharedRef, dropRef, InForm, takenWhole, droppedInline, loweredTotal, itemDrop, CountFits}
+use Rattle.transaction.specs.Drops.{dropRef, InForm, takenWhole, droppedInline, loweredTotal, itemDrop, CountFits}
 use Rattle.record_edit.proofs.Stands.{Stands}
 use Rattle.transaction.proofs.Turns.{is-absent, turns}
 use Rattle.transaction.proofs.Behind.{BehindAt, behind-at, behind-none}
@@ -84,13 +86,13 @@ four-long w item parent e f = subst (λ (x : Wanted). CountFits x item) e f
 
 module _ (w : Wanted) (p : Plan) (body : List ℕ) where
   module _ (type : ℕ) where
-    pub inline-block : (name : BlockRef) → w ≡ Block name → Planned p body (dropInlineTreeRef type body name) → Planned p body (droppedInline w type body)
+    pub inline-block : (name : BlockRef) → w ≡ Block name → Planned p body (dropNamed type body w) → Planned p body (droppedInline w type body)
     unfolding droppedInline
-    inline-block name e h = rw e h
+    inline-block name e h = rw e (subst (λ (x : Wanted). Planned p body (dropNamed type body x)) e h)
 
-    pub inline-data : (name : DataRef) → w ≡ Data name → Planned p body (dropInlineDataRef type body name) → Planned p body (droppedInline w type body)
+    pub inline-data : (name : DataRef) → w ≡ Data name → Planned p body (dropNamed type body w) → Planned p body (droppedInline w type body)
     unfolding droppedInline
-    inline-data name e h = rw e h
+    inline-data name e h = rw e (subst (λ (x : Wanted). Planned p body (dropNamed type body x)) e h)
 
     pub inline-shared-block : (parent : ℕ) → w ≡ SharedBlock parent → Planned p body (takenWhole type body (sharedRef 182 parent)) → Planned p body (droppedInline w type body)
     unfolding droppedInline

@@ -16,9 +16,7 @@ use Rattle.format.specs.Names.{good}
 use Rattle.format.specs.Ledger.{dropDataRef, dropSharedRef}
 use Rattle.inline_refs.specs.declared.wanted.Wanted.{Wanted}
 use Rattle.inline_refs.specs.declared.wanted.Wanted.the-variants.{Block, Data, SharedBlock, SharedData}
-
-abbrev pub sharedRef : ℕ → ℕ → SharedRef
-sharedRef kind parent = record { kind = kind; parent = parent }
+use Rattle.backref.specs.Adds.{sharedRef}
 
 -- the drop, without the own-flag
 unfoldable pub dropRef : Wanted → List Item → Cut Item → Answer (List Item)

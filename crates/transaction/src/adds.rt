@@ -5,6 +5,8 @@ use format::Edited;
 use format::Key;
 use format::Keyed;
 use format::SharedRef;
+use inline_refs::OwnPlace;
+use inline_refs::Wanted;
 use record_edit::FoundRecord;
 ghost use mathlib.Core.Path.{_≡_};
 ghost use mathlib.Core.Bool.{_&&_};
@@ -112,8 +114,12 @@ pub fn plan_keyed(key: Key, body: &[u8], keyed: Keyed, count: u32, as_item: bool
         return backref::plan_total(body, TotalChange::Raise(count as u64));
     }
     match keyed {
-        Keyed::Block(name) => backref::plan_add_tree(key.kind, body, name),
-        Keyed::Data(name) => backref::plan_add_data(key.kind, body, name, count),
+        Keyed::Block(name) => {
+            backref::plan_add(key.kind, body, Wanted::Block(name), OwnPlace::Unknown, 1)
+        }
+        Keyed::Data(name) => {
+            backref::plan_add(key.kind, body, Wanted::Data(name), OwnPlace::Unknown, count)
+        }
     }
 }
 

@@ -35,8 +35,8 @@ fn plan_inline(item_type: u8, body: &[u8], name: Wanted) -> Plan
     ensures { λ r. ⌜ Planned r (now (body .entry)) (droppedInline name «item_type» (now (body .entry))) ⌝ }
 {
     match name {
-        Wanted::Block(block) => backref::plan_drop_tree(item_type, body, block),
-        Wanted::Data(data) => backref::plan_drop_data(item_type, body, data),
+        Wanted::Block(_) => backref::plan_drop(item_type, body, name),
+        Wanted::Data(_) => backref::plan_drop(item_type, body, name),
         Wanted::SharedBlock(parent) => {
             plan_taken(item_type, body, SharedRef { kind: 182, parent })
         }

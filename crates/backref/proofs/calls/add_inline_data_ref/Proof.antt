@@ -8,7 +8,7 @@ returns : tie.Need-returns
 unfolding addInlineDataRef
 returns c =
     let write = c .before .before in
-    answered _ (write .before .before .plan-add-data .ensures) (write .write-plan .ensures)
+    answered _ (write .before .before .plan-add .ensures) (write .write-plan .ensures)
 
 pub add-inline-data-ref-spec : {M : Type 1} → statement M
 add-inline-data-ref-spec =

@@ -6,7 +6,7 @@ use Rattle.backref.proofs.calls.drop_inline_data_ref.Tie as tie
 returns : tie.Need-returns
 returns c =
     let write = c .before .before in
-    answered _ (write .before .before .plan-drop-data .ensures) (write .write-plan .ensures)
+    answered _ (write .before .before .plan-drop .ensures) (write .write-plan .ensures)
 
 pub drop-inline-data-ref-spec : {M : Type 1} → statement M
 drop-inline-data-ref-spec =

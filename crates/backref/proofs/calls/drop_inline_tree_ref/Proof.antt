@@ -6,7 +6,7 @@ use Rattle.backref.proofs.calls.drop_inline_tree_ref.Tie as tie
 returns : tie.Need-returns
 returns c =
     let write = c .before .before in
-    answered _ (write .before .before .plan-drop-tree .ensures) (write .write-plan .ensures)
+    answered _ (write .before .before .plan-drop .ensures) (write .write-plan .ensures)
 
 pub drop-inline-tree-ref-spec : {M : Type 1} → statement M
 drop-inline-tree-ref-spec =

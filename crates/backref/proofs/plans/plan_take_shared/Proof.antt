@@ -11,7 +11,7 @@ shared c κs = sym (c .before .shared-kind .ensures) ∙ c .if1 .taken
 returns : tie.Need-returns
 returns c =
     let wanted = c .before in
-    take-is _ _ _ _ _ (sym (wanted .before .before .shared-kind .ensures) ∙ wanted .before .if1 .taken) (wanted .wanted-of .ensures) (c .plan-take-inline .ensures)
+    take-is _ _ _ _ _ (sym (wanted .before .before .shared-kind .ensures) ∙ wanted .before .if1 .taken) (wanted .wanted-of .ensures) (c .plan-take .ensures)
 
 returns-2 : tie.Need-returns-2
 returns-2 c = take-other _ _ _ _ (sym (c .before .before .shared-kind .ensures) ∙ c .before .if1 .left) (c .refuse .ensures .0)

@@ -1,13 +1,6 @@
-use mathlib.Core.Path.{sym, ap₂, _∙_}
-use mathlib.Core.Bool.{false}
-use mathlib.Core.List.{List}
-use Prim.Native.Nat.{ℕ}
+use mathlib.Core.Path.{sym, _∙_}
 use denote.Ref.{now}
-use Rattle.format.specs.Questions.{Answer}
-use Rattle.format.specs.References.{Ref}
-use Rattle.inline_refs.specs.Scans.{scanOf}
-use Rattle.inline_refs.specs.declared.scan.Seen.the-variants.{Open}
-use Rattle.inline_refs.proofs.Notes.{opens, scan-fault}
+use Rattle.inline_refs.proofs.Notes.{scan-opened, scan-shut}
 use borrow.Author.Needs.{needs}
 use Rattle.inline_refs.proofs.scan.scan_body.Statement.{statement}
 use Rattle.inline_refs.proofs.scan.scan_body.Tie as tie
@@ -16,15 +9,14 @@ returns : tie.Need-returns
 returns c =
     let call = c .before .before .before .before .before .before .before in
     let a = call .before .before .args in
-    let w = opens (a .item-type) (now (a .body)) _ (sym (c .before .before .before .before .before .start .given .1) ∙ call .open-body .ensures) in
-    c .scan-from .ensures
-    ∙ ap₂ (λ (start : ℕ) (x : Answer (List Ref)). scanOf (a .wanted) (a .place) start (Open false) x) (w .at) (sym (w .reads))
+    scan-opened (a .item-type) (now (a .body)) (a .wanted) _ _ (sym (c .before .before .before .before .before .start .given .1) ∙ call .open-body .ensures)
+    (c .scan-from .ensures)
 
 returns-2 : tie.Need-returns-2
 returns-2 c =
     let call = c .before .before .before in
     let a = call .before .before .args in
-    scan-fault _ _ _ _ _ _ (opens (a .item-type) (now (a .body)) _ (sym (c .before .number .given .1) ∙ call .open-body .ensures))
+    scan-shut (a .item-type) (now (a .body)) _ _ _ (sym (c .before .number .given .1) ∙ call .open-body .ensures)
 
 pub scan-body-spec : {M : Type 1} → statement M
 scan-body-spec =

@@ -10,20 +10,20 @@ use Rattle.ledger.proofs.owned.has_none.Statement.{statement}
 use Rattle.ledger.proofs.owned.has_none.Tie as tie
 
 seek-requires : tie.Need-seek-requires
-seek-requires c κs = listed-behind (stands (areBytes-in (now (c .before .before .before .args .sheet)) (λ i. c .before .before .shared-slice-known .given i .fits)) (c .before .before .before .pre .0 .stands))
+seek-requires c κs = listed-behind (stands (areBytes-in (now (c .before .before .args .sheet)) (λ i. c .before .shared-slice-known .given i .fits)) (c .before .before .pre .0 .stands))
 
 returns : tie.Need-returns
 returns c =
-    let a = c .before .before .before .before .before .before .args in
-    no-seat (areBytes-in (now (a .sheet)) (λ i. c .before .before .before .before .before .shared-slice-known .given i .fits)) (c .before .before .before .before .before .before .pre .0) (c .before .before .before .before .before .before .pre .1) _ _ _
-    (c .before .before .before .before .kind-of .ensures) (c .before .before .before .own-place .ensures) _ (sym (c .before .before .seek .ensures) ∙ c .enum-told .given .1)
+    let a = c .before .before .before .before .before .args in
+    no-seat (areBytes-in (now (a .sheet)) (λ i. c .before .before .before .before .shared-slice-known .given i .fits)) (c .before .before .before .before .before .pre .0) (c .before .before .before .before .before .pre .1 .0) _ _ _
+    (c .before .before .before .kind-of .ensures) (c .before .before .before .before .before .pre .1 .1) _ (sym (c .before .before .seek .ensures) ∙ c .enum-told .given .1)
 
 -- an item stands at the key
-there : (c : tie.After-known-told) → Seat (now (c .before .before .before .before .before .before .before .args .sheet)) (c .before .before .before .before .before .before .before .args .extent) (c .before .before .before .before .before .before .before .args .wanted) (c .before .sought .given .0 .0) (c .before .sought .given .0 .1 .0)
+there : (c : tie.After-known-told) → Seat (now (c .before .before .before .before .before .before .args .sheet)) (c .before .before .before .before .before .before .args .extent) (c .before .before .before .before .before .before .args .wanted) (c .before .sought .given .0 .0) (c .before .sought .given .0 .1 .0)
 there c =
-    let a = c .before .before .before .before .before .before .before .args in
-    seat (areBytes-in (now (a .sheet)) (λ i. c .before .before .before .before .before .before .shared-slice-known .given i .fits)) (c .before .before .before .before .before .before .before .pre .0) (c .before .before .before .before .before .before .before .pre .1) _ _ _
-    (c .before .before .before .before .before .kind-of .ensures) (c .before .before .before .before .own-place .ensures) _ _ (sym (c .before .before .before .seek .ensures) ∙ c .before .sought .given .1)
+    let a = c .before .before .before .before .before .before .args in
+    seat (areBytes-in (now (a .sheet)) (λ i. c .before .before .before .before .before .shared-slice-known .given i .fits)) (c .before .before .before .before .before .before .pre .0) (c .before .before .before .before .before .before .pre .1 .0) _ _ _
+    (c .before .before .before .before .kind-of .ensures) (c .before .before .before .before .before .before .pre .1 .1) _ _ (sym (c .before .before .before .seek .ensures) ∙ c .before .sought .given .1)
 
 add-is-own : tie.Need-add-is-own
 add-is-own c = let p = there c .ordered in let q = there c .within in omega arith
@@ -46,4 +46,4 @@ returns-2 c = there (c .before .before) .own _ (c .is-own .ensures)
 pub has-none-spec : {M : Type 1} → statement M
 has-none-spec =
     tie.close
-    (tie.spec (λ c κs. search needs) (λ c κs. search needs) seek-requires (λ c. search needs) returns (λ c. search needs) add-is-own sub-is-own part-is-own-start part-is-own-end is-own-requires returns-2)
+    (tie.spec (λ c κs. search needs) seek-requires (λ c. search needs) returns (λ c. search needs) add-is-own sub-is-own part-is-own-start part-is-own-end is-own-requires returns-2)

@@ -1,4 +1,5 @@
 use Rattle.transaction.proofs.KeyedAdditions.{keyed-item, keyed-block, keyed-data}
+use Rattle.format.specs.Bodies.{addInlineTreeRef}
 use borrow.Author.Needs.{needs}
 use Rattle.transaction.proofs.adds.plan_keyed.Statement.{statement}
 use Rattle.transaction.proofs.adds.plan_keyed.Tie as tie
@@ -7,10 +8,11 @@ returns : tie.Need-returns
 returns c = keyed-item _ _ _ _ _ (c .before .if1 .taken) (c .plan-total .ensures .0)
 
 returns-2 : tie.Need-returns-2
-returns-2 c = keyed-block _ _ _ _ _ _ (c .before .before .before .before .if1 .left) (c .before .before .keyed .given .1) (c .plan-add-tree .ensures)
+unfolding addInlineTreeRef
+returns-2 c = keyed-block _ _ _ _ _ _ (c .before .before .before .before .if1 .left) (c .before .before .keyed .given .1) (c .plan-add .ensures)
 
 returns-3 : tie.Need-returns-3
-returns-3 c = keyed-data _ _ _ _ _ _ (c .before .before .before .before .if1 .left) (c .before .before .keyed2 .given .1) (c .plan-add-data .ensures)
+returns-3 c = keyed-data _ _ _ _ _ _ (c .before .before .before .before .if1 .left) (c .before .before .keyed2 .given .1) (c .plan-add2 .ensures)
 
 pub plan-keyed-spec : {M : Type 1} → statement M
 plan-keyed-spec =

@@ -7,8 +7,8 @@ use Rattle.backref.proofs.NewBytes.{wanted-small}
 use Rattle.backref.proofs.Sites.{scan-reads}
 use Rattle.backref.proofs.Takes.{drop-fault, drop-absent, drop-low, drop-gone, drop-kept}
 use borrow.Author.Needs.{needs}
-use Rattle.backref.proofs.drop_plans.plan_drop_inline.Statement.{statement}
-use Rattle.backref.proofs.drop_plans.plan_drop_inline.Tie as tie
+use Rattle.backref.proofs.drop_plans.plan_drop.Statement.{statement}
+use Rattle.backref.proofs.drop_plans.plan_drop.Tie as tie
 
 returns : tie.Need-returns
 returns c =
@@ -71,7 +71,7 @@ returns-5 c =
     (record { front = new .bytes-of .ensures .0; long = new .bytes-of .ensures .1 })
     (c .before .size-of .ensures) (wanted-small (a .wanted) _ (c .before .size-of .ensures)) (c .edit2 .ensures)
 
-pub plan-drop-inline-spec : {M : Type 1} → statement M
-plan-drop-inline-spec =
+pub plan-drop-spec : {M : Type 1} → statement M
+plan-drop-spec =
     tie.close
     (tie.spec (λ c κs. search needs) (λ c. search needs) (λ c κs. search needs) (λ c. search needs) (λ c κs. search needs) (λ c. search needs) (λ c. search needs) (λ c κs. search needs) returns get-u64-le-requires (λ c κs. search needs) returns-2 (λ c. search needs) (λ c κs. search needs) returns-3 (λ c. search needs) (λ c κs. search needs) (λ c κs. search needs) (λ c. search needs) (λ c κs. search needs) returns-4 returns-5)

@@ -8,8 +8,8 @@ use Rattle.backref.specs.Adds.{ownPlace}
 use Rattle.backref.proofs.Sites.{scan-reads}
 use Rattle.backref.proofs.Gives.{give-fault, give-ten, give-gap, give-nine, give-eleven, give-standing}
 use borrow.Author.Needs.{needs}
-use Rattle.backref.proofs.add_plans.plan_add_inline.Statement.{statement}
-use Rattle.backref.proofs.add_plans.plan_add_inline.Tie as tie
+use Rattle.backref.proofs.add_plans.plan_add.Statement.{statement}
+use Rattle.backref.proofs.add_plans.plan_add.Tie as tie
 
 get-u64-le-requires : tie.Need-get-u64-le-requires
 get-u64-le-requires c κs =
@@ -29,7 +29,7 @@ returns c =
     let a = scan .before .before .args in
     let r = scan-reads (a .item-type) (now (a .body)) (a .wanted) _ _ (sym (seen .seen .given .1) ∙ scan .scan-to-add .ensures) in
     let bytes = areBytes-in (now (a .body)) (λ i. scan .before .shared-slice-known .given i .fits) in
-    give-ten (a .item-type) (now (a .body)) (a .wanted) _ (a .amount) (a .by-scan) _ _ r bytes refl _ (sym (c .before .before .before .before .at .given .1) ∙ site .site-of .ensures)
+    give-ten (a .item-type) (now (a .body)) (a .wanted) _ (a .amount) _ _ r bytes refl _ (sym (c .before .before .before .before .at .given .1) ∙ site .site-of .ensures)
     (sym (c .before .before .may-add .ensures) ∙ not-true _ (c .before .if1 .taken)) (c .refuse2 .ensures .0)
 
 returns-2 : tie.Need-returns-2
@@ -42,7 +42,7 @@ returns-2 c =
     let a = scan .before .before .args in
     let r = scan-reads (a .item-type) (now (a .body)) (a .wanted) _ _ (sym (seen .seen .given .1) ∙ scan .scan-to-add .ensures) in
     let bytes = areBytes-in (now (a .body)) (λ i. scan .before .shared-slice-known .given i .fits) in
-    give-nine (a .item-type) (now (a .body)) (a .wanted) _ (a .amount) (a .by-scan) _ _ r bytes refl _ _ _ (sym (c .before .before .before .before .at2 .given .1) ∙ site .site-of .ensures)
+    give-nine (a .item-type) (now (a .body)) (a .wanted) _ (a .amount) _ _ r bytes refl _ _ _ (sym (c .before .before .before .before .at2 .given .1) ∙ site .site-of .ensures)
     (sym (c .before .before .counts .ensures) ∙ not-true _ (c .before .if2 .taken)) (c .refuse3 .ensures .0)
 
 returns-3 : tie.Need-returns-3
@@ -55,14 +55,14 @@ returns-3 c =
     let a = scan .before .before .args in
     let r = scan-reads (a .item-type) (now (a .body)) (a .wanted) _ _ (sym (seen .seen .given .1) ∙ scan .scan-to-add .ensures) in
     let bytes = areBytes-in (now (a .body)) (λ i. scan .before .shared-slice-known .given i .fits) in
-    give-eleven (a .item-type) (now (a .body)) (a .wanted) _ (a .amount) (a .by-scan) _ _ r bytes refl _ _ _ (sym (c .before .before .before .before .before .at2 .given .1) ∙ site .site-of .ensures)
+    give-eleven (a .item-type) (now (a .body)) (a .wanted) _ (a .amount) _ _ r bytes refl _ _ _ (sym (c .before .before .before .before .before .at2 .given .1) ∙ site .site-of .ensures)
     (sym (c .before .before .before .counts .ensures) ∙ not-false _ (c .before .before .if2 .left)) (c .before .if3 .taken) (c .refuse4 .ensures .0)
 
 returns-4 : tie.Need-returns-4
 returns-4 c =
     let scan = c .before .before .before .before in
     let a = scan .before .before .args in
-    give-fault (a .item-type) (now (a .body)) (a .wanted) _ (a .amount) _ (a .by-scan) _ (sym (c .before .before .number .given .1) ∙ scan .scan-to-add .ensures) (c .refuse .ensures .0)
+    give-fault (a .item-type) (now (a .body)) (a .wanted) _ (a .amount) _ _ (sym (c .before .before .number .given .1) ∙ scan .scan-to-add .ensures) (c .refuse .ensures .0)
 
 returns-5 : tie.Need-returns-5
 unfolding ownPlace
@@ -74,7 +74,7 @@ returns-5 c =
     let a = scan .before .before .args in
     let r = scan-reads (a .item-type) (now (a .body)) (a .wanted) _ _ (sym (seen .seen .given .1) ∙ scan .scan-to-add .ensures) in
     let bytes = areBytes-in (now (a .body)) (λ i. scan .before .shared-slice-known .given i .fits) in
-    give-gap (a .item-type) (now (a .body)) (a .wanted) _ (a .amount) (a .by-scan) _ _ r bytes refl _ (sym (c .before .before .before .before .at .given .1) ∙ site .site-of .ensures)
+    give-gap (a .item-type) (now (a .body)) (a .wanted) _ (a .amount) _ _ r bytes refl _ (sym (c .before .before .before .before .at .given .1) ∙ site .site-of .ensures)
     (sym (c .before .before .may-add .ensures) ∙ not-false _ (c .before .if1 .left)) (omega arith) _ (got .get-u64-le .ensures) (c .edit-raised .ensures)
 
 returns-6 : tie.Need-returns-6
@@ -87,10 +87,10 @@ returns-6 c =
     let a = scan .before .before .args in
     let r = scan-reads (a .item-type) (now (a .body)) (a .wanted) _ _ (sym (seen .seen .given .1) ∙ scan .scan-to-add .ensures) in
     let bytes = areBytes-in (now (a .body)) (λ i. scan .before .shared-slice-known .given i .fits) in
-    give-standing (a .item-type) (now (a .body)) (a .wanted) _ (a .amount) (a .by-scan) _ _ r bytes refl _ _ _ (sym (c .before .before .before .before .before .at2 .given .1) ∙ site .site-of .ensures)
+    give-standing (a .item-type) (now (a .body)) (a .wanted) _ (a .amount) _ _ r bytes refl _ _ _ (sym (c .before .before .before .before .before .at2 .given .1) ∙ site .site-of .ensures)
     (sym (c .before .before .before .counts .ensures) ∙ not-false _ (c .before .before .if2 .left)) (c .before .if3 .left) (omega arith) _ (got .get-u64-le .ensures) (c .edit-raised2 .ensures)
 
-pub plan-add-inline-spec : {M : Type 1} → statement M
-plan-add-inline-spec =
+pub plan-add-spec : {M : Type 1} → statement M
+plan-add-spec =
     tie.close
     (tie.spec (λ c κs. search needs) (λ c. search needs) (λ c κs. search needs) (λ c. search needs) get-u64-le-requires (λ c κs. search needs) (λ c. search needs) (λ c κs. search needs) (λ c κs. search needs) returns (λ c κs. search needs) (λ c. search needs) (λ c κs. search needs) (λ c κs. search needs) returns-2 (λ c. search needs) (λ c κs. search needs) returns-3 (λ c. search needs) (λ c κs. search needs) returns-4 returns-5 returns-6)

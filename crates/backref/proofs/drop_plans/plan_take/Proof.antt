@@ -6,8 +6,8 @@ use Rattle.format.proofs.Bodies.{read-long}
 use Rattle.backref.proofs.Sites.{scan-reads}
 use Rattle.backref.proofs.Taken.{take-fault, take-absent, take-gone}
 use borrow.Author.Needs.{needs}
-use Rattle.backref.proofs.drop_plans.plan_take_inline.Statement.{statement}
-use Rattle.backref.proofs.drop_plans.plan_take_inline.Tie as tie
+use Rattle.backref.proofs.drop_plans.plan_take.Statement.{statement}
+use Rattle.backref.proofs.drop_plans.plan_take.Tie as tie
 
 returns : tie.Need-returns
 returns c =
@@ -43,7 +43,7 @@ returns-3 c =
     take-gone (a .item-type) (now (a .body)) (a .wanted) _ _ r _ _ _ _ (sym (got .before .before .at .given .1) ∙ hit .hit-of .ensures)
     (got .get-u64-le .ensures) (areBytes-in (now (a .body)) (λ i. scan .before .shared-slice-known .given i .fits)) (c .edit .ensures)
 
-pub plan-take-inline-spec : {M : Type 1} → statement M
-plan-take-inline-spec =
+pub plan-take-spec : {M : Type 1} → statement M
+plan-take-spec =
     tie.close
     (tie.spec (λ c κs. search needs) (λ c. search needs) (λ c κs. search needs) (λ c. search needs) (λ c κs. search needs) (λ c. search needs) (λ c. search needs) (λ c κs. search needs) returns get-u64-le-requires (λ c κs. search needs) returns-2 returns-3)
