@@ -25,8 +25,8 @@ use Rattle.inline_refs.specs.declared.scan.Scan.the-variants.{Fault}
 use Rattle.inline_refs.specs.declared.site.Site.{Site}
 use Rattle.inline_refs.specs.declared.site.Site.the-variants.{Gap as NewAt, Standing}
 use Rattle.inline_refs.specs.Scans.{kindOf, fieldsOf, scanOf, refsIn}
-use Rattle.inline_refs.specs.Sites.{siteAnywhere, kinIn}
-use Rattle.inline_refs.proofs.Views.{View, anyKin}
+use Rattle.inline_refs.specs.Sites.{siteAnywhere, othersIn}
+use Rattle.inline_refs.proofs.Views.{View, anyOthers}
 use Rattle.inline_refs.proofs.Spots.{SpotView, spot-anywhere, spot-by-scan}
 use Rattle.backref.specs.declared.plan.Outcome.the-variants.{Refused}
 use Rattle.backref.specs.declared.plan.Plan.{Plan}
@@ -235,7 +235,7 @@ give-fault type d w place amount n plan e o =
 
 -- ---- keyed references
 
-all-not : (w : Wanted) (place : ℕ) (refs : List Ref) → all (λ s. not (eqb (s .kind) (kindOf w))) refs ≡ not (anyKin w place refs)
+all-not : (w : Wanted) (place : ℕ) (refs : List Ref) → all (λ s. not (eqb (s .kind) (kindOf w))) refs ≡ not (anyOthers w place refs)
 all-not w place [] = refl
 all-not w place (r ∷ refs) = both (eqb (r .kind) (kindOf w)) _ _ (all-not w place refs)
   where
@@ -243,17 +243,17 @@ all-not w place (r ∷ refs) = both (eqb (r .kind) (kindOf w)) _ _ (all-not w pl
     both true b c e = refl
     both false b c e = e
 
-kin-is : (w : Wanted) (place start end p : ℕ) (refs : List Ref) (seen : Seen) → View w place start refs false seen → NewAt p ≡ siteAnywhere end seen
-    → kinIn seen ≡ anyKin w place refs
-unfolding kinIn siteAnywhere
-kin-is w place start end p refs (Open kin) v e = v .2
-kin-is w place start end p refs (Gap at kin) v e = v .2
-kin-is w place start end p refs (Hit a b c) v e = let z : _≡_ {A = ℕ} 0 1 = cc in absurd (omega arith)
-kin-is w place start end p refs (Late g a b c) v e = let z : _≡_ {A = ℕ} 0 1 = cc in absurd (omega arith)
+others-are : (w : Wanted) (place start end p : ℕ) (refs : List Ref) (seen : Seen) → View w place start refs false seen → NewAt p ≡ siteAnywhere end seen
+    → othersIn seen ≡ anyOthers w place refs
+unfolding othersIn siteAnywhere
+others-are w place start end p refs (Open others) v e = v .2
+others-are w place start end p refs (Gap at others) v e = v .2
+others-are w place start end p refs (Hit a b c) v e = let z : _≡_ {A = ℕ} 0 1 = cc in absurd (omega arith)
+others-are w place start end p refs (Late g a b c) v e = let z : _≡_ {A = ℕ} 0 1 = cc in absurd (omega arith)
 
-ten : (c kin al : Bool) → al ≡ not kin → not c || not true || al ≡ not c || not kin
-ten true kin al e = e
-ten false kin al e = refl
+ten : (c others al : Bool) → al ≡ not others → not c || not true || al ≡ not c || not others
+ten true others al e = e
+ten false others al e = refl
 
 module _ (type : ℕ) (d : List ℕ) (w : Wanted) (place amount : ℕ) (plan : Plan) (seen : Seen) (r : ReadIn type d w place seen)
     (bytes : T (areBytes d)) where
@@ -279,17 +279,17 @@ module _ (type : ℕ) (d : List ℕ) (w : Wanted) (place amount : ℕ) (plan : P
   done : Spot → Answer (List ℕ)
   done spot = accepted (bodyBytes (bodyWith (r .from) (r .from .total) (addedAt (newRef w amount) spot)))
 
-  gap-no : (p : ℕ) (spot : Spot) → keySited (NewAt p) spot → not (counted (kindOf w)) || not (anyKin w place (r .from .refs)) ≡ false → keyAnswer spot ≡ refused 10
+  gap-no : (p : ℕ) (spot : Spot) → keySited (NewAt p) spot → not (counted (kindOf w)) || not (anyOthers w place (r .from .refs)) ≡ false → keyAnswer spot ≡ refused 10
   unfolding keyedAt ask isGap
-  gap-no p (gap front back) v h = simp (or-true, ten (counted (kindOf w)) (anyKin w place (r .from .refs)) (all (λ s. not (eqb (s .kind) (kindOf w))) (r .from .refs)) (all-not w place (r .from .refs)) ∙ h)
+  gap-no p (gap front back) v h = simp (or-true, ten (counted (kindOf w)) (anyOthers w place (r .from .refs)) (all (λ s. not (eqb (s .kind) (kindOf w))) (r .from .refs)) (all-not w place (r .from .refs)) ∙ h)
   gap-no p (standing c) v h = absurd v
 
-  gap-yes : (p : ℕ) (spot : Spot) → keySited (NewAt p) spot → not (counted (kindOf w)) || not (anyKin w place (r .from .refs)) ≡ true → amount < 4294967296
+  gap-yes : (p : ℕ) (spot : Spot) → keySited (NewAt p) spot → not (counted (kindOf w)) || not (anyOthers w place (r .from .refs)) ≡ true → amount < 4294967296
       → keyAnswer spot ≡ done spot
   unfolding keyedAt ask isGap standingWeight done
   gap-yes p (gap front back) v h k =
       let z : 0 + amount < 2 ^ 32 = omega arith in
-      simp (or-true, ten (counted (kindOf w)) (anyKin w place (r .from .refs)) (all (λ s. not (eqb (s .kind) (kindOf w))) (r .from .refs)) (all-not w place (r .from .refs)) ∙ h, lt-ltb _ _ z)
+      simp (or-true, ten (counted (kindOf w)) (anyOthers w place (r .from .refs)) (all (λ s. not (eqb (s .kind) (kindOf w))) (r .from .refs)) (all-not w place (r .from .refs)) ∙ h, lt-ltb _ _ z)
   gap-yes p (standing c) v h k = absurd v
 
   stands-nine : (p q x : ℕ) (spot : Spot) → keySited (Standing p q x) spot → counted (kindOf w) ≡ false → keyAnswer spot ≡ refused 9
@@ -316,18 +316,18 @@ module _ (type : ℕ) (d : List ℕ) (w : Wanted) (place amount : ℕ) (plan : P
   unfolding done
   done-at t e spot = ap (λ (n : ℕ). accepted (bodyBytes (bodyWith (r .from) n (addedAt (newRef w amount) spot)))) (total-read type d r t e)
 
-  module _ (p : ℕ) (i : NewAt p ≡ siteAnywhere (length d) seen) (kin : Bool) (k : kin ≡ kinIn seen) where
-    kin-here : kin ≡ anyKin w place (r .from .refs)
-    kin-here = k ∙ kin-is w place (startOf type d) (length d) p (r .from .refs) seen (r .view) i
+  module _ (p : ℕ) (i : NewAt p ≡ siteAnywhere (length d) seen) (others : Bool) (k : others ≡ othersIn seen) where
+    others-here : others ≡ anyOthers w place (r .from .refs)
+    others-here = k ∙ others-are w place (startOf type d) (length d) p (r .from .refs) seen (r .view) i
 
-    pub key-ten : not (counted (kindOf w)) || not kin ≡ false → plan .outcome ≡ Refused 10 → Planned plan d keyed
-    key-ten h o = plan-refused plan d keyed 10 o (keyed-is ∙ gap-no p keySpot (key-view (NewAt p) i) (rw kin-here at h))
+    pub key-ten : not (counted (kindOf w)) || not others ≡ false → plan .outcome ≡ Refused 10 → Planned plan d keyed
+    key-ten h o = plan-refused plan d keyed 10 o (keyed-is ∙ gap-no p keySpot (key-view (NewAt p) i) (rw others-here at h))
 
-    pub key-new : (t size : ℕ) (new : List ℕ) → not (counted (kindOf w)) || not kin ≡ true → amount < 4294967296 → t ≡ le (part 0 8 d)
+    pub key-new : (t size : ℕ) (new : List ℕ) → not (counted (kindOf w)) || not others ≡ true → amount < 4294967296 → t ≡ le (part 0 8 d)
         → size ≡ 1 + payloadLength (kindOf w) → Holds w amount new → plan ≡ planOf p p new size t 0 → Planned plan d keyed
     key-new t size new h small e s n o =
         put-new type d w amount plan (r .from) (r .fits) (r .read) bytes t size new s keyed p keySpot (key-view (NewAt p) i) n o
-        (keyed-is ∙ gap-yes p keySpot (key-view (NewAt p) i) (rw kin-here at h) small ∙ done-at t e keySpot)
+        (keyed-is ∙ gap-yes p keySpot (key-view (NewAt p) i) (rw others-here at h) small ∙ done-at t e keySpot)
 
   module _ (p q x : ℕ) (i : Standing p q x ≡ siteAnywhere (length d) seen) where
     pub key-nine : counted (kindOf w) ≡ false → plan .outcome ≡ Refused 9 → Planned plan d keyed

@@ -3,7 +3,6 @@ use mathlib.Core.Path.{_≡_, refl, sym, ap, ap₂, subst, _∙_}
 use mathlib.Core.List.{List, [], _∷_}
 use Prim.Native.Nat.{ℕ, zero, suc, _+_, _-_, _≤_}
 use native.Mathlib.Omega.{arith}
-use lib.Dec.{T}
 use lib.ListN.{length, drop, getD, getElem?}
 use Rattle.fields.specs.Numbers.{le}
 use Rattle.fields.specs.Parts.{part}
@@ -12,7 +11,7 @@ use Rattle.format.specs.declared.InlineRef.{InlineRef}
 use Rattle.format.specs.declared.Picked.{Picked}
 use Rattle.format.specs.declared.Picked.the-variants.{Ref as Reference, Refused as Unpicked}
 use Rattle.format.specs.Questions.{Answer, refused, absent, remove, accepted, bind, needed, codeOf, lentNumber, lentPart, pickedOf}
-use Rattle.format.specs.References.{known, payloadLength, fieldCount, Ref, refAt, startOf}
+use Rattle.format.specs.References.{payloadLength, fieldCount, Ref, refAt, startOf}
 use Rattle.format.specs.Bodies.{positions, refNumbered, inlineRef, inlinePayload}
 use Rattle.format.proofs.Answers.{accepted-inj, refused-not}
 use Rattle.format.proofs.Refs.{readRefs-decides}

@@ -10,13 +10,13 @@ use Rattle.fields.specs.Parts.{written}
 use Rattle.fields.proofs.Numbers.{length-words}
 use Rattle.fields.proofs.Parts.{stores-one, written-next, length-written}
 use Rattle.format.specs.declared.Edited.the-variants.{Written, Refused as Denied}
-use Rattle.format.specs.Questions.{Answer, refused, absent, remove, accepted, ask, bind, held, Answered}
+use Rattle.format.specs.Questions.{Answer, refused, accepted, ask, bind, held, Answered}
 use Rattle.format.specs.References.{counted, fieldCount, Ref, refAt, startOf}
 use Rattle.format.specs.Bodies.{positions, inlineRefs}
 use Rattle.format.specs.Sheets.{heldCuts}
 use Rattle.format.proofs.Answers.{accepted-inj, refused-not, bind-ok}
 use Rattle.format.proofs.Outputs.{answered-refused, answered-written}
-use Rattle.format.proofs.Refs.{Reads as Decided, read, strange, cutOff, readRefs-decides}
+use Rattle.format.proofs.Refs.{read, readRefs-decides}
 use Rattle.format.proofs.Rows.{payload-fields}
 use Rattle.inline_refs.specs.Steps.{readFrom}
 use Rattle.inline_refs.specs.Scans.{refsIn}

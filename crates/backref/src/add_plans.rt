@@ -76,11 +76,11 @@ pub fn plan_add(item_type: u8, body: &[u8], wanted: Wanted, known: OwnPlace, amo
 }
 
 // Question 10 of a keyed reference: no other one of its kind stands, if the kind has a count.
-fn may_key(wanted: Wanted, kin: bool) -> bool
-    ensures { λ r. ⌜ r ≡ not (counted (kindOf wanted)) || not kin ⌝ }
+fn may_key(wanted: Wanted, others: bool) -> bool
+    ensures { λ r. ⌜ r ≡ not (counted (kindOf wanted)) || not others ⌝ }
 {
     if crate::new_bytes::counts(wanted) {
-        return !kin;
+        return !others;
     }
     true
 }
@@ -95,7 +95,7 @@ pub fn plan_add_keyed(item_type: u8, body: &[u8], wanted: Wanted, place: u64, am
             let total = fields::get_u64_le(body, 0);
             match inline_refs::site_anywhere(seen, body.len()) {
                 Site::Gap(at) => {
-                    if !may_key(wanted, inline_refs::any_kin(seen)) {
+                    if !may_key(wanted, inline_refs::any_others(seen)) {
                         return crate::refuse(10);
                     }
                     let new = crate::new_bytes::bytes_of(wanted, amount);

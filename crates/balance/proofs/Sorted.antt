@@ -102,8 +102,8 @@ names-owner x n (r ∷ refs) e = omega (arith, names-cons x n r refs, go (one-or
 -- ---- the references at hand
 
 -- those kept share type and place
-abbrev kin : Run → Ref → Bool
-kin run b = eqb (b .kind) (run .kind) && eqb (place b) (run .spot)
+abbrev inRun : Run → Ref → Bool
+inRun run b = eqb (b .kind) (run .kind) && eqb (place b) (run .spot)
 
 -- beyond the run: of a higher type, or of a lower place
 abbrev Beyond : Run → Ref → Type 0
@@ -200,9 +200,9 @@ module _ (x : ℕ) (n : Name) (run : Run) where
   at-run : Bool
   at-run = eqb (n .kind) (run .kind) && eqb (placeOf (n .kind) (n .fields)) (run .spot)
 
-  kin-other : T (not at-run) → (b : Ref) → T (kin run b) → T (other n b)
+  run-other : T (not at-run) → (b : Ref) → T (inRun run b) → T (other n b)
   unfolding place at-run
-  kin-other t b k = not-T (named (n .kind) (n .fields) b) (λ y.
+  run-other t b k = not-T (named (n .kind) (n .fields) b) (λ y.
       let e = named-yes (n .kind) (n .fields) b y in
       let h = and-yes (eqb (b .kind) (run .kind)) (eqb (place b) (run .spot)) k in
       let p : place b ≡ placeOf (n .kind) (n .fields) = ap₂ placeOf (e .0) (e .1) in
@@ -224,12 +224,12 @@ module _ (x : ℕ) (n : Name) (run : Run) where
       go e p q w (inr (d, inl h)) = z (q ∙ h)
       go e p q w (inr (d, inr h)) = omega arith
 
-  pub disjoint : (refs : List Ref) → T (all (kin run) (run .back)) → T (all (beyond run) refs)
+  pub disjoint : (refs : List Ref) → T (all (inRun run) (run .back)) → T (all (beyond run) refs)
       → (names x n (run .back) ≡ 0) ⊎ (names x n refs ≡ 0)
   disjoint refs ks bs = go at-run refl (eqb (n .kind) 172) refl
     where
       go : (c : Bool) → at-run ≡ c → (d : Bool) → eqb (n .kind) 172 ≡ d → (names x n (run .back) ≡ 0) ⊎ (names x n refs ≡ 0)
-      go false q d e = inl (names-other x n (run .back) (all-map (kin run) (other n) (kin-other (subst (λ (c : Bool). T (not c)) (sym q) tt)) (run .back) ks))
+      go false q d e = inl (names-other x n (run .back) (all-map (inRun run) (other n) (run-other (subst (λ (c : Bool). T (not c)) (sym q) tt)) (run .back) ks))
       go true q true e = inr (names-owner x n refs (eqb→eq _ _ (subst T (sym e) tt)))
       go true q false e =
           inr (names-other x n refs (all-map (beyond run) (other n)
@@ -282,18 +282,18 @@ module _ (run : Run) (r : Ref) where
   unfolding kept
   kept-alone t = cond-no (joins run r) _ alone t
 
-kin-self : (r : Ref) (back : List Ref) → T (kin (record { kind = r .kind; spot = place r; back = back }) r)
-kin-self r back = yes-and (eqb (r .kind) (r .kind)) _ (eqb-refl (r .kind)) (eqb-refl (place r))
+run-self : (r : Ref) (back : List Ref) → T (inRun (record { kind = r .kind; spot = place r; back = back }) r)
+run-self r back = yes-and (eqb (r .kind) (r .kind)) _ (eqb-refl (r .kind)) (eqb-refl (place r))
 
 -- the references kept with one that joins
-kin-grown : (run : Run) (r : Ref) → T (joins run r) → T (all (kin run) (run .back)) → T (all (kin (grown run r)) (run .back ++ r ∷ []))
-kin-grown run r t k =
+run-grown : (run : Run) (r : Ref) → T (joins run r) → T (all (inRun run) (run .back)) → T (all (inRun (grown run r)) (run .back ++ r ∷ []))
+run-grown run r t k =
     let j = joins-out run r t in
-    let move : (b : Ref) → T (kin run b) → T (kin (grown run r) b) =
+    let move : (b : Ref) → T (inRun run b) → T (inRun (grown run r) b) =
     (λ b h. let g = and-yes (eqb (b .kind) (run .kind)) _ h in
     yes-and (eqb (b .kind) (r .kind)) _ (yes-eqb (eqb→eq _ _ (g .0) ∙ sym (j .sameKind))) (yes-eqb (eqb→eq _ _ (g .1) ∙ sym (j .sameSpot)))) in
-    all-both (kin (grown run r)) (run .back) (r ∷ []) (all-map (kin run) (kin (grown run r)) move (run .back) k)
-    (yes-and (kin (grown run r) r) true (kin-self r (run .back ++ r ∷ [])) tt)
+    all-both (inRun (grown run r)) (run .back) (r ∷ []) (all-map (inRun run) (inRun (grown run r)) move (run .back) k)
+    (yes-and (inRun (grown run r) r) true (run-self r (run .back ++ r ∷ [])) tt)
 
 -- one apart from those of its hash has another name than each
 apart-none : (x : ℕ) (run : Run) (r : Ref) → T (joins run r) → T (apart run r) → names x (nameOf x r) (run .back) ≡ 0
@@ -344,7 +344,7 @@ module _ (x : ℕ) where
           omega (arith, names-append x n (run .back) (r ∷ []), one-most x n r)
       go (inr z) = omega (arith, names-append x n (run .back) (r ∷ []), f n)
 
-  module _ (run : Run) (r : Ref) (refs : List Ref) (ks : T (all (kin run) (run .back))) (few : (n : Name) → names x n (run .back) ≤ 1) where
+  module _ (run : Run) (r : Ref) (refs : List Ref) (ks : T (all (inRun run) (run .back))) (few : (n : Name) → names x n (run .back) ≤ 1) where
     order-of : (back : List Ref) → Clean x (record { kind = r .kind; spot = place r; back = back }) refs → T (ordered (r ∷ refs))
     order-of back c = yes-and (leads r refs) _ (rw (begins-leads r refs back) at (c .begin)) (c .order)
 
@@ -394,7 +394,7 @@ module _ (x : ℕ) where
             let w = c .once (nameOf x r) in
             let z : names x (nameOf x r) (run .back) ≡ 0 = omega (arith, names-cons x (nameOf x r) r refs) in
             let kinds : T (all (λ b. eqb (b .kind) (r .kind)) (run .back)) =
-            all-map (kin run) (λ b. eqb (b .kind) (r .kind))
+            all-map (inRun run) (λ b. eqb (b .kind) (r .kind))
             (λ b h. yes-eqb (eqb→eq _ _ (and-yes (eqb (b .kind) (run .kind)) _ h .0) ∙ sym (j .sameKind))) (run .back) ks in
             none-apart x r (run .back) no kinds z
 
@@ -417,10 +417,10 @@ module _ (x : ℕ) where
       once = λ n. omega (arith, names-cons x n r refs, c .once n);
     }
 
-  kin-alone : (run : Run) (r : Ref) → T (all (kin (alone run r)) (r ∷ []))
-  kin-alone run r = yes-and (kin (alone run r) r) true (kin-self r (r ∷ [])) tt
+  run-alone : (run : Run) (r : Ref) → T (all (inRun (alone run r)) (r ∷ []))
+  run-alone run r = yes-and (inRun (alone run r) r) true (run-self r (r ∷ [])) tt
 
-  pub sound-clean : (run : Run) (refs : List Ref) → T (all (kin run) (run .back)) → ((n : Name) → names x n (run .back) ≤ 1)
+  pub sound-clean : (run : Run) (refs : List Ref) → T (all (inRun run) (run .back)) → ((n : Name) → names x n (run .back) ≤ 1)
       → T (sound run refs) → Clean x run refs
   unfolding sound refEntries admits
   sound-clean run [] ks few t = record { begin = tt; order = tt; heavy = tt; once = λ n. omega (arith, few n) }
@@ -428,17 +428,17 @@ module _ (x : ℕ) where
       let h = and-yes (admits run r) (sound (kept run r) refs) t in
       go (λ y. sound-clean y refs) (h .0) (h .1) (yes-or-no (joins run r))
     where
-      go : ((y : Run) → T (all (kin y) (y .back)) → ((n : Name) → names x n (y .back) ≤ 1) → T (sound y refs) → Clean x y refs)
+      go : ((y : Run) → T (all (inRun y) (y .back)) → ((n : Name) → names x n (y .back) ≤ 1) → T (sound y refs) → Clean x y refs)
           → T (admits run r) → T (sound (kept run r) refs) → T (joins run r) ⊎ T (not (joins run r)) → Clean x run (r ∷ refs)
       go ih a s (inl j) =
           let k = and-yes (apart run r) (weighs r) (and-yes (after run r) _ a .1) in
           clean-joins run r refs ks few a j
-          (ih (grown run r) (kin-grown run r j ks) (joined-once run r j (k .0) few) (subst (λ (y : Run). T (sound y refs)) (kept-joins run r j) s))
+          (ih (grown run r) (run-grown run r j ks) (joined-once run r j (k .0) few) (subst (λ (y : Run). T (sound y refs)) (kept-joins run r j) s))
       go ih a s (inr j) =
           clean-alone run r refs ks few a j
-          (ih (alone run r) (kin-alone run r) (λ n. one-most x n r) (subst (λ (y : Run). T (sound y refs)) (kept-alone run r j) s))
+          (ih (alone run r) (run-alone run r) (λ n. one-most x n r) (subst (λ (y : Run). T (sound y refs)) (kept-alone run r j) s))
 
-  pub clean-sound : (run : Run) (refs : List Ref) → T (all (kin run) (run .back)) → ((n : Name) → names x n (run .back) ≤ 1)
+  pub clean-sound : (run : Run) (refs : List Ref) → T (all (inRun run) (run .back)) → ((n : Name) → names x n (run .back) ≤ 1)
       → Clean x run refs → T (sound run refs)
   unfolding sound admits
   clean-sound run [] ks few c = tt
@@ -446,15 +446,15 @@ module _ (x : ℕ) where
       let a = admits-clean run r refs ks few c in
       yes-and (admits run r) (sound (kept run r) refs) a (go (λ y. clean-sound y refs) a (yes-or-no (joins run r)))
     where
-      go : ((y : Run) → T (all (kin y) (y .back)) → ((n : Name) → names x n (y .back) ≤ 1) → Clean x y refs → T (sound y refs))
+      go : ((y : Run) → T (all (inRun y) (y .back)) → ((n : Name) → names x n (y .back) ≤ 1) → Clean x y refs → T (sound y refs))
           → T (admits run r) → T (joins run r) ⊎ T (not (joins run r)) → T (sound (kept run r) refs)
       go ih a (inl j) =
           let k = and-yes (apart run r) (weighs r) (and-yes (after run r) _ a .1) in
           subst (λ (y : Run). T (sound y refs)) (sym (kept-joins run r j))
-          (ih (grown run r) (kin-grown run r j ks) (joined-once run r j (k .0) few) (joins-clean run r refs ks few c))
+          (ih (grown run r) (run-grown run r j ks) (joined-once run r j (k .0) few) (joins-clean run r refs ks few c))
       go ih a (inr j) =
           subst (λ (y : Run). T (sound y refs)) (sym (kept-alone run r j))
-          (ih (alone run r) (kin-alone run r) (λ n. one-most x n r) (alone-clean run r refs ks few c))
+          (ih (alone run r) (run-alone run r) (λ n. one-most x n r) (alone-clean run r refs ks few c))
 
 -- ---- from the start
 

@@ -34,26 +34,26 @@ use Rattle.inline_refs.proofs.Steps.{At}
 
 -- ---- what is noted
 
-module _ (w : Wanted) (place at next : ℕ) (r : Ref) (kin b : Bool) (n : b ≡ isWanted w r) where
-  pub note-hit : (x : ℕ) → b ≡ true → x ≡ r .weight → Hit at next x ≡ noted w place at next r (Open kin)
+module _ (w : Wanted) (place at next : ℕ) (r : Ref) (others b : Bool) (n : b ≡ isWanted w r) where
+  pub note-hit : (x : ℕ) → b ≡ true → x ≡ r .weight → Hit at next x ≡ noted w place at next r (Open others)
   unfolding noted
   note-hit x t q = simp (sym n ∙ t, q)
 
-  module _ (f : b ≡ false) (k d : Bool) (q : k ≡ kin || eqb (r .kind) (kindOf w)) (s : d ≡ stops (kindOf w) place r) where
-    pub note-gap : d ≡ true → Gap at k ≡ noted w place at next r (Open kin)
+  module _ (f : b ≡ false) (k d : Bool) (q : k ≡ others || eqb (r .kind) (kindOf w)) (s : d ≡ stops (kindOf w) place r) where
+    pub note-gap : d ≡ true → Gap at k ≡ noted w place at next r (Open others)
     unfolding noted
     note-gap t = simp (sym n ∙ f, sym s ∙ t, q)
 
-    pub note-open : d ≡ false → Open k ≡ noted w place at next r (Open kin)
+    pub note-open : d ≡ false → Open k ≡ noted w place at next r (Open others)
     unfolding noted
     note-open t = simp (sym n ∙ f, sym s ∙ t, q)
 
   module _ (gap : ℕ) where
-    pub note-late : (x : ℕ) → b ≡ true → x ≡ r .weight → Late gap at next x ≡ noted w place at next r (Gap gap kin)
+    pub note-late : (x : ℕ) → b ≡ true → x ≡ r .weight → Late gap at next x ≡ noted w place at next r (Gap gap others)
     unfolding noted
     note-late x t q = simp (sym n ∙ t, q)
 
-    pub note-still : (k : Bool) → b ≡ false → k ≡ kin || eqb (r .kind) (kindOf w) → Gap gap k ≡ noted w place at next r (Gap gap kin)
+    pub note-still : (k : Bool) → b ≡ false → k ≡ others || eqb (r .kind) (kindOf w) → Gap gap k ≡ noted w place at next r (Gap gap others)
     unfolding noted
     note-still k f q = simp (sym n ∙ f, q)
 

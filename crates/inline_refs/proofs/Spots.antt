@@ -45,8 +45,8 @@ FoundView w start refs Nothing = cut (isWanted w) refs ≡ none
 
 hit-view : (w : Wanted) (place start : ℕ) (refs : List Ref) (s : Seen) → View w place start refs false s → FoundView w start refs (hitOf s)
 unfolding hitOf
-hit-view w place start refs (Open kin) v = v .0
-hit-view w place start refs (Gap at kin) v = v .0
+hit-view w place start refs (Open others) v = v .0
+hit-view w place start refs (Gap at others) v = v .0
 hit-view w place start refs (Hit p q x) v = v .hit
 hit-view w place start refs (Late g p q x) v = v .0
 
@@ -100,8 +100,8 @@ module _ (w : Wanted) (place start end : ℕ) (refs : List Ref) (e : end ≡ sta
   spot-view : (s : Seen) → View w place start refs false s
       → SpotView w start refs (siteAnywhere end s) (spotAnywhere (kindOf w) (fieldsOf w) place refs)
   unfolding siteAnywhere gapAt
-  spot-view (Open kin) v = rw (anywhere-gap (v .0) none (v .1)) (at-end start end refs e)
-  spot-view (Gap at kin) v =
+  spot-view (Open others) v = rw (anywhere-gap (v .0) none (v .1)) (at-end start end refs e)
+  spot-view (Gap at others) v =
       let h = v .1 .stop in
       rw (anywhere-gap (v .0) (some (h .parts)) (h .cuts)) (cut-before (either w place) start refs at _ _ h)
   spot-view (Hit p q x) v = rw (anywhere-stands (v .hit .parts) (v .hit .cuts)) (stands w start refs p q x (v .hit))
@@ -120,8 +120,8 @@ module _ (w : Wanted) (place start end : ℕ) (refs : List Ref) (e : end ≡ sta
     scan-view : (s : Seen) → View w place start refs false s
         → SpotView w start refs (siteByScan end s) (spotByScan (kindOf w) (fieldsOf w) refs)
     unfolding siteByScan scanned
-    scan-view (Open kin) v = rw (scan-is none (v .1)) (at-end start end refs e)
-    scan-view (Gap g kin) v =
+    scan-view (Open others) v = rw (scan-is none (v .1)) (at-end start end refs e)
+    scan-view (Gap g others) v =
         let h = v .1 .stop in
         rw (scan-is (some (h .parts)) (h .cuts)) (rw (v .1 .other) (cut-before (either w place) start refs g _ _ h))
     scan-view (Hit p q x) v =

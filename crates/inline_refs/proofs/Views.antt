@@ -2,7 +2,7 @@
 -- Assumes nothing.
 use mathlib.Core.Path.{_≡_, refl, sym, ap, subst, _∙_}
 use mathlib.Core.Bool.{Bool, true, false, _||_}
-use mathlib.Core.Option.{Option, none, some, Option·map}
+use mathlib.Core.Option.{none, some, Option·map}
 use mathlib.Core.List.{List, [], _∷_, _++_}
 use Prim.Native.Nat.{ℕ, _+_}
 use native.Mathlib.Omega.{arith}
@@ -60,9 +60,9 @@ module _ (w : Wanted) (place : ℕ) where
   abbrev pub either : Ref → Bool
   either r = isWanted w r || stops (kindOf w) place r
 
-  abbrev pub anyKin : List Ref → Bool
-  anyKin [] = false
-  anyKin (r ∷ refs) = eqb (r .kind) (kindOf w) || anyKin refs
+  abbrev pub anyOthers : List Ref → Bool
+  anyOthers [] = false
+  anyOthers (r ∷ refs) = eqb (r .kind) (kindOf w) || anyOthers refs
 
   -- the insert position came before a wanted one
   pub record StopAt (start : ℕ) (refs : List Ref) (p : ℕ) : Type 0 where
@@ -76,16 +76,16 @@ module _ (w : Wanted) (place : ℕ) where
     pub first : cut either refs ≡ some (hit .parts)
 
   abbrev GapView : ℕ → List Ref → ℕ → Bool → Seen → Type 0
-  GapView start refs g kin₀ (Open kin) = ⊥
-  GapView start refs g kin₀ (Gap g′ kin) = (g′ ≡ g) × (cut (isWanted w) refs ≡ none) × (kin ≡ kin₀ || anyKin refs)
-  GapView start refs g kin₀ (Hit p q x) = ⊥
-  GapView start refs g kin₀ (Late g′ p q x) = (g′ ≡ g) × CutAt (isWanted w) start refs p q x
+  GapView start refs g others₀ (Open others) = ⊥
+  GapView start refs g others₀ (Gap g′ others) = (g′ ≡ g) × (cut (isWanted w) refs ≡ none) × (others ≡ others₀ || anyOthers refs)
+  GapView start refs g others₀ (Hit p q x) = ⊥
+  GapView start refs g others₀ (Late g′ p q x) = (g′ ≡ g) × CutAt (isWanted w) start refs p q x
 
   abbrev pub View : ℕ → List Ref → Bool → Seen → Type 0
-  View start refs kin₀ (Open kin) = (cut (isWanted w) refs ≡ none) × (cut either refs ≡ none) × (kin ≡ kin₀ || anyKin refs)
-  View start refs kin₀ (Gap g kin) = (cut (isWanted w) refs ≡ none) × StopAt start refs g × (kin ≡ kin₀ || anyKin refs)
-  View start refs kin₀ (Hit p q x) = HitAt start refs p q x
-  View start refs kin₀ (Late g p q x) = CutAt (isWanted w) start refs p q x × StopAt start refs g
+  View start refs others₀ (Open others) = (cut (isWanted w) refs ≡ none) × (cut either refs ≡ none) × (others ≡ others₀ || anyOthers refs)
+  View start refs others₀ (Gap g others) = (cut (isWanted w) refs ≡ none) × StopAt start refs g × (others ≡ others₀ || anyOthers refs)
+  View start refs others₀ (Hit p q x) = HitAt start refs p q x
+  View start refs others₀ (Late g p q x) = CutAt (isWanted w) start refs p q x × StopAt start refs g
 
   or-false : (b : Bool) → b ≡ b || false
   or-false true = refl
@@ -95,24 +95,24 @@ module _ (w : Wanted) (place : ℕ) where
   or-assoc true b c = refl
   or-assoc false b c = refl
 
-  gap-later : (start : ℕ) (r : Ref) (refs : List Ref) (g : ℕ) (kin₀ : Bool) (s : Seen) → isWanted w r ≡ false
-      → GapView (start + sizeOf r) refs g (kin₀ || eqb (r .kind) (kindOf w)) s → GapView start (r ∷ refs) g kin₀ s
-  gap-later start r refs g kin₀ (Open kin) f v = v
-  gap-later start r refs g kin₀ (Gap g′ kin) f v =
-      (v .0, none-later (isWanted w) start r refs f (v .1), v .2 ∙ or-assoc kin₀ (eqb (r .kind) (kindOf w)) (anyKin refs))
-  gap-later start r refs g kin₀ (Hit p q x) f v = v
-  gap-later start r refs g kin₀ (Late g′ p q x) f v = (v .0, cut-later (isWanted w) start r refs p q x f (v .1))
+  gap-later : (start : ℕ) (r : Ref) (refs : List Ref) (g : ℕ) (others₀ : Bool) (s : Seen) → isWanted w r ≡ false
+      → GapView (start + sizeOf r) refs g (others₀ || eqb (r .kind) (kindOf w)) s → GapView start (r ∷ refs) g others₀ s
+  gap-later start r refs g others₀ (Open others) f v = v
+  gap-later start r refs g others₀ (Gap g′ others) f v =
+      (v .0, none-later (isWanted w) start r refs f (v .1), v .2 ∙ or-assoc others₀ (eqb (r .kind) (kindOf w)) (anyOthers refs))
+  gap-later start r refs g others₀ (Hit p q x) f v = v
+  gap-later start r refs g others₀ (Late g′ p q x) f v = (v .0, cut-later (isWanted w) start r refs p q x f (v .1))
 
-  gap-view : (start : ℕ) (refs : List Ref) (g : ℕ) (kin₀ : Bool) → GapView start refs g kin₀ (walk w place start (Gap g kin₀) refs)
+  gap-view : (start : ℕ) (refs : List Ref) (g : ℕ) (others₀ : Bool) → GapView start refs g others₀ (walk w place start (Gap g others₀) refs)
   unfolding walk noted
-  gap-view start [] g kin₀ = (refl, refl, or-false kin₀)
-  gap-view start (r ∷ refs) g kin₀ =
+  gap-view start [] g others₀ = (refl, refl, or-false others₀)
+  gap-view start (r ∷ refs) g others₀ =
       by-test (isWanted w r)
       (λ t. rw t
-      (subst (GapView start (r ∷ refs) g kin₀) (sym (late-stays w place (start + sizeOf r) g start (start + sizeOf r) (r .weight) refs))
+      (subst (GapView start (r ∷ refs) g others₀) (sym (late-stays w place (start + sizeOf r) g start (start + sizeOf r) (r .weight) refs))
       (refl, cut-here (isWanted w) start r refs (r .weight) t refl)))
       (λ f. rw f
-      (gap-later start r refs g kin₀ (walk w place (start + sizeOf r) (Gap g (kin₀ || eqb (r .kind) (kindOf w))) refs) f (gap-view (start + sizeOf r) refs g (kin₀ || eqb (r .kind) (kindOf w)))))
+      (gap-later start r refs g others₀ (walk w place (start + sizeOf r) (Gap g (others₀ || eqb (r .kind) (kindOf w))) refs) f (gap-view (start + sizeOf r) refs g (others₀ || eqb (r .kind) (kindOf w)))))
 
   stop-later : (start : ℕ) (r : Ref) (refs : List Ref) (g : ℕ) → either r ≡ false → StopAt (start + sizeOf r) refs g → StopAt start (r ∷ refs) g
   unfolding cut-later
@@ -123,21 +123,21 @@ module _ (w : Wanted) (place : ℕ) where
     other = h .other;
   }
 
-  view-later : (start : ℕ) (r : Ref) (refs : List Ref) (kin₀ : Bool) (s : Seen) → isWanted w r ≡ false → either r ≡ false
-      → View (start + sizeOf r) refs (kin₀ || eqb (r .kind) (kindOf w)) s → View start (r ∷ refs) kin₀ s
+  view-later : (start : ℕ) (r : Ref) (refs : List Ref) (others₀ : Bool) (s : Seen) → isWanted w r ≡ false → either r ≡ false
+      → View (start + sizeOf r) refs (others₀ || eqb (r .kind) (kindOf w)) s → View start (r ∷ refs) others₀ s
   unfolding cut-later
-  view-later start r refs kin₀ (Open kin) f e v =
-      (none-later (isWanted w) start r refs f (v .0), none-later either start r refs e (v .1), v .2 ∙ or-assoc kin₀ (eqb (r .kind) (kindOf w)) (anyKin refs))
-  view-later start r refs kin₀ (Gap g kin) f e v = (
+  view-later start r refs others₀ (Open others) f e v =
+      (none-later (isWanted w) start r refs f (v .0), none-later either start r refs e (v .1), v .2 ∙ or-assoc others₀ (eqb (r .kind) (kindOf w)) (anyOthers refs))
+  view-later start r refs others₀ (Gap g others) f e v = (
     none-later (isWanted w) start r refs f (v .0),
     stop-later start r refs g e (v .1),
-    v .2 ∙ or-assoc kin₀ (eqb (r .kind) (kindOf w)) (anyKin refs),
+    v .2 ∙ or-assoc others₀ (eqb (r .kind) (kindOf w)) (anyOthers refs),
   )
-  view-later start r refs kin₀ (Hit p q x) f e v = record {
+  view-later start r refs others₀ (Hit p q x) f e v = record {
     hit = cut-later (isWanted w) start r refs p q x f (v .hit);
     first = rw e (ap (Option·map (later r)) (v .first));
   }
-  view-later start r refs kin₀ (Late g p q x) f e v =
+  view-later start r refs others₀ (Late g p q x) f e v =
       (cut-later (isWanted w) start r refs p q x f (v .0), stop-later start r refs g e (v .1))
 
   stop-here : (start : ℕ) (r : Ref) (refs : List Ref) → isWanted w r ≡ false → either r ≡ true → StopAt start (r ∷ refs) start
@@ -150,31 +150,31 @@ module _ (w : Wanted) (place : ℕ) where
   }
 
   -- a gap here, and what follows it
-  gap-here : (start : ℕ) (r : Ref) (refs : List Ref) (kin₀ : Bool) (s : Seen) → isWanted w r ≡ false → either r ≡ true
-      → GapView (start + sizeOf r) refs start (kin₀ || eqb (r .kind) (kindOf w)) s → View start (r ∷ refs) kin₀ s
-  gap-here start r refs kin₀ (Open kin) f e v = absurd v
-  gap-here start r refs kin₀ (Gap g kin) f e v = (
+  gap-here : (start : ℕ) (r : Ref) (refs : List Ref) (others₀ : Bool) (s : Seen) → isWanted w r ≡ false → either r ≡ true
+      → GapView (start + sizeOf r) refs start (others₀ || eqb (r .kind) (kindOf w)) s → View start (r ∷ refs) others₀ s
+  gap-here start r refs others₀ (Open others) f e v = absurd v
+  gap-here start r refs others₀ (Gap g others) f e v = (
     none-later (isWanted w) start r refs f (v .1),
     subst (StopAt start (r ∷ refs)) (sym (v .0)) (stop-here start r refs f e),
-    v .2 ∙ or-assoc kin₀ (eqb (r .kind) (kindOf w)) (anyKin refs),
+    v .2 ∙ or-assoc others₀ (eqb (r .kind) (kindOf w)) (anyOthers refs),
   )
-  gap-here start r refs kin₀ (Hit p q x) f e v = absurd v
-  gap-here start r refs kin₀ (Late g p q x) f e v =
+  gap-here start r refs others₀ (Hit p q x) f e v = absurd v
+  gap-here start r refs others₀ (Late g p q x) f e v =
       (cut-later (isWanted w) start r refs p q x f (v .1), subst (StopAt start (r ∷ refs)) (sym (v .0)) (stop-here start r refs f e))
 
-  view : (start : ℕ) (refs : List Ref) (kin₀ : Bool) → View start refs kin₀ (walk w place start (Open kin₀) refs)
+  view : (start : ℕ) (refs : List Ref) (others₀ : Bool) → View start refs others₀ (walk w place start (Open others₀) refs)
   unfolding walk noted cut-here
-  view start [] kin₀ = (refl, refl, or-false kin₀)
-  view start (r ∷ refs) kin₀ =
+  view start [] others₀ = (refl, refl, or-false others₀)
+  view start (r ∷ refs) others₀ =
       by-test (isWanted w r)
       (λ t. rw t
-      (subst (View start (r ∷ refs) kin₀) (sym (hit-stays w place (start + sizeOf r) start (start + sizeOf r) (r .weight) refs))
+      (subst (View start (r ∷ refs) others₀) (sym (hit-stays w place (start + sizeOf r) start (start + sizeOf r) (r .weight) refs))
       (record { hit = cut-here (isWanted w) start r refs (r .weight) t refl; first = rw t refl })))
       (λ f. by-test (stops (kindOf w) place r)
       (λ d. rw (f, d)
-      (gap-here start r refs kin₀ (walk w place (start + sizeOf r) (Gap start (kin₀ || eqb (r .kind) (kindOf w))) refs) f (rw (f, d) refl) (gap-view (start + sizeOf r) refs start (kin₀ || eqb (r .kind) (kindOf w)))))
+      (gap-here start r refs others₀ (walk w place (start + sizeOf r) (Gap start (others₀ || eqb (r .kind) (kindOf w))) refs) f (rw (f, d) refl) (gap-view (start + sizeOf r) refs start (others₀ || eqb (r .kind) (kindOf w)))))
       (λ d. rw (f, d)
-      (view-later start r refs kin₀ (walk w place (start + sizeOf r) (Open (kin₀ || eqb (r .kind) (kindOf w))) refs) f (rw (f, d) refl) (view (start + sizeOf r) refs (kin₀ || eqb (r .kind) (kindOf w))))))
+      (view-later start r refs others₀ (walk w place (start + sizeOf r) (Open (others₀ || eqb (r .kind) (kindOf w))) refs) f (rw (f, d) refl) (view (start + sizeOf r) refs (others₀ || eqb (r .kind) (kindOf w))))))
 
   pub viewed : (start : ℕ) (refs : List Ref) (s : Seen) → s ≡ walk w place start (Open false) refs → View start refs false s
   viewed start refs s e = subst (View start refs false) (sym e) (view start refs false)

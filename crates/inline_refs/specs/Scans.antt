@@ -58,11 +58,11 @@ sizeOf r = 1 + payloadLength (r .kind)
 -- what is noted at a reference that stands at `at`: the first wanted one; and, while there is none, the first one that a new
 -- reference goes before, and whether any of the wanted kind stands
 unfoldable pub noted : Wanted → ℕ → ℕ → ℕ → Ref → Seen → Seen
-noted wanted place at next r (Open kin) =
+noted wanted place at next r (Open others) =
     cond (isWanted wanted r) (Hit at next (r .weight))
-    (cond (stops (kindOf wanted) place r) (Gap at (kin || eqb (r .kind) (kindOf wanted))) (Open (kin || eqb (r .kind) (kindOf wanted))))
-noted wanted place at next r (Gap gap kin) =
-    cond (isWanted wanted r) (Late gap at next (r .weight)) (Gap gap (kin || eqb (r .kind) (kindOf wanted)))
+    (cond (stops (kindOf wanted) place r) (Gap at (others || eqb (r .kind) (kindOf wanted))) (Open (others || eqb (r .kind) (kindOf wanted))))
+noted wanted place at next r (Gap gap others) =
+    cond (isWanted wanted r) (Late gap at next (r .weight)) (Gap gap (others || eqb (r .kind) (kindOf wanted)))
 noted wanted place at next r (Hit first after weight) = Hit first after weight
 noted wanted place at next r (Late gap first after weight) = Late gap first after weight
 

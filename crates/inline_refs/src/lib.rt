@@ -27,7 +27,7 @@ pub use scan::scan_to_add;
 pub use scan::weight_at;
 pub use site::Found;
 pub use site::Site;
-pub use site::any_kin;
+pub use site::any_others;
 pub use site::hit_of;
 pub use site::site_anywhere;
 pub use site::site_by_scan;

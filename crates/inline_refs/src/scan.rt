@@ -19,12 +19,12 @@ ghost use Rattle.inline_refs.specs.Scans.{kindOf, fieldsOf, KnownFor, sc
 pub enum Seen {
     // Neither the wanted reference nor one that a new one goes before; and whether one of its kind stood there.
     Open {
-        kin: bool,
+        others: bool,
     },
     // A new one goes before the reference at `at`.
     Gap {
         at: usize,
-        kin: bool,
+        others: bool,
     },
     // The wanted reference, and the next one.
     Hit {
@@ -137,7 +137,7 @@ fn scan_gap(
     ensures { λ r. ⌜ ((place : ℕ) → r ≡ scanOf wanted place start (Seen.Gap gap stood) (readFrom (now (body .entry)) start)) ⌝ }
 {
     let mut at = start;
-    let mut kin = stood;
+    let mut others = stood;
     loop {
         let cursor = Cursor { at };
         match cursor.step(rows, body) {
@@ -152,10 +152,10 @@ fn scan_gap(
                     let weight = weight_at(body, kind, payload, count);
                     return scan_late(rows, body, gap, at, next.at, weight);
                 }
-                kin = crate::wanted::akin(kin, wanted, kind);
+                others = crate::wanted::any_of_kind(others, wanted, kind);
                 at = next.at;
             }
-            Step::End => return Scan::Read(Seen::Gap { at: gap, kin }),
+            Step::End => return Scan::Read(Seen::Gap { at: gap, others }),
             Step::Refused(number) => return Scan::Fault(number),
         }
     }
@@ -175,7 +175,7 @@ fn scan_from(
 {
     let sought = crate::wanted::kind_of(wanted);
     let mut at = start;
-    let mut kin = false;
+    let mut others = false;
     loop {
         let cursor = Cursor { at };
         match cursor.step(rows, body) {
@@ -190,13 +190,13 @@ fn scan_from(
                     let weight = weight_at(body, kind, payload, count);
                     return scan_hit(rows, body, at, next.at, weight);
                 }
-                kin = crate::wanted::akin(kin, wanted, kind);
+                others = crate::wanted::any_of_kind(others, wanted, kind);
                 if crate::wanted::stops_at(sought, place, own, body, kind, payload) {
-                    return scan_gap(rows, body, next.at, wanted, at, kin);
+                    return scan_gap(rows, body, next.at, wanted, at, others);
                 }
                 at = next.at;
             }
-            Step::End => return Scan::Read(Seen::Open { kin }),
+            Step::End => return Scan::Read(Seen::Open { others }),
             Step::Refused(number) => return Scan::Fault(number),
         }
     }
@@ -232,7 +232,7 @@ fn scan_first(rows: &[[u8; 3]; 5], body: &[u8], start: usize, wanted: Wanted) ->
             let weight = weight_at(body, kind, payload, count);
             scan_hit(rows, body, start, next.at, weight)
         }
-        Step::End => Scan::Read(Seen::Open { kin: false }),
+        Step::End => Scan::Read(Seen::Open { others: false }),
         Step::Refused(number) => Scan::Fault(number),
     }
 }

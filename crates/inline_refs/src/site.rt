@@ -1,7 +1,7 @@
 // What a scan's notes mean to a call: where the wanted reference stands, or where a new one goes.
 use crate::scan::Seen;
 ghost use mathlib.Core.Path.{_≡_};
-ghost use Rattle.inline_refs.specs.Sites.{hitOf, siteAnywhere, siteByScan, kinIn};
+ghost use Rattle.inline_refs.specs.Sites.{hitOf, siteAnywhere, siteByScan, othersIn};
 
 // The answer of an inline search: where the wanted reference stands, where the next one starts, and its weight.
 pub enum Found {
@@ -20,8 +20,8 @@ pub fn hit_of(seen: Seen) -> Found
             next,
             weight,
         } => Found::At { at, next, weight },
-        Seen::Open { kin: _ } => Found::Nothing,
-        Seen::Gap { at: _, kin: _ } => Found::Nothing,
+        Seen::Open { others: _ } => Found::Nothing,
+        Seen::Gap { at: _, others: _ } => Found::Nothing,
     }
 }
 
@@ -43,8 +43,8 @@ pub fn site_anywhere(seen: Seen, end: usize) -> Site
             next,
             weight,
         } => Site::Standing { at, next, weight },
-        Seen::Open { kin: _ } => Site::Gap(end),
-        Seen::Gap { at, kin: _ } => Site::Gap(at),
+        Seen::Open { others: _ } => Site::Gap(end),
+        Seen::Gap { at, others: _ } => Site::Gap(at),
     }
 }
 
@@ -60,14 +60,14 @@ pub fn site_by_scan(seen: Seen, end: usize) -> Site
             next: _,
             weight: _,
         } => Site::Gap(gap),
-        Seen::Open { kin: _ } => Site::Gap(end),
-        Seen::Gap { at, kin: _ } => Site::Gap(at),
+        Seen::Open { others: _ } => Site::Gap(end),
+        Seen::Gap { at, others: _ } => Site::Gap(at),
     }
 }
 
 // Whether a reference of the wanted kind stood where the wanted one did not.
-pub fn any_kin(seen: Seen) -> bool
-    ensures { λ r. ⌜ r ≡ kinIn seen ⌝ }
+pub fn any_others(seen: Seen) -> bool
+    ensures { λ r. ⌜ r ≡ othersIn seen ⌝ }
 {
     match seen {
         Seen::Hit {
@@ -81,7 +81,7 @@ pub fn any_kin(seen: Seen) -> bool
             next: _,
             weight: _,
         } => true,
-        Seen::Open { kin } => kin,
-        Seen::Gap { at: _, kin } => kin,
+        Seen::Open { others } => others,
+        Seen::Gap { at: _, others } => others,
     }
 }

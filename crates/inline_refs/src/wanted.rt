@@ -165,7 +165,7 @@ pub fn stops_at(wanted: u8, place: u64, own: TreeRun, body: &[u8], kind: u8, sta
 }
 
 // Whether one of the wanted kind stands, with one more reference.
-pub fn akin(stood: bool, wanted: Wanted, kind: u8) -> bool
+pub fn any_of_kind(stood: bool, wanted: Wanted, kind: u8) -> bool
     ensures { λ r. ⌜ r ≡ stood || eqb kind (kindOf wanted) ⌝ }
 {
     if stood {

@@ -11,17 +11,17 @@ use Rattle.lister_text.proofs.put_body.Tie as tie
 count-refs-requires : tie.Need-count-refs-requires
 count-refs-requires c κs =
     let start = c .before .before .before in
-    let door = start .before .before in
-    let a = door .before .before .before .args in
-    let o = opens (a .item-type) (now (a .body)) _ (sym (start .start .given .1) ∙ door .open-body .ensures) in
+    let opened = start .before .before in
+    let a = opened .before .before .before .args in
+    let o = opens (a .item-type) (now (a .body)) _ (sym (start .start .given .1) ∙ opened .open-body .ensures) in
     (c .before .rows .ensures, (o .inside, o .fits))
 
 put-head-requires : tie.Need-put-head-requires
 put-head-requires c κs =
     let start = c .before .before .before .before .before .before .before .before in
-    let door = start .before .before in
-    let a = door .before .before .before .args in
-    opens (a .item-type) (now (a .body)) _ (sym (start .start .given .1) ∙ door .open-body .ensures) .long
+    let opened = start .before .before in
+    let a = opened .before .before .before .args in
+    opens (a .item-type) (now (a .body)) _ (sym (start .start .given .1) ∙ opened .open-body .ensures) .long
 
 put-refs-requires : tie.Need-put-refs-requires
 put-refs-requires c κs =
@@ -30,18 +30,18 @@ put-refs-requires c κs =
     let counted = count .before .before in
     let rows = counted .before .before in
     let start = rows .before .before in
-    let door = start .before .before in
-    let a = door .before .before .before .args in
-    let o = opens (a .item-type) (now (a .body)) _ (sym (start .start .given .1) ∙ door .open-body .ensures) in
+    let opened = start .before .before in
+    let a = opened .before .before .before .args in
+    let o = opens (a .item-type) (now (a .body)) _ (sym (start .start .given .1) ∙ opened .open-body .ensures) in
     (rows .rows .ensures, (o .fits, sym (count .count .given .1) ∙ counted .count-refs .ensures, o .inside, head .put-head .ensures .1))
 
 returns : tie.Need-returns
 returns c =
     let put = c .before .before in
     let number = put .before .before .before in
-    let door = number .before .before in
-    let a = door .before .before .before .args in
-    let o = opens (a .item-type) (now (a .body)) _ (sym (number .number .given .1) ∙ door .open-body .ensures) in
+    let opened = number .before .before in
+    let a = opened .before .before .before .args in
+    let o = opens (a .item-type) (now (a .body)) _ (sym (number .number .given .1) ∙ opened .open-body .ensures) in
     (put-is (text-shut (a .item-type) (now (a .body)) _ o) (put .put-refused .ensures .0), omega (arith, put .put-refused .ensures .1))
 
 returns-2 : tie.Need-returns-2
@@ -50,9 +50,9 @@ returns-2 c =
     let number = put .before .before .before in
     let counted = number .before .before in
     let start = counted .before .before .before .before in
-    let door = start .before .before in
-    let a = door .before .before .before .args in
-    let o = opens (a .item-type) (now (a .body)) _ (sym (start .start .given .1) ∙ door .open-body .ensures) in (
+    let opened = start .before .before in
+    let a = opened .before .before .before .args in
+    let o = opens (a .item-type) (now (a .body)) _ (sym (start .start .given .1) ∙ opened .open-body .ensures) in (
       put-is (text-fault (a .item-type) (now (a .body)) _ o _ (sym (number .number2 .given .1) ∙ counted .count-refs .ensures)) (put .put-refused2 .ensures .0),
       omega (arith, put .put-refused2 .ensures .1),
     )
@@ -64,9 +64,9 @@ returns-3 c =
     let count = head .before .before .before in
     let counted = count .before .before in
     let start = counted .before .before .before .before in
-    let door = start .before .before in
-    let a = door .before .before .before .args in
-    let o = opens (a .item-type) (now (a .body)) _ (sym (start .start .given .1) ∙ door .open-body .ensures) in (
+    let opened = start .before .before in
+    let a = opened .before .before .before .args in
+    let o = opens (a .item-type) (now (a .body)) _ (sym (start .start .given .1) ∙ opened .open-body .ensures) in (
       put-is (text-is (a .item-type) (now (a .body)) _ o _ (sym (count .count .given .1) ∙ counted .count-refs .ensures)) (put-then (head .put-head .ensures .0) (put .put-refs .ensures .0)),
       omega (arith, o .fits, put .put-refs .ensures .1),
     )

@@ -28,7 +28,7 @@ returns c =
     let r = scan-reads (a .item-type) (now (a .body)) (a .wanted) (a .place) _ (sym (seen .seen .given .1) ∙ scan .scan-body .ensures) in
     let bytes = areBytes-in (now (a .body)) (λ i. scan .before .shared-slice-known .given i .fits) in
     key-ten (a .item-type) (now (a .body)) (a .wanted) (a .place) (a .amount) _ _ r bytes _ (sym (c .before .before .before .before .before .at .given .1) ∙ site .site-anywhere .ensures)
-    _ (c .before .before .before .any-kin .ensures) (sym (c .before .before .may-key .ensures) ∙ not-true _ (c .before .if1 .taken)) (c .refuse2 .ensures .0)
+    _ (c .before .before .before .any-others .ensures) (sym (c .before .before .may-key .ensures) ∙ not-true _ (c .before .if1 .taken)) (c .refuse2 .ensures .0)
 
 returns-2 : tie.Need-returns-2
 returns-2 c =
@@ -70,7 +70,7 @@ returns-5 c =
     let r = scan-reads (a .item-type) (now (a .body)) (a .wanted) (a .place) _ (sym (seen .seen .given .1) ∙ scan .scan-body .ensures) in
     let bytes = areBytes-in (now (a .body)) (λ i. scan .before .shared-slice-known .given i .fits) in
     key-new (a .item-type) (now (a .body)) (a .wanted) (a .place) (a .amount) _ _ r bytes _ (sym (c .before .before .before .before .before .before .before .at .given .1) ∙ site .site-anywhere .ensures)
-    _ (c .before .before .before .before .before .any-kin .ensures) _ _ _ (sym (c .before .before .before .before .may-key .ensures) ∙ not-false _ (c .before .before .before .if1 .left)) (omega arith) (got .get-u64-le .ensures)
+    _ (c .before .before .before .before .before .any-others .ensures) _ _ _ (sym (c .before .before .before .before .may-key .ensures) ∙ not-false _ (c .before .before .before .if1 .left)) (omega arith) (got .get-u64-le .ensures)
     (c .before .size-of .ensures) (record { front = c .before .before .bytes-of .ensures .0; long = c .before .before .bytes-of .ensures .1 }) (c .edit .ensures)
 
 returns-6 : tie.Need-returns-6

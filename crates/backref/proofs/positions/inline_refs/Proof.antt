@@ -8,18 +8,18 @@ use Rattle.backref.proofs.positions.inline_refs.Tie as tie
 
 count-refs-requires : tie.Need-count-refs-requires
 count-refs-requires c κs =
-    let door = c .before .before .before .before .before in
-    let a = door .before .before .before .args in
-    let w = opens (a .item-type) (now (a .body)) _ (sym (c .before .before .before .start .given .1) ∙ door .open-body .ensures) in
+    let opened = c .before .before .before .before .before in
+    let a = opened .before .before .before .args in
+    let w = opens (a .item-type) (now (a .body)) _ (sym (c .before .before .before .start .given .1) ∙ opened .open-body .ensures) in
     (c .before .rows .ensures, (w .inside, w .fits))
 
 returns : tie.Need-returns
 returns c =
     let counted = c .before .before .before .before in
     let start = counted .before .before .before .before in
-    let door = start .before .before in
-    let a = door .before .before .before .args in
-    let w = opens (a .item-type) (now (a .body)) _ (sym (start .start .given .1) ∙ door .open-body .ensures) in
+    let opened = start .before .before in
+    let a = opened .before .before .before .args in
+    let w = opens (a .item-type) (now (a .body)) _ (sym (start .start .given .1) ∙ opened .open-body .ensures) in
     call-short (a .item-type) (now (a .body)) _ w _ (sym (c .before .before .count .given .1) ∙ counted .count-refs .ensures) (now (a .positions)) (c .if1 .taken)
 
 put-positions-requires : tie.Need-put-positions-requires
@@ -28,24 +28,24 @@ put-positions-requires c κs =
     let counted = test .before .before .before .before in
     let rows = counted .before .before in
     let start = rows .before .before in
-    let door = start .before .before in
-    let a = door .before .before .before .args in
-    let w = opens (a .item-type) (now (a .body)) _ (sym (start .start .given .1) ∙ door .open-body .ensures) in
+    let opened = start .before .before in
+    let a = opened .before .before .before .args in
+    let w = opens (a .item-type) (now (a .body)) _ (sym (start .start .given .1) ∙ opened .open-body .ensures) in
     (rows .rows .ensures, (w .fits, sym (test .before .before .count .given .1) ∙ counted .count-refs .ensures, test .if1 .left))
 
 returns-2 : tie.Need-returns-2
 returns-2 c =
-    let door = c .before .before .before in
-    let a = door .before .before .before .args in
-    call-shut (a .item-type) (now (a .body)) _ (now (a .positions)) (opens (a .item-type) (now (a .body)) _ (sym (c .before .number .given .1) ∙ door .open-body .ensures))
+    let opened = c .before .before .before in
+    let a = opened .before .before .before .args in
+    call-shut (a .item-type) (now (a .body)) _ (now (a .positions)) (opens (a .item-type) (now (a .body)) _ (sym (c .before .number .given .1) ∙ opened .open-body .ensures))
 
 returns-3 : tie.Need-returns-3
 returns-3 c =
     let counted = c .before .before .before in
     let start = counted .before .before .before .before in
-    let door = start .before .before in
-    let a = door .before .before .before .args in
-    let w = opens (a .item-type) (now (a .body)) _ (sym (start .start .given .1) ∙ door .open-body .ensures) in
+    let opened = start .before .before in
+    let a = opened .before .before .before .args in
+    let w = opens (a .item-type) (now (a .body)) _ (sym (start .start .given .1) ∙ opened .open-body .ensures) in
     call-fault (a .item-type) (now (a .body)) _ w _ (now (a .positions)) (sym (c .before .number2 .given .1) ∙ counted .count-refs .ensures)
 
 returns-4 : tie.Need-returns-4
@@ -54,9 +54,9 @@ returns-4 c =
     let test = put .before .before .before in
     let counted = test .before .before .before .before in
     let start = counted .before .before .before .before in
-    let door = start .before .before in
-    let a = door .before .before .before .args in
-    let w = opens (a .item-type) (now (a .body)) _ (sym (start .start .given .1) ∙ door .open-body .ensures) in
+    let opened = start .before .before in
+    let a = opened .before .before .before .args in
+    let w = opens (a .item-type) (now (a .body)) _ (sym (start .start .given .1) ∙ opened .open-body .ensures) in
     call-writes (a .item-type) (now (a .body)) _ w _ (sym (test .before .before .count .given .1) ∙ counted .count-refs .ensures) (now (a .positions)) _ (test .if1 .left) (put .put-positions .ensures)
 
 pub inline-refs-spec : {M : Type 1} → statement M

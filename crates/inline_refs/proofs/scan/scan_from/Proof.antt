@@ -15,11 +15,11 @@ use Rattle.inline_refs.proofs.scan.scan_from.Statement.{statement}
 use Rattle.inline_refs.proofs.scan.scan_from.Tie as tie
 
 abbrev Inv-loop : tie.InvT-loop
-Inv-loop rows body start wanted place own sought at₀ kin₀ at kin =
-    scanOf wanted place at (Open kin) (readFrom body at) ≡ scanOf wanted place start (Open false) (readFrom body start)
+Inv-loop rows body start wanted place own sought at₀ others₀ at others =
+    scanOf wanted place at (Open others) (readFrom body at) ≡ scanOf wanted place start (Open false) (readFrom body start)
 
 abbrev μ-loop : tie.MeasureT-loop
-μ-loop rows body start wanted place own sought at₀ kin₀ at kin = length body - at
+μ-loop rows body start wanted place own sought at₀ others₀ at others = length body - at
 
 names-requires : tie.Need-names-requires Inv-loop μ-loop
 names-requires c κs =
@@ -57,7 +57,7 @@ returns-2 c =
     let w = seen (now (step .before .before .before .before .args .body)) (step .before .loop .at) _ (sym (test .before .before .before .kind .given .1) ∙ step .step .ensures) in
     c .scan-gap .ensures _
     ∙ scan-step _ _ _ _ _ _ _ _ _ _ _ w
-    (note-gap _ _ _ _ _ _ _ (test .before .names .ensures) (test .if1 .left) _ _ (stop .before .akin .ensures)
+    (note-gap _ _ _ _ _ _ _ (test .before .names .ensures) (test .if1 .left) _ _ (stop .before .any-of-kind .ensures)
     (rw (step .before .before .kind-of .ensures) at (stop .stops-at .ensures)) (c .before .if2 .taken))
     ∙ step .before .loop .inv
 
@@ -75,7 +75,7 @@ loop-again c =
     let step = test .before .before .before .before .before in
     let w = seen (now (step .before .before .before .before .args .body)) (step .before .loop .at) _ (sym (test .before .before .before .kind .given .1) ∙ step .step .ensures) in
     scan-step _ _ _ _ _ _ _ _ _ _ _ w
-    (note-open _ _ _ _ _ _ _ (test .before .names .ensures) (test .if1 .left) _ _ (stop .before .akin .ensures)
+    (note-open _ _ _ _ _ _ _ (test .before .names .ensures) (test .if1 .left) _ _ (stop .before .any-of-kind .ensures)
     (rw (step .before .before .kind-of .ensures) at (stop .stops-at .ensures)) (c .if2 .left))
     ∙ step .before .loop .inv
 

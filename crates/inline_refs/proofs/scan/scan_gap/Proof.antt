@@ -14,11 +14,11 @@ use Rattle.inline_refs.proofs.scan.scan_gap.Statement.{statement}
 use Rattle.inline_refs.proofs.scan.scan_gap.Tie as tie
 
 abbrev Inv-loop : tie.InvT-loop
-Inv-loop rows body start wanted gap stood at₀ kin₀ at kin =
-    (place : ℕ) → scanOf wanted place at (Gap gap kin) (readFrom body at) ≡ scanOf wanted place start (Gap gap stood) (readFrom body start)
+Inv-loop rows body start wanted gap stood at₀ others₀ at others =
+    (place : ℕ) → scanOf wanted place at (Gap gap others) (readFrom body at) ≡ scanOf wanted place start (Gap gap stood) (readFrom body start)
 
 abbrev μ-loop : tie.MeasureT-loop
-μ-loop rows body start wanted gap stood at₀ kin₀ at kin = length body - at
+μ-loop rows body start wanted gap stood at₀ others₀ at others = length body - at
 
 names-requires : tie.Need-names-requires Inv-loop μ-loop
 names-requires c κs =
@@ -55,7 +55,7 @@ loop-again c =
     let step = test .before .before .before .before .before in
     let w = seen (now (step .before .before .before .args .body)) (step .before .loop .at) _ (sym (test .before .before .before .kind .given .1) ∙ step .step .ensures) in
     λ place.
-    scan-step _ place _ _ _ _ _ _ _ _ _ w (note-still _ _ _ _ _ _ _ (test .before .names .ensures) _ _ (test .if1 .left) (c .akin .ensures))
+    scan-step _ place _ _ _ _ _ _ _ _ _ w (note-still _ _ _ _ _ _ _ (test .before .names .ensures) _ _ (test .if1 .left) (c .any-of-kind .ensures))
     ∙ step .before .loop .inv place
 
 returns-2 : tie.Need-returns-2 Inv-loop μ-loop

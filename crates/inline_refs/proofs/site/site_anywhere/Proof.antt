@@ -3,38 +3,18 @@ use borrow.Author.Needs.{needs}
 use Rattle.inline_refs.proofs.site.site_anywhere.Statement.{statement}
 use Rattle.inline_refs.proofs.site.site_anywhere.Tie as tie
 
--- src/site.rt:39:21
-enum-known-seen : tie.Need-enum-known-seen
-enum-known-seen c = search needs
-
--- src/site.rt:42:13
-enum-known-seen-2 : tie.Need-enum-known-seen-2
-enum-known-seen-2 c = search needs
-
--- src/site.rt:46:34
-enum-told : tie.Need-enum-told
-enum-told c = search needs
-
--- src/site.rt:47:21
-enum-known-seen-3 : tie.Need-enum-known-seen-3
-enum-known-seen-3 c = search needs
-
--- src/site.rt:35:1
 returns : tie.Need-returns
 unfolding siteAnywhere
 returns c = rw (c .before .seen .given .1)
 
--- src/site.rt:35:1
 returns-2 : tie.Need-returns-2
 unfolding siteAnywhere
 returns-2 c = rw (c .before .seen2 .given .1)
 
--- src/site.rt:35:1
 returns-3 : tie.Need-returns-3
 unfolding siteAnywhere
 returns-3 c = rw (c .enum-told .given .1)
 
--- src/site.rt:35:1
 returns-4 : tie.Need-returns-4
 unfolding siteAnywhere
 returns-4 c = rw (c .before .seen3 .given .1)
@@ -42,12 +22,4 @@ returns-4 c = rw (c .before .seen3 .given .1)
 pub site-anywhere-spec : {M : Type 1} → statement M
 site-anywhere-spec =
     tie.close
-    (tie.spec
-    enum-known-seen
-    enum-known-seen-2
-    enum-told
-    enum-known-seen-3
-    returns
-    returns-2
-    returns-3
-    returns-4)
+    (tie.spec (λ c. search needs) (λ c. search needs) (λ c. search needs) (λ c. search needs) returns returns-2 returns-3 returns-4)

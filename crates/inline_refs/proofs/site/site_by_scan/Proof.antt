@@ -3,38 +3,18 @@ use borrow.Author.Needs.{needs}
 use Rattle.inline_refs.proofs.site.site_by_scan.Statement.{statement}
 use Rattle.inline_refs.proofs.site.site_by_scan.Tie as tie
 
--- src/site.rt:56:21
-enum-known-seen : tie.Need-enum-known-seen
-enum-known-seen c = search needs
-
--- src/site.rt:58:13
-enum-known-seen-2 : tie.Need-enum-known-seen-2
-enum-known-seen-2 c = search needs
-
--- src/site.rt:63:34
-enum-told : tie.Need-enum-told
-enum-told c = search needs
-
--- src/site.rt:64:21
-enum-known-seen-3 : tie.Need-enum-known-seen-3
-enum-known-seen-3 c = search needs
-
--- src/site.rt:52:1
 returns : tie.Need-returns
 unfolding siteByScan
 returns c = rw (c .before .seen .given .1)
 
--- src/site.rt:52:1
 returns-2 : tie.Need-returns-2
 unfolding siteByScan
 returns-2 c = rw (c .before .seen2 .given .1)
 
--- src/site.rt:52:1
 returns-3 : tie.Need-returns-3
 unfolding siteByScan
 returns-3 c = rw (c .enum-told .given .1)
 
--- src/site.rt:52:1
 returns-4 : tie.Need-returns-4
 unfolding siteByScan
 returns-4 c = rw (c .before .seen3 .given .1)
@@ -42,12 +22,4 @@ returns-4 c = rw (c .before .seen3 .given .1)
 pub site-by-scan-spec : {M : Type 1} → statement M
 site-by-scan-spec =
     tie.close
-    (tie.spec
-    enum-known-seen
-    enum-known-seen-2
-    enum-told
-    enum-known-seen-3
-    returns
-    returns-2
-    returns-3
-    returns-4)
+    (tie.spec (λ c. search needs) (λ c. search needs) (λ c. search needs) (λ c. search needs) returns returns-2 returns-3 returns-4)
