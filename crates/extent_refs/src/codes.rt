@@ -14,13 +14,13 @@ const ABSENT: u32 = 100;
 
 const REMOVE: u32 = 101;
 
-pub fn put_edited(answer: Edited, len: &mut u64) -> u32
-    ensures { λ r. ⌜ (r ≡ editedCode answer) × (now (len .exit) ≡ editedSize answer) ⌝ }
+pub fn put_edited(answer: Edited, written: &mut u64) -> u32
+    ensures { λ r. ⌜ (r ≡ editedCode answer) × (now (written .exit) ≡ editedSize answer) ⌝ }
 {
-    *len = 0;
+    *written = 0;
     match answer {
         Edited::Written(size) => {
-            *len = size as u64;
+            *written = size as u64;
             ACCEPTED
         }
         Edited::Absent => ABSENT,
