@@ -7,7 +7,7 @@ use lib.ListN.{length, replicate}
 use Rattle.format.specs.Questions.{Answer, codeOf, lentPart, lent}
 use Rattle.format.proofs.Computed.{computed}
 use Rattle.format.proofs.Postings.{opening, opens}
-use Rattle.ledger.specs.Calls.{nextSheet, Demand3}
+use Rattle.theorems.specs.Calls.{nextSheet, Demand3}
 use Rattle.extent_refs.specs.Postings.{changeOf, postedIf}
 use Rattle.extent_refs.specs.Posts.{Post, answerBy, AllKept, callsOf}
 use Rattle.extent_refs.proofs.Posts.{posts-demand-3}

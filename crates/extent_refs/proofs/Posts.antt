@@ -20,9 +20,9 @@ use Rattle.format.specs.Ledger.{posted}
 use Rattle.format.specs.History.{answerTo, balancedSheet}
 use Rattle.theorems.specs.Demand.{Wide, Wides, Decided, no, yes}
 use Rattle.theorems.proofs.Decided.{decided}
-use Rattle.ledger.specs.Calls.{nextSheet, postingOf, postingsOf, Demand3}
-use Rattle.ledger.specs.Calls.{Kept as KeptCall, AllKept as AllKeptCalls}
-use Rattle.ledger.proofs.Calls.{calls-demand-3}
+use Rattle.theorems.specs.Calls.{nextSheet, postingOf, postingsOf, Demand3}
+use Rattle.theorems.specs.Calls.{Kept as KeptCall, AllKept as AllKeptCalls}
+use Rattle.theorems.proofs.Calls.{calls-demand-3}
 use Rattle.extent_refs.specs.Exports.{Coded}
 use Rattle.extent_refs.specs.Postings.{changeOf, postedIf, standIn}
 use Rattle.extent_refs.proofs.Postings.{stands-in}

@@ -9,7 +9,7 @@ use lib.ListN.{length}
 use Rattle.format.specs.declared.Change.{Change}
 use Rattle.format.specs.declared.Edited.{Edited}
 use Rattle.format.specs.declared.Edited.the-variants.{Written, Refused}
-use Rattle.ledger.specs.Calls.{Call, nextSheet}
+use Rattle.theorems.specs.Calls.{Call, nextSheet}
 use Rattle.extent_refs.specs.Exports.{Coded}
 use Rattle.extent_refs.specs.Postings.{changeOf, postedIf, standIn}
 

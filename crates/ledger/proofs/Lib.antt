@@ -4,5 +4,3 @@ pub mod Alsos
 pub mod Adding
 pub mod Dropping
 pub mod Postings
-pub mod Calls
-pub mod Instance

@@ -17,7 +17,7 @@ ghost use Rattle.format.specs.Ledger.{nameOf, kindFits, changed};
 ghost use Rattle.item_list.specs.Steps.{Listed, itemsOf};
 ghost use Rattle.record_edit.specs.Stands.{StandsFor};
 ghost use Rattle.ledger.specs.Posting.{unbalancedOr, SharedWanted};
-ghost use Rattle.ledger.specs.Calls.{Kept};
+ghost use Rattle.theorems.specs.Calls.{Kept};
 
 fn kind_fits(change: Change) -> bool
     ensures { λ r. ⌜ r ≡ kindFits change ⌝ }

@@ -19,3 +19,5 @@ pub mod Acceptance
 pub mod Demand
 pub mod Impossible
 pub mod Instance
+pub mod Calls
+pub mod CallsInstance

@@ -1,3 +1,4 @@
 pub mod Cases
 pub mod Acceptance
 pub mod Demand
+pub mod Calls

@@ -9,10 +9,10 @@ use Rattle.format.specs.Ledger.{posted}
 use Rattle.format.specs.History.{Posting, run}
 use Rattle.format.proofs.Computed.{computed}
 use Rattle.format.proofs.Postings.{opening, closing, postings, opens, closes}
 use Rattle.theorems.specs.Demand.{Wides}
 use Rattle.theorems.proofs.Instance.{wide}
-use Rattle.ledger.specs.Calls.{Call, Kept, nextSheet, AllKept, lastSheet, postingsOf, Demand3}
-use Rattle.ledger.proofs.Calls.{same-run, calls-demand-3}
+use Rattle.theorems.specs.Calls.{Call, Kept, nextSheet, AllKept, lastSheet, postingsOf, Demand3}
+use Rattle.theorems.proofs.Calls.{same-run, calls-demand-3}
 
 -- a call that keeps its contract, with zeros in the lent output before it
 abbrev callFor : List ℕ → Posting → Call

@@ -12,9 +12,9 @@ use Rattle.fields.specs.Numbers.{areBytes}
 use Rattle.format.specs.declared.Edited.{Edited}
 use Rattle.format.specs.Questions.{Answer, refused, absent, remove, accepted, editedOf, lent, Answered}
 use Rattle.format.specs.History.{Posting, Seen, answerTo, sheetAfter, isAccepted, run, seen, balancedSheet}
 use Rattle.theorems.specs.Demand.{Wides, Decided, no, yes, Correct, AllCorrect as AllPosted, Demand3 as OfPostings}
 use Rattle.theorems.proofs.Demand.{demand-3}
-use Rattle.ledger.specs.Calls.{Call, AllKept, wasWritten, wasDecided, nextSheet, lastSheet, seenBy, postingOf, postingsOf, AllCorrect, Demand3}
+use Rattle.theorems.specs.Calls.{Call, AllKept, wasWritten, wasDecided, nextSheet, lastSheet, seenBy, postingOf, postingsOf, AllCorrect, Demand3}
 
 -- what an answer says, the caller sees
 told : (a : Answer (List ℕ)) {r : Edited} {old new : List ℕ} → Answered a r old new → wasWritten r ≡ isAccepted a
