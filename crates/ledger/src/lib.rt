@@ -4,5 +4,4 @@ mod also;
 mod owned;
 mod posting;
 
-pub use adds::add;
 pub use posting::post;

@@ -1,4 +1,5 @@
 // One change posted: questions 1 to 5 first, then the change's own.
+use crate::adds;
 use format::Change;
 use format::Edited;
 use format::SharedRef;
@@ -96,7 +97,7 @@ fn change_at(
 {
     match change {
         Change::AddBlock { extent, name } => {
-            return crate::add(sheet, target, nodesize, extent, Wanted::Block(name), 1, out);
+            return adds::add(sheet, target, nodesize, extent, Wanted::Block(name), 1, out);
         }
         Change::AddData {
             extent,
@@ -104,7 +105,7 @@ fn change_at(
             amount,
         } => {
             let wanted = Wanted::Data(name);
-            return crate::add(sheet, target, nodesize, extent, wanted, amount, out);
+            return adds::add(sheet, target, nodesize, extent, wanted, amount, out);
         }
         Change::AddShared {
             extent,
@@ -112,7 +113,7 @@ fn change_at(
             amount,
         } => {
             let wanted = shared_wanted(name);
-            return crate::add(sheet, target, nodesize, extent, wanted, amount, out);
+            return adds::add(sheet, target, nodesize, extent, wanted, amount, out);
         }
         Change::DropBlock { extent: _, name } => {
             return transaction::drop_ref(sheet, target, Wanted::Block(name), out);

@@ -1,5 +1,5 @@
-// The one writer of calls that change an extent's record in an item list (document 01's sheet): the record's body is a planned
-// edit, and a second place behind the record may change with it.
+// The one search and the one writer of calls that change an extent's record in an item list (document 01's sheet): the record's
+// body is a planned edit, and a second place behind the record may change with it.
 use format::Key;
 
 mod search;

@@ -11,7 +11,7 @@ use Rattle.format.proofs.Computed.{computed}
 use Rattle.format.proofs.Postings.{opening, closing, postings, opens, closes}
 use Rattle.theorems.specs.Demand.{Wides}
 use Rattle.theorems.proofs.Instance.{wide}
-use Rattle.theorems.specs.Calls.{Call, Kept, nextSheet, AllKept, lastSheet, postingsOf, Demand3}
+use Rattle.theorems.specs.Calls.{Call, nextSheet, AllKept, lastSheet, postingsOf, Demand3}
 use Rattle.theorems.proofs.Calls.{same-run, calls-demand-3}
 
 -- a call that keeps its contract, with zeros in the lent output before it

@@ -1,9 +1,8 @@
 -- The calls that add a reference, from the record's place and the planned body. Assumes nothing.
-use mathlib.Core.Path.{_≡_, refl, sym, ap, _∙_}
+use mathlib.Core.Path.{_≡_, sym, ap, _∙_}
 use mathlib.Core.Bool.{Bool, true, false, _&&_}
 use mathlib.Core.List.{List}
-use Prim.Native.Nat.{ℕ, _+_, _-_, _/_, _<_}
-use native.Mathlib.Omega.{arith}
+use Prim.Native.Nat.{ℕ, _+_, _-_}
 use lib.Dec.{leb, T}
 use lib.ListN.{length}
 use Rattle.fields.specs.Lists.{Cut}
@@ -26,21 +25,13 @@ use Rattle.record_edit.proofs.Stands.{stands}
 use Rattle.record_edit.proofs.Searches.{on-refused, on-missing, on-found}
 use Rattle.transaction.proofs.Records.{put-limited}
 
--- ---- question 3, and the limit
+-- ---- question 3
 
 pub both-yes : (a b r : Bool) → a ≡ true → r ≡ b → r ≡ (a && b)
 both-yes a b r h e = rw h e
 
 pub both-no : (a b : Bool) → a ≡ false → false ≡ (a && b)
 both-no a b h = rw h
-
-pub limit-none : (nodesize : ℕ) → nodesize < 501 → 0 ≡ inlineLimit nodesize
-unfolding inlineLimit
-limit-none nodesize h = omega arith
-
-pub limit-is : (nodesize : ℕ) → (nodesize - 101) / 16 - 25 ≡ inlineLimit nodesize
-unfolding inlineLimit
-limit-is nodesize = refl
 
 -- ---- apply_shared_add
 

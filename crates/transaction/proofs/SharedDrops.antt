@@ -70,10 +70,12 @@ reduced-fits rest amount d e =
     let room : 0 + length (leBytes 8 (t .0)) ≤ length rest = omega (arith, length-leBytes 8 (t .0), long) in
     omega (arith, ap length (accepted-inj (t .2)), length-written 0 (leBytes 8 (t .0)) rest room, short)
 
-dropped-fits : (a : Answer (List ℕ)) (amount : ℕ) (d : List ℕ) → bind a (λ rest. reduceTotal rest amount) ≡ accepted d → true ≡ leb (length d) 65535
+dropped-fits : (a : Answer (List ℕ)) (amount : ℕ) (d : List ℕ) → bind a (λ rest. reduceTotal rest amount) ≡ accepted d → true ≡ leb (length d) 65564
 dropped-fits a amount d e =
     let r = bind-ok a _ e in
-    sym (le-leb _ _ (reduced-fits (r .0) amount d (r .2)))
+    let h = reduced-fits (r .0) amount d (r .2) in
+    let fits : length d ≤ 65564 = omega (arith, h) in
+    sym (le-leb (length d) 65564 fits)
 
 module _ (name : SharedRef) (count : ℕ) (asItem : Bool) (room : ℕ) where
   abbrev drop-next : Cut Item → Answer (List Item)
@@ -92,13 +94,13 @@ module _ (name : SharedRef) (count : ℕ) (asItem : Bool) (room : ℕ) where
   pub shared-drop-answered : {s : List ℕ} {extent index : ℕ} {target : RecordAt} → T (areBytes s) → RecordFound s extent (sharedKind (name .kind)) index target
       → (plan : Plan) (r : Edited) (old new : List ℕ)
       → Planned plan (dataOf s (target .start) (target .end)) (dropped (record { key = target .key; bytes = dataOf s (target .start) (target .end) }) name count asItem)
-      → Answered (bind (planAnswer plan (dataOf s (target .start) (target .end))) (heldEdit room (target .«item_count») 65535 (editedSheet s target (nothing (length s))))) r old new
+      → Answered (bind (planAnswer plan (dataOf s (target .start) (target .end))) (heldEdit room (target .«item_count») 65564 (editedSheet s target (nothing (length s))))) r old new
       → Answered (heldSheet room (applySharedDropTo s extent name count asItem)) r old new
   unfolding applySharedDropTo applySharedDrop ask
   shared-drop-answered bytes h plan r old new p w =
       let c : Cut Item = h .there .stands .at-cut in
       let st = stands bytes (h .there .stands) in
-      put-limited st room 65535 plan (dropped (c .hit) name count asItem) (λ d. true) _ r old new
+      put-limited st room 65564 plan (dropped (c .hit) name count asItem) (λ d. true) _ r old new
       (dropped-fits (sharedRest (c .hit) name asItem) count)
       (on-found h (λ items. drop-next) ∙ bind-next (sharedRest (c .hit) name asItem) (λ rest. reduceTotal rest count) (λ body. accepted (putBack c body)))
       (p .says ∙ ap (λ (i : Item). dropped i name count asItem) (sym (st .hit-is))) w

@@ -19,19 +19,21 @@ use Rattle.format.specs.Apply.{inlineLimit, maxInlineExtentItem}
 
 -- ---- the inline limit
 
-module _ (n : ℕ) where
-  pub limit-low : n < 501 → Untold 3 ≡ toldOf (maxInlineExtentItem n)
-  unfolding toldOf maxInlineExtentItem ask nodesizeFits
-  limit-low h = simp (lt-leb _ _ h)
+pub limit-none : (nodesize : ℕ) → nodesize < 501 → 0 ≡ inlineLimit nodesize
+unfolding inlineLimit
+limit-none nodesize h = omega arith
 
-  module _ (low : 501 ≤ n) where
-    pub limit-high : 65536 < n → Untold 3 ≡ toldOf (maxInlineExtentItem n)
-    unfolding toldOf maxInlineExtentItem ask nodesizeFits
-    limit-high h = simp (le-leb _ _ low, lt-leb _ _ h)
+pub limit-is : (nodesize : ℕ) → (nodesize - 101) / 16 - 25 ≡ inlineLimit nodesize
+unfolding inlineLimit
+limit-is nodesize = refl
 
-    pub limit-is : n ≤ 65536 → Value ((n - 101) / 16 - 25) ≡ toldOf (maxInlineExtentItem n)
-    unfolding toldOf maxInlineExtentItem ask nodesizeFits inlineLimit
-    limit-is h = simp (le-leb _ _ low, le-leb _ _ h)
+pub told-limit : (nodesize limit : ℕ) → nodesizeFits nodesize ≡ true → limit ≡ inlineLimit nodesize → Value limit ≡ toldOf (maxInlineExtentItem nodesize)
+unfolding toldOf maxInlineExtentItem ask
+told-limit nodesize limit h e = rw (h, e) refl
+
+pub told-none : (nodesize : ℕ) → nodesizeFits nodesize ≡ false → Untold 3 ≡ toldOf (maxInlineExtentItem nodesize)
+unfolding toldOf maxInlineExtentItem ask
+told-none nodesize h = rw h refl
 
 -- ---- a shared reference, by the row of its kind
 

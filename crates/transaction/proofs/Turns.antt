@@ -1,13 +1,11 @@
 -- Inline, or else at an item: where an answer is absent, and which of two decides. Assumes nothing.
 use mathlib.Core.Path.{_≡_, refl, sym, ap, _∙_, subst}
 use mathlib.Core.Logic.{_⊎_, inl, inr}
-use mathlib.Core.Bool.{Bool, true, false}
 use mathlib.Core.List.{List}
 use Prim.Native.Nat.{ℕ}
 use native.Mathlib.Omega.{arith}
-use lib.Dec.{T}
 use denote.Enum.Declared.{tagOf}
-use Rattle.format.specs.Questions.{Answer, refused, absent, remove, accepted, ask, bind, ifAbsent}
+use Rattle.format.specs.Questions.{Answer, refused, absent, remove, accepted, bind, ifAbsent}
 use Rattle.backref.specs.declared.plan.Outcome.{Outcome}
 use Rattle.backref.specs.declared.plan.Outcome.the-variants.{Edit, Absent, Remove, Refused}
 use Rattle.backref.specs.declared.plan.Plan.{Plan}
@@ -25,18 +23,6 @@ remove-absent e = let z : _≡_ {A = ℕ} 0 1 = cc in absurd (omega arith)
 
 pub accepted-absent : {A : Type 0} {a : A} → _≡_ {A = Answer A} (accepted a) absent → ⊥
 accepted-absent e = let z : _≡_ {A = ℕ} 0 1 = cc in absurd (omega arith)
-
-pub ask-absent : {A : Type 0} (b : Bool) (n : ℕ) (next : Answer A) → ask b n next ≡ absent → T b × (next ≡ absent)
-unfolding ask
-ask-absent true n next e = (tt, e)
-ask-absent false n next e = absurd (refused-absent e)
-
-pub bind-absent : {A B : Type 0} (a : Answer A) (f : A → Answer B) → ((x : A) → f x ≡ absent → ⊥) → bind a f ≡ absent → a ≡ absent
-unfolding bind
-bind-absent (refused n) f h e = absurd (refused-absent e)
-bind-absent absent f h e = refl
-bind-absent remove f h e = absurd (remove-absent e)
-bind-absent (accepted x) f h e = absurd (h x e)
 
 -- ---- by the outcome of the inline plan
 

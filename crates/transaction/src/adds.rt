@@ -1,4 +1,5 @@
 // apply_keyed_add and apply_shared_add.
+use super::limit;
 use backref::Plan;
 use backref::TotalChange;
 use format::Edited;
@@ -14,19 +15,9 @@ ghost use lib.ListN.{length};
 ghost use Rattle.format.specs.Questions.{Answered};
 ghost use Rattle.format.specs.Bodies.{sharedKind};
 ghost use Rattle.format.specs.Items.{nodesizeFits, heldSheet};
-ghost use Rattle.format.specs.Apply.{inlineLimit, sharedBody, applyKeyedAddTo, applySharedAddTo};
+ghost use Rattle.format.specs.Apply.{sharedBody, applyKeyedAddTo, applySharedAddTo};
 ghost use Rattle.backref.specs.Plans.{Planned};
 ghost use Rattle.transaction.specs.Keyed.{unread, keyedPlan, larger, limitFor};
-
-// "(nodesize - 101) / 16, rounded down, minus 25"
-pub fn inline_limit(nodesize: u32) -> usize
-    ensures { λ r. ⌜ r ≡ inlineLimit nodesize ⌝ }
-{
-    if nodesize < 501 {
-        return 0;
-    }
-    ((nodesize - 101) / 16 - 25) as usize
-}
 
 fn larger_of(a: usize, b: usize) -> usize
     ensures { λ r. ⌜ r ≡ larger a b ⌝ }
@@ -41,7 +32,7 @@ fn larger_of(a: usize, b: usize) -> usize
 pub fn limit_for(nodesize: u32, size: usize, grown_only: bool) -> usize
     ensures { λ r. ⌜ r ≡ limitFor nodesize size «grown_only» ⌝ }
 {
-    let limit = inline_limit(nodesize);
+    let limit = limit::inline_limit(nodesize);
     if grown_only {
         return larger_of(size, limit);
     }
@@ -58,7 +49,7 @@ fn shared_fits(nodesize: u32, kind: u8) -> bool
 }
 
 // The record's new body. With the item flag only the total moves.
-pub fn plan_shared(key: Key, body: &[u8], name: SharedRef, count: u32, as_item: bool) -> Plan
+fn plan_shared(key: Key, body: &[u8], name: SharedRef, count: u32, as_item: bool) -> Plan
     ensures { λ r. ⌜ Planned r (now (body .entry)) (sharedBody (record { key = key; bytes = now (body .entry) }) name count «as_item») ⌝ }
 {
     if as_item {
@@ -94,7 +85,7 @@ pub fn apply_shared_add(
 }
 
 // The body is left as it is, read or not.
-pub fn is_unread(keyed: Keyed, count: u32, as_item: bool) -> bool
+fn is_unread(keyed: Keyed, count: u32, as_item: bool) -> bool
     ensures { λ r. ⌜ r ≡ unread keyed count «as_item» ⌝ }
 {
     if as_item {
@@ -107,7 +98,7 @@ pub fn is_unread(keyed: Keyed, count: u32, as_item: bool) -> bool
 }
 
 // The record's new body. With the item flag only the total moves.
-pub fn plan_keyed(key: Key, body: &[u8], keyed: Keyed, count: u32, as_item: bool) -> Plan
+fn plan_keyed(key: Key, body: &[u8], keyed: Keyed, count: u32, as_item: bool) -> Plan
     ensures { λ r. ⌜ Planned r (now (body .entry)) (keyedPlan (record { key = key; bytes = now (body .entry) }) keyed count «as_item») ⌝ }
 {
     if as_item {

@@ -1,4 +1,4 @@
-// What a drop writes: the record with a planned body, and behind it all as it was, an item gone or an item that counts less.
+// What a drop at an item writes: the record with a planned body, and behind it the item gone, or with another count.
 use backref::Plan;
 use format::Edited;
 use record_edit::Behind;

@@ -1,4 +1,5 @@
 // A reference dropped: inline, or else at its own item.
+use super::drop_edits;
 use backref::Outcome;
 use backref::Plan;
 use backref::TotalChange;
@@ -84,10 +85,10 @@ fn drop_count(
     match outcome {
         Outcome::Refused(number) => Edited::Refused(number),
         Outcome::Absent => Edited::Absent,
-        Outcome::Remove => crate::put_without(sheet, target, rest, from, to, out),
+        Outcome::Remove => drop_edits::put_without(sheet, target, rest, from, to, out),
         Outcome::Edit => {
             let count = fields::get_u32_le(sheet, to - 4);
-            crate::put_count(sheet, target, rest, to, count - 1, out)
+            drop_edits::put_count(sheet, target, rest, to, count - 1, out)
         }
     }
 }
@@ -109,7 +110,7 @@ fn drop_at_item(
         let start = target.start;
         let end = target.end;
         let rest = plan_lowered(&sheet[from + 21..to], &sheet[start + 21..end], name);
-        return crate::put_without(sheet, target, rest, from, to, out);
+        return drop_edits::put_without(sheet, target, rest, from, to, out);
     };
     drop_count(sheet, target, from, to, data, out)
 }

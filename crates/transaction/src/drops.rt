@@ -43,8 +43,7 @@ pub fn apply_shared_drop(
             let start = target.start;
             let end = target.end;
             let plan = plan_drop_shared(target.key, &sheet[start + 21..end], name, count, as_item);
-            // Question 17 is not asked: no body is longer than this limit.
-            return record_edit::put_record(sheet, target, plan, 65535, out);
+            return record_edit::put_record(sheet, target, plan, crate::NO_LIMIT, out);
         }
     }
 }

@@ -14,18 +14,9 @@ mod limit;
 mod record_index;
 mod shared_adds;
 
-// Question 17 is not asked: a planned body has at most 65,564 bytes.
-const NO_LIMIT: usize = 65564;
-
 pub use adds::apply_keyed_add;
 pub use adds::apply_shared_add;
-pub use adds::inline_limit;
-pub use adds::is_unread;
 pub use adds::limit_for;
-pub use adds::plan_keyed;
-pub use adds::plan_shared;
-pub use drop_edits::put_count;
-pub use drop_edits::put_without;
 pub use drop_kept::drop_kept_tree_ref;
 pub use drop_refs::drop_ref;
 pub use drops::apply_shared_drop;
@@ -36,3 +27,6 @@ pub use record_index::record_of;
 pub use shared_adds::shared_add_inline_size;
 pub use shared_adds::shared_add_item;
 pub use shared_adds::shared_add_key;
+
+// Question 17 is not asked: a planned body has at most 65,564 bytes.
+const NO_LIMIT: usize = 65564;

@@ -1,17 +1,16 @@
-use Rattle.transaction.proofs.Sizes.{limit-low, limit-high, limit-is}
+use mathlib.Core.Path.{sym, _∙_}
+use Rattle.transaction.proofs.Sizes.{told-limit, told-none}
 use borrow.Author.Needs.{needs}
 use Rattle.transaction.proofs.limit.max_inline_extent_item.Statement.{statement}
 use Rattle.transaction.proofs.limit.max_inline_extent_item.Tie as tie
 
 returns : tie.Need-returns
-returns c = limit-low _ (c .if1 .taken)
+returns c = told-limit _ _ (sym (c .before .before .nodesize-fits .ensures) ∙ c .before .if1 .taken) (c .inline-limit .ensures)
 
 returns-2 : tie.Need-returns-2
-returns-2 c = limit-high _ (c .before .if1 .left) (c .if2 .taken)
-
-returns-3 : tie.Need-returns-3
-returns-3 c = limit-is _ (c .before .if1 .left) (c .if2 .left)
+returns-2 c = told-none _ (sym (c .before .nodesize-fits .ensures) ∙ c .if1 .left)
 
 pub max-inline-extent-item-spec : {M : Type 1} → statement M
 max-inline-extent-item-spec =
-    tie.close (tie.spec returns returns-2 (λ c. search needs) (λ c. search needs) (λ c. search needs) returns-3)
+    tie.close
+    (tie.spec (λ c κs. search needs) (λ c κs. search needs) returns returns-2)

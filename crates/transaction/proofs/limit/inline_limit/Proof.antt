@@ -1,7 +1,7 @@
-use Rattle.transaction.proofs.Additions.{limit-none, limit-is}
+use Rattle.transaction.proofs.Sizes.{limit-none, limit-is}
 use borrow.Author.Needs.{needs}
-use Rattle.transaction.proofs.adds.inline_limit.Statement.{statement}
-use Rattle.transaction.proofs.adds.inline_limit.Tie as tie
+use Rattle.transaction.proofs.limit.inline_limit.Statement.{statement}
+use Rattle.transaction.proofs.limit.inline_limit.Tie as tie
 
 returns : tie.Need-returns
 returns c = limit-none _ (c .if1 .taken)
