@@ -1,7 +1,7 @@
 -- What the computed postings share: the definitions on the way of a posting opened by one name, and sheets made from references.
 -- Assumes nothing.
 use mathlib.Core.List.{List, [], _∷_, _++_}
-use Prim.Native.Nat.{ℕ}
+use Prim.Native.Nat.{ℕ, _+_, _*_, _^_}
 use Rattle.fields.specs.Lists.{same}
 use Rattle.fields.specs.Numbers.{le, leBytes, be, beBytes, words, wordBytes}
 use Rattle.crc32c.specs.Register.{step, steps, byteStep}
@@ -13,7 +13,7 @@ use Rattle.format.specs.declared.Change.{Change}
 use Rattle.format.specs.Questions.{ask, bind, needed, found, ifAbsent, also, held, codeOf}
 use Rattle.format.specs.Hash.{dataRefHash}
 use Rattle.format.specs.References.{rowIn, known, payloadLength, countPosition, counted, fieldCount, Ref, ref, weightOf, refAt, readRefs, refBytes, refsBytes, totalOf, flagsOf, startOf, readBody, bodyBytes, placeOf, place, falls, follows}
-use Rattle.format.specs.Bodies.{bodyFits, sharedKind, onBody, onHead, named, raisedBy, loweredByOne, reducedBy, onTotal, raiseTotal, lowerTotal, reduceTotal, less, dropInline, dropInlineTreeRef, dropInlineDataRef, takeInlineShared, keyedCount, dropKeyedDataRef, stops, gapAt, insertPosition, standingOr, spotAnywhere, scanned, spotByScan, isGap, standingWeight, addAt, addInlineTreeRef, addInlineData, addInlineShared, keyedDataRefBody}
+use Rattle.format.specs.Bodies.{triple, bodyFits, sharedKind, onBody, onHead, named, raisedBy, loweredByOne, reducedBy, onTotal, raiseTotal, lowerTotal, reduceTotal, less, dropInline, dropInlineTreeRef, dropInlineDataRef, takeInlineShared, keyedCount, dropKeyedDataRef, stops, gapAt, insertPosition, standingOr, spotAnywhere, scanned, spotByScan, isGap, standingWeight, addAt, addInlineTreeRef, addInlineData, addInlineShared, keyedDataRefBody}
 use Rattle.format.specs.Items.{Item, keyOf, sameKey, keyBelow, itemLength, wholeItem, firstItem, readItems, readSheet, keyBytes, itemBytes, itemsBytes, sheetBytes, nodesizeFits, dataFits, onSheet, sheetHolds, heldSheet}
 use Rattle.format.specs.Sheets.{deleted}
 use Rattle.format.specs.Apply.{inlineLimit, isRecord, onRecord, replaced, keyedBody, applyKeyedAdd, sharedBody, applySharedAdd, flagged, dropTreeRef}
@@ -31,9 +31,14 @@ computed sheet p = codeOf (answerTo sheet p)
 abbrev pub tree : ℕ → BlockRef
 tree id = record { tree = id }
 
--- of tree 5
-abbrev pub inode : ℕ → ℕ → DataRef
-inode objectid offset = record { tree = 5; objectid = objectid; offset = offset }
+-- a triple whose hash takes few steps to compute: the register is the polynomial after this tree; it is 0 after this objectid, and
+-- at the end the entry of document 01's table with the number that is the last byte of the offset
+abbrev pub byEntry : ℕ → DataRef
+byEntry number = record { tree = 0x80000000ffffffff; objectid = 0xffffffff; offset = number * 2 ^ 56 }
+
+-- another triple of the same hash: the register is the polynomial after this objectid, and 0 after the polynomial in the offset
+abbrev pub sameHash : ℕ → DataRef
+sameHash number = record { tree = 0x80000000ffffffff; objectid = 0x80000000ffffffff; offset = number * 2 ^ 56 + 0x82f63b78 }
 
 abbrev pub parent : ℕ → ℕ → SharedRef
 parent kind block = record { kind = kind; parent = block }
@@ -59,7 +64,7 @@ blockInfoRecord extent total refs =
     item extent 168 4096 (recordBytes 2 total (1 ∷ 2 ∷ 3 ∷ 4 ∷ 5 ∷ 6 ∷ 7 ∷ 8 ∷ 9 ∷ 10 ∷ 11 ∷ 12 ∷ 13 ∷ 14 ∷ 15 ∷ 16 ∷ 17 ∷ 18 ∷ []) refs)
 
 abbrev pub dataRef : ℕ → ℕ → Ref
-dataRef objectid count = ref 178 (5 ∷ objectid ∷ 0 ∷ []) count
+dataRef number count = ref 178 (triple (byEntry number)) count
 
 -- ---- a posting with the code that it answers: 0 where it is accepted, else the number of the refusal
 

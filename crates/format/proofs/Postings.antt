@@ -10,18 +10,18 @@ use Rattle.fields.specs.Numbers.{leBytes}
 use Rattle.format.specs.declared.Change.the-variants.{AddBlock, AddData, AddShared, DropBlock, DropData, DropShared}
 use Rattle.format.specs.Questions.{Answer, codeOf}
 use Rattle.format.specs.References.{ref, weightOf}
-use Rattle.format.specs.Bodies.{keyedDataRefBody}
+use Rattle.format.specs.Bodies.{triple, keyedDataRefBody}
 use Rattle.format.specs.Items.{Item, sheetBytes}
 use Rattle.format.specs.Names.{Name, count}
 use Rattle.format.specs.History.{Posting, answerTo, sheetAfter, isAccepted, run, Seen, seen, Tally, history, historyOf, touched, itemsOf, sheetItems, balancedSheet}
-use Rattle.format.proofs.Computed.{computed, tree, inode, parent, item, blockRecord, dataRecord, blockInfoRecord, dataRef, Expected, expectWithin, expect}
+use Rattle.format.proofs.Computed.{computed, tree, byEntry, sameHash, parent, item, blockRecord, dataRecord, blockInfoRecord, dataRef, Expected, expectWithin, expect}
 
 -- ---- the sheets
 
 -- an extent that no posting names: a triple that another extent has too, a reference item, and an item that names nothing
 abbrev others : List Item
 others =
-    dataRecord 24576 3 (dataRef 257 1 ∷ []) ∷ item 24576 184 100 (leBytes 4 2) ∷ item 24576 192 4096 (1 ∷ 2 ∷ 3 ∷ []) ∷ []
+    dataRecord 24576 3 (dataRef 64 1 ∷ []) ∷ item 24576 184 100 (leBytes 4 2) ∷ item 24576 192 4096 (1 ∷ 2 ∷ 3 ∷ []) ∷ []
 
 unfoldable pub opening : List ℕ
 opening =
@@ -29,8 +29,8 @@ opening =
     (blockRecord 8192 4 (ref 176 (5 ∷ []) 1 ∷ ref 182 (100 ∷ []) 1 ∷ [])
     ∷ item 8192 176 9 []
     ∷ item 8192 182 400 []
-    ∷ dataRecord 12288 9 (ref 172 (5 ∷ []) 0 ∷ dataRef 257 2 ∷ ref 184 (50 ∷ []) 3 ∷ [])
-    ∷ item 12288 178 0x0dfb591fbbf5f519 (keyedDataRefBody (inode 258 0) 2)
+    ∷ dataRecord 12288 9 (ref 172 (5 ∷ []) 0 ∷ dataRef 64 2 ∷ ref 184 (50 ∷ []) 3 ∷ [])
+    ∷ item 12288 178 0x417b1dbc82f63b78 (keyedDataRefBody (byEntry 128) 2)
     ∷ item 12288 184 300 (leBytes 4 2)
     ∷ blockInfoRecord 16384 1 (ref 176 (5 ∷ []) 1 ∷ [])
     ∷ blockRecord 20480 1 (ref 182 (100 ∷ []) 1 ∷ [])
@@ -44,7 +44,7 @@ unfoldable pub closing : List ℕ
 closing =
     sheetBytes
     (kept
-    ∷ dataRecord 12288 12 (ref 172 (5 ∷ []) 0 ∷ dataRef 258 6 ∷ dataRef 257 4 ∷ ref 184 (60 ∷ []) 2 ∷ [])
+    ∷ dataRecord 12288 12 (ref 172 (5 ∷ []) 0 ∷ dataRef 128 6 ∷ dataRef 64 4 ∷ ref 184 (60 ∷ []) 2 ∷ [])
     ∷ blockInfoRecord 16384 1 (ref 176 (4 ∷ []) 1 ∷ [])
     ∷ blockRecord 20480 0 []
     ∷ others)
@@ -53,33 +53,37 @@ closing =
 
 unfoldable pub expected : List Expected
 expected =
-    -- data references. The item of inode 258 goes with its last count; (5, 259, 1228700967) has the hash of (5, 258, 0)
-    expect (DropData 12288 (inode 258 0)) 0
-    ∷ expect (DropData 12288 (inode 259 1228700967)) 15
-    ∷ expect (AddData 12288 (inode 258 0) 0) 9
-    ∷ expect (DropData 12288 (inode 258 0)) 0
-    ∷ expect (DropData 12288 (inode 258 0)) 5
-    -- a body that does not grow is not held to the inline limit, which is 0 here
-    ∷ expectWithin 501 1000 (AddData 12288 (inode 257 0) 3) 0
-    ∷ expectWithin 501 1000 (AddData 12288 (inode 256 0) 1) 17
-    ∷ expect (AddData 12288 (inode 257 0) 4294967291) 11
-    ∷ expect (DropData 12288 (inode 257 0)) 0
-    ∷ expect (AddData 12288 (inode 256 0) 0) 10
-    ∷ expect (AddData 12288 (inode 256 0) 1) 0
-    ∷ expect (DropData 12288 (inode 256 0)) 0
-    -- block references, inline before and after those that stand, and the item of tree 9
-    ∷ expect (AddBlock 8192 (tree 7)) 0
-    ∷ expect (AddBlock 8192 (tree 7)) 9
-    ∷ expectWithin 65536 1000 (AddBlock 8192 (tree 3)) 0
+    -- references that stand as items: an add is refused while the item stands, and a drop takes the item. That of a data reference
+    -- goes with its last count; another triple has its hash
+    expect (DropData 12288 (byEntry 128)) 0
+    ∷ expect (DropData 12288 (sameHash 128)) 15
+    ∷ expect (AddData 12288 (byEntry 128) 0) 9
+    ∷ expect (DropData 12288 (byEntry 128)) 0
+    ∷ expect (DropData 12288 (byEntry 128)) 5
     ∷ expectWithin 501 1000 (AddBlock 8192 (tree 9)) 9
     ∷ expect (DropBlock 8192 (tree 9)) 0
     ∷ expect (DropBlock 8192 (tree 9)) 5
+    ∷ expect (AddShared 12288 (parent 184 300) 1) 9
+    ∷ expect (DropShared 12288 (parent 184 300)) 0
+    ∷ expect (DropShared 8192 (parent 182 400)) 0
+    -- data references inline. A body that does not grow is not held to the inline limit, which is 0 here
+    ∷ expectWithin 501 1000 (AddData 12288 (byEntry 64) 3) 0
+    ∷ expectWithin 501 1000 (AddData 12288 (byEntry 32) 1) 17
+    ∷ expect (AddData 12288 (byEntry 64) 4294967291) 11
+    ∷ expect (DropData 12288 (byEntry 64)) 0
+    ∷ expect (AddData 12288 (byEntry 32) 0) 10
+    ∷ expect (AddData 12288 (byEntry 32) 1) 0
+    ∷ expect (DropData 12288 (byEntry 32)) 0
+    -- block references inline, before and after those that stand
+    ∷ expect (AddBlock 8192 (tree 7)) 0
+    ∷ expect (AddBlock 8192 (tree 7)) 9
+    ∷ expectWithin 65536 1000 (AddBlock 8192 (tree 3)) 0
     ∷ expect (DropBlock 8192 (tree 5)) 0
     ∷ expect (DropBlock 16384 (tree 5)) 13
     ∷ expect (AddBlock 16384 (tree 4)) 0
     ∷ expect (DropBlock 16384 (tree 5)) 0
     ∷ expect (AddBlock 4096 (tree 4)) 5
-    -- shared references
+    -- shared references inline
     ∷ expect (AddShared 8192 (parent 182 200) 1) 0
     ∷ expect (AddShared 8192 (parent 182 200) 2) 9
     ∷ expect (AddShared 8192 (parent 182 7) 2) 10
@@ -88,13 +92,10 @@ expected =
     ∷ expect (AddShared 12288 (parent 184 50) 1) 0
     ∷ expect (AddShared 12288 (parent 184 50) 4294967288) 11
     ∷ expect (AddShared 12288 (parent 184 60) 0) 10
-    ∷ expect (AddShared 12288 (parent 184 300) 1) 9
     ∷ expect (AddShared 12288 (parent 183 60) 1) 3
     -- this one is held to the limit, though the body does not grow
     ∷ expectWithin 501 1000 (AddShared 12288 (parent 184 50) 1) 17
     ∷ expect (DropShared 12288 (parent 184 50)) 0
-    ∷ expect (DropShared 12288 (parent 184 300)) 0
-    ∷ expect (DropShared 8192 (parent 182 400)) 0
     ∷ expect (DropShared 8192 (parent 182 100)) 0
     ∷ expect (AddShared 8192 (parent 182 100) 1) 0
     ∷ expect (DropShared 8192 (parent 182 100)) 0
@@ -106,7 +107,8 @@ expected =
     -- a lent output one byte short, and one that just holds the result
     ∷ expectWithin 4096 417 (AddBlock 8192 (tree 2)) 21
     ∷ expectWithin 4096 418 (AddBlock 8192 (tree 2)) 0
-    ∷ expect (AddData 12288 (inode 258 0) 6) 0
+    -- it goes before the triple of a lower hash
+    ∷ expect (AddData 12288 (byEntry 128) 6) 0
     ∷ []
 
 abbrev postingsOf : List Expected → List Posting
@@ -192,12 +194,12 @@ nameTally extent kind fields opening given taken left =
 unfoldable pub nameTallies : List NameTally
 nameTallies =
     -- given and taken, and the same triple in another extent
-    nameTally 12288 178 (5 ∷ 257 ∷ 0 ∷ []) 2 3 1 4
-    ∷ nameTally 24576 178 (5 ∷ 257 ∷ 0 ∷ []) 1 0 0 1
+    nameTally 12288 178 (triple (byEntry 64)) 2 3 1 4
+    ∷ nameTally 24576 178 (triple (byEntry 64)) 1 0 0 1
     -- an item's last count taken, then given inline
-    ∷ nameTally 12288 178 (5 ∷ 258 ∷ 0 ∷ []) 2 6 2 6
+    ∷ nameTally 12288 178 (triple (byEntry 128)) 2 6 2 6
     -- of the same hash, never accepted
-    ∷ nameTally 12288 178 (5 ∷ 259 ∷ 1228700967 ∷ []) 0 0 0 0
+    ∷ nameTally 12288 178 (triple (sameHash 128)) 0 0 0 0
     ∷ nameTally 8192 176 (7 ∷ []) 0 1 0 1
     ∷ nameTally 8192 176 (5 ∷ []) 1 0 1 0
     ∷ nameTally 8192 176 (9 ∷ []) 1 0 1 0

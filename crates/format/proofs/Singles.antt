@@ -8,10 +8,10 @@ use lib.ListN.{take}
 use Rattle.fields.specs.Numbers.{leBytes, beBytes}
 use Rattle.format.specs.declared.Change.the-variants.{AddBlock, AddData, AddShared, DropBlock, DropData, DropShared}
 use Rattle.format.specs.References.{Ref, ref}
-use Rattle.format.specs.Bodies.{keyedDataRefBody}
+use Rattle.format.specs.Bodies.{triple, keyedDataRefBody}
 use Rattle.format.specs.Items.{Item, sheetBytes}
 use Rattle.format.specs.History.{balancedSheet}
-use Rattle.format.proofs.Computed.{computed, tree, inode, parent, item, recordBytes, blockRecord, dataRecord, dataRef, Expected, expectWithin, expect}
+use Rattle.format.proofs.Computed.{computed, tree, byEntry, sameHash, parent, item, recordBytes, blockRecord, dataRecord, dataRef, Expected, expectWithin, expect}
 
 pub record Single : Type 0 where
   pub sheet : List ℕ
@@ -35,10 +35,11 @@ beside items code = on (blockRecord 8192 1 (ref 176 (5 ∷ []) 1 ∷ []) ∷ ite
 abbrev of : ℕ → List Ref → ℕ → Single
 of total refs code = on (blockRecord 8192 total refs ∷ []) (add code)
 
+-- the hash of `byEntry 128`
 abbrev hash : ℕ
-hash = 0x0dfb591fbbf5f519
+hash = 0x417b1dbc82f63b78
 
--- a data extent of that total with the item of (5, 258, 0)
+-- a data extent of that total with an item at that offset
 abbrev byItem : ℕ → ℕ → List ℕ → Expected → Single
 byItem total offset bytes expected = on (dataRecord 12288 total [] ∷ item 12288 178 offset bytes ∷ []) expected
 
@@ -75,9 +76,9 @@ singles =
     ∷ of 2 (ref 176 (4 ∷ []) 1 ∷ ref 176 (5 ∷ []) 1 ∷ []) 4
     ∷ of 2 (ref 182 (4 ∷ []) 1 ∷ ref 182 (5 ∷ []) 1 ∷ []) 4
     ∷ of 2 (ref 184 (4 ∷ []) 1 ∷ ref 184 (5 ∷ []) 1 ∷ []) 4
-    ∷ of 2 (dataRef 256 1 ∷ dataRef 257 1 ∷ []) 4
+    ∷ of 2 (dataRef 32 1 ∷ dataRef 64 1 ∷ []) 4
     -- a name twice: inline, and inline and as an item
-    ∷ of 2 (dataRef 257 1 ∷ dataRef 257 1 ∷ []) 4
+    ∷ of 2 (dataRef 64 1 ∷ dataRef 64 1 ∷ []) 4
     ∷ on (blockRecord 8192 2 (ref 176 (5 ∷ []) 1 ∷ []) ∷ item 8192 176 5 [] ∷ []) (add 4)
     -- a count of 0, inline and as an item
     ∷ of 0 (ref 184 (5 ∷ []) 0 ∷ []) 4
@@ -86,9 +87,9 @@ singles =
     ∷ on (blockRecord 8192 2 (ref 176 (5 ∷ []) 1 ∷ []) ∷ item 8192 176 6 (0 ∷ []) ∷ []) (add 4)
     ∷ beside (item 8192 182 6 (0 ∷ []) ∷ []) 4
     ∷ on (blockRecord 8192 2 (ref 176 (5 ∷ []) 1 ∷ []) ∷ item 8192 184 6 (leBytes 8 1) ∷ []) (add 4)
-    ∷ byItem 0 hash (leBytes 8 5 ++ leBytes 8 258) (add 4)
-    ∷ byItem 1 hash (keyedDataRefBody (inode 258 0) 1 ++ 0 ∷ []) (add 4)
-    ∷ byItem 1 (hash + 1) (keyedDataRefBody (inode 258 0) 1) (add 4)
+    ∷ byItem 0 hash (take 16 (keyedDataRefBody (byEntry 128) 1)) (add 4)
+    ∷ byItem 1 hash (keyedDataRefBody (byEntry 128) 1 ++ 0 ∷ []) (add 4)
+    ∷ byItem 1 (hash + 1) (keyedDataRefBody (byEntry 128) 1) (add 4)
     -- 3 before 4, and 4 before 5
     ∷ on (blockRecord 8192 2 [] ∷ []) (expectWithin 500 1000 (AddBlock 8192 (tree 7)) 3)
     ∷ on (blockRecord 8192 2 [] ∷ []) (expectWithin 65537 1000 (DropBlock 8192 (tree 7)) 3)
@@ -99,15 +100,15 @@ singles =
     ∷ on (blockRecord 8192 1 (ref 176 (5 ∷ []) 1 ∷ []) ∷ []) (expectWithin 1173 1000 (AddBlock 8192 (tree 7)) 0)
     ∷ on (blockRecord 8192 1 (ref 176 (5 ∷ []) 1 ∷ []) ∷ []) (expectWithin 1172 1000 (AddBlock 8192 (tree 7)) 17)
     -- two triples of one hash stand inline, the new one behind
-    ∷ on (dataRecord 12288 2 (dataRef 257 2 ∷ []) ∷ []) (expect (AddData 12288 (inode 258 3678701417) 1) 0)
-    ∷ of 2 (dataRef 257 1 ∷ ref 178 (5 ∷ 258 ∷ 3678701417 ∷ []) 1 ∷ []) 0
+    ∷ on (dataRecord 12288 2 (dataRef 64 2 ∷ []) ∷ []) (expect (AddData 12288 (sameHash 64) 1) 0)
+    ∷ of 2 (dataRef 64 1 ∷ ref 178 (triple (sameHash 64)) 1 ∷ []) 0
     -- 11: the largest count, and one more
-    ∷ on (dataRecord 12288 2 (dataRef 257 2 ∷ []) ∷ []) (expect (AddData 12288 (inode 257 0) 4294967293) 0)
-    ∷ on (dataRecord 12288 2 (dataRef 257 2 ∷ []) ∷ []) (expect (AddData 12288 (inode 257 0) 4294967294) 11)
+    ∷ on (dataRecord 12288 2 (dataRef 64 2 ∷ []) ∷ []) (expect (AddData 12288 (byEntry 64) 4294967293) 0)
+    ∷ on (dataRecord 12288 2 (dataRef 64 2 ∷ []) ∷ []) (expect (AddData 12288 (byEntry 64) 4294967294) 11)
     -- 13 before 15; 13 of the last data reference, inline or as an item
-    ∷ byItem 1 hash (keyedDataRefBody (inode 258 0) 1) (expect (DropData 12288 (inode 259 1228700967)) 13)
-    ∷ byItem 1 hash (keyedDataRefBody (inode 258 0) 1) (expect (DropData 12288 (inode 258 0)) 13)
-    ∷ on (dataRecord 12288 1 (dataRef 257 1 ∷ []) ∷ []) (expect (DropData 12288 (inode 257 0)) 13)
+    ∷ byItem 1 hash (keyedDataRefBody (byEntry 128) 1) (expect (DropData 12288 (sameHash 128)) 13)
+    ∷ byItem 1 hash (keyedDataRefBody (byEntry 128) 1) (expect (DropData 12288 (byEntry 128)) 13)
+    ∷ on (dataRecord 12288 1 (dataRef 64 1 ∷ []) ∷ []) (expect (DropData 12288 (byEntry 64)) 13)
     ∷ []
 
 abbrev computedOf : List Single → List ℕ
