@@ -22,7 +22,7 @@ use Rattle.backref.specs.Plans.{edited, Planned}
 use Rattle.backref.specs.Heads.{headOf}
 use Rattle.backref.specs.declared.total_plans.TotalChange.{TotalChange}
 use Rattle.backref.specs.declared.total_plans.TotalChange.the-variants.{Raise, LowerByOne, Reduce}
-use Rattle.backref.specs.Totals.{changeTotal, totalBy, answerOf}
+use Rattle.backref.specs.Totals.{changeTotal, totalBy, toldAnswer}
 use Rattle.backref.proofs.Outcomes.{plan-edit, plan-refused, plan-same}
 use Rattle.backref.proofs.PlannedTotals.{rewritten, word-front}
 
@@ -100,8 +100,8 @@ module _ (body : List ℕ) (n : ℕ) (q : n ≡ headOf body) (p : Plan) where
     total-head z e = plan-same p body _ _ (change-is body change) (head-refused _ z e)
 
     -- behind questions 3 and 6, where the total with the change is told
-    module _ (z : n ≡ 0) (t : ℕ) (is : t ≡ le (part 0 8 body)) (told : Told) (says : answerOf told ≡ totalBy change t) where
-      becomes : (a : Answer ℕ) → answerOf told ≡ a → onTotal body (totalBy change) ≡ bind a (λ total. accepted (written 0 (leBytes 8 total) body))
+    module _ (z : n ≡ 0) (t : ℕ) (is : t ≡ le (part 0 8 body)) (told : Told) (says : toldAnswer told ≡ totalBy change t) where
+      becomes : (a : Answer ℕ) → toldAnswer told ≡ a → onTotal body (totalBy change) ≡ bind a (λ total. accepted (written 0 (leBytes 8 total) body))
       unfolding onTotal totalOf
       becomes a e =
           head body n q .passes _ z
@@ -109,7 +109,7 @@ module _ (body : List ℕ) (n : ℕ) (q : n ≡ headOf body) (p : Plan) where
 
       pub total-refused : (m : ℕ) → told ≡ Untold m → p .outcome ≡ Refused m → Planned p body (changeTotal body change)
       unfolding bind
-      total-refused m e o = plan-same p body _ _ (change-is body change) (plan-refused p body _ m o (becomes (refused m) (ap answerOf e)))
+      total-refused m e o = plan-same p body _ _ (change-is body change) (plan-refused p body _ m o (becomes (refused m) (ap toldAnswer e)))
 
       pub total-plan : (new : ℕ) → told ≡ Value new → p ≡ totalPlan new → Planned p body (changeTotal body change)
       unfolding edited bind
@@ -118,7 +118,7 @@ module _ (body : List ℕ) (n : ℕ) (q : n ≡ headOf body) (p : Plan) where
           (plan-same (totalPlan new) body _ _ (change-is body change)
           (plan-edit (totalPlan new) body _ (written 0 (leBytes 8 new) body) refl
           (record { low = omega arith; order = omega arith; high = omega (arith, head body n q .long z); fits = head body n q .fits z; small = omega arith; full = refl })
-          (becomes (accepted new) (ap answerOf e)) (total-only new body)))
+          (becomes (accepted new) (ap toldAnswer e)) (total-only new body)))
 
 -- ---- flags
 

@@ -1,8 +1,8 @@
-pub mod Places
+pub mod RefPositions
 pub mod Picks
 pub mod Heads
 pub mod NewBytes
-pub mod Sites
+pub mod AddedAt
 pub mod Takes
 pub mod Gives
 pub mod KeyedDrops

@@ -14,12 +14,12 @@ use Rattle.format.specs.declared.Edited.{Edited}
 use Rattle.format.specs.Questions.{ask, Answered}
 use Rattle.format.specs.Bodies.{heldBody, one, sharedKind, addInlineShared, addInlineKeyed, takeInlineShared}
 use Rattle.inline_refs.specs.Scans.{kindOf, fieldsOf}
-use Rattle.inline_refs.specs.declared.wanted.Wanted.{Wanted}
-use Rattle.inline_refs.specs.declared.wanted.Wanted.the-variants.{Block, Data}
+use Rattle.inline_refs.specs.declared.ref_name.RefName.{RefName}
+use Rattle.inline_refs.specs.declared.ref_name.RefName.the-variants.{Block, Data}
 use Rattle.backref.specs.declared.plan.Plan.{Plan}
 use Rattle.backref.specs.declared.plan.Outcome.the-variants.{Refused}
 use Rattle.backref.specs.Plans.{Planned, PlannedTaken}
-use Rattle.backref.specs.Adds.{ownPlace, spotOf, addInline, addKeyed}
+use Rattle.backref.specs.Adds.{ownRank, positionOf, addInline, addKeyed}
 use Rattle.backref.specs.Takes.{takeInline}
 use Rattle.backref.proofs.Gives.{add-is}
 use Rattle.backref.proofs.Outcomes.{plan-refused, plan-same}
@@ -35,9 +35,9 @@ not-data kind t = ne-eqb kind 178 (λ e. subst T (sym (subst (λ (k : ℕ). shar
 
 -- a wanted name that is the shared one, of a kind that is shared
 module _ (type : ℕ) (d : List ℕ) (s : SharedRef) (plan : Plan) where
-  module _ (w : Wanted) (shared : sharedKind (s .kind) ≡ true) (names : (kindOf w ≡ s .kind) × (fieldsOf w ≡ one (s .parent)) × (ownPlace w ≡ s .parent)) where
+  module _ (w : RefName) (shared : sharedKind (s .kind) ≡ true) (names : (kindOf w ≡ s .kind) × (fieldsOf w ≡ one (s .parent)) × (ownRank w ≡ s .parent)) where
     pub shared-is : (amount : ℕ) → Planned plan d (addInline type d w amount) → Planned plan d (addInlineShared type d s amount)
-    unfolding addInlineShared spotOf ask
+    unfolding addInlineShared positionOf ask
     shared-is amount h =
         plan-same plan d _ _ (add-is type d w amount ∙ rw (names .0, not-data (s .kind) shared, names .0, names .1, names .2, shared) refl) h
 

@@ -15,15 +15,15 @@ use Rattle.format.proofs.Outputs.{answered-refused, answered-written, held-body
 use Rattle.backref.specs.declared.plan.Outcome.{Outcome}
 use Rattle.backref.specs.declared.plan.Outcome.the-variants.{Edit, Absent, Remove, Refused}
 use Rattle.backref.specs.declared.plan.Plan.{Plan}
-use Rattle.backref.specs.Plans.{edited, planned, planAnswer, EditIn, within, PlanIn, Planned}
+use Rattle.backref.specs.Plans.{edited, planOutcome, planAnswer, EditIn, within, PlanIn, Planned}
 use Rattle.backref.proofs.Writes.{front-of, length-edit, same}
 
 -- ---- the writer
 
 module _ (p : Plan) (body : List ℕ) where
-  pub plan-is : {o : Outcome} → p .outcome ≡ o → planAnswer p body ≡ planned o p body
+  pub plan-is : {o : Outcome} → p .outcome ≡ o → planAnswer p body ≡ planOutcome o p body
   unfolding planAnswer
-  plan-is e = ap (λ (o : Outcome). planned o p body) e
+  plan-is e = ap (λ (o : Outcome). planOutcome o p body) e
 
   pub inside-edit : p .outcome ≡ Edit → PlanIn p body → EditIn p body
   unfolding PlanIn
@@ -31,21 +31,21 @@ module _ (p : Plan) (body : List ℕ) where
 
   pub wrote : (room : ℕ) {r : Edited} {old new : List ℕ} → p .outcome ≡ Edit → Answered (heldBody room (accepted (edited p body))) r old new
       → Answered (heldBody room (planAnswer p body)) r old new
-  unfolding planned
+  unfolding planOutcome
   wrote room {r} {old} {new} e h = subst (λ (a : Answer (List ℕ)). Answered (heldBody room a) r old new) (sym (plan-is e)) h
 
   pub wrote-absent : (room : ℕ) (old : List ℕ) → p .outcome ≡ Absent → Answered (heldBody room (planAnswer p body)) NoMatch old old
-  unfolding planned heldBody held bind lent editedOf
+  unfolding planOutcome heldBody held bind lent editedOf
   wrote-absent room old e =
       subst (λ (a : Answer (List ℕ)). Answered (heldBody room a) NoMatch old old) (sym (plan-is e)) (record { result = refl; output = refl })
 
   pub wrote-remove : (room : ℕ) (old : List ℕ) → p .outcome ≡ Remove → Answered (heldBody room (planAnswer p body)) Gone old old
-  unfolding planned heldBody held bind lent editedOf
+  unfolding planOutcome heldBody held bind lent editedOf
   wrote-remove room old e =
       subst (λ (a : Answer (List ℕ)). Answered (heldBody room a) Gone old old) (sym (plan-is e)) (record { result = refl; output = refl })
 
   pub wrote-refused : (room : ℕ) (old : List ℕ) (n : ℕ) → p .outcome ≡ Refused n → Answered (heldBody room (planAnswer p body)) (Denied n) old old
-  unfolding planned heldBody held bind lent editedOf
+  unfolding planOutcome heldBody held bind lent editedOf
   wrote-refused room old n e =
       subst (λ (a : Answer (List ℕ)). Answered (heldBody room a) (Denied n) old old) (sym (plan-is e)) (record { result = refl; output = refl })
 
@@ -130,22 +130,22 @@ keeps-length e h = subst (λ (x : Plan). x .from + x .size ≡ x .to) (sym e) h
 
 module _ (p : Plan) (body : List ℕ) (answer : Answer (List ℕ)) where
   pub plan-edit : (bytes : List ℕ) → p .outcome ≡ Edit → EditIn p body → answer ≡ accepted bytes → bytes ≡ edited p body → Planned p body answer
-  unfolding planned PlanIn
+  unfolding planOutcome PlanIn
   plan-edit bytes o h e q = record {
     says = plan-is p body o ∙ ap accepted (sym q) ∙ sym e;
     inside = subst (λ (x : Outcome). within x p body) (sym o) h;
   }
 
   pub plan-refused : (n : ℕ) → p .outcome ≡ Refused n → answer ≡ refused n → Planned p body answer
-  unfolding planned PlanIn
+  unfolding planOutcome PlanIn
   plan-refused n o e = record { says = plan-is p body o ∙ sym e; inside = subst (λ (x : Outcome). within x p body) (sym o) tt }
 
   pub plan-absent : p .outcome ≡ Absent → answer ≡ absent → Planned p body answer
-  unfolding planned PlanIn
+  unfolding planOutcome PlanIn
   plan-absent o e = record { says = plan-is p body o ∙ sym e; inside = subst (λ (x : Outcome). within x p body) (sym o) tt }
 
   pub plan-remove : p .outcome ≡ Remove → answer ≡ remove → Planned p body answer
-  unfolding planned PlanIn
+  unfolding planOutcome PlanIn
   plan-remove o e = record { says = plan-is p body o ∙ sym e; inside = subst (λ (x : Outcome). within x p body) (sym o) tt }
 
   pub plan-same : (other : Answer (List ℕ)) → answer ≡ other → Planned p body answer → Planned p body other

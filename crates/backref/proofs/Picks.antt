@@ -19,12 +19,12 @@ use Rattle.format.proofs.Rows.{payload-fields, some-field}
 use Rattle.inline_refs.specs.declared.count.Counted.the-variants.{Count, Refused}
 use Rattle.inline_refs.specs.Steps.{readFrom}
 use Rattle.inline_refs.specs.Scans.{refsIn}
-use Rattle.inline_refs.specs.Counts.{countOf}
+use Rattle.inline_refs.specs.Counts.{refCountOf}
 use Rattle.inline_refs.proofs.Steps.{At, ends-within}
 use Rattle.inline_refs.proofs.Counts.{count-reads, fault-reads}
 use Rattle.inline_refs.proofs.Notes.{Opens, on-refs}
 use Rattle.backref.specs.Picks.{pickIn, Inside, startIn}
-use Rattle.backref.proofs.Places.{further}
+use Rattle.backref.proofs.RefPositions.{further}
 
 -- a payload holds a field
 pub field-inside : (s : List ℕ) (at k p n q next : ℕ) → At s at k p n q next → p + 8 ≤ length s
@@ -33,9 +33,9 @@ field-inside s at k p n q next h =
 
 -- the reference of that number, where the references stand at these positions
 abbrev by : List ℕ → ℕ → List Ref → Answer InlineRef
-by places number refs =
-    bind (needed 5 (getElem? refs number)) (λ r.
-    accepted (record { kind = r .kind; offset = getD (r .fields) 0 0; start = getD places number 0 + 1; len = payloadLength (r .kind) }))
+by places index refs =
+    bind (needed 5 (getElem? refs index)) (λ r.
+    accepted (record { kind = r .kind; offset = getD (r .fields) 0 0; start = getD places index 0 + 1; len = payloadLength (r .kind) }))
 
 by-next : (at : ℕ) (places : List ℕ) (r : Ref) (refs : List Ref) (left : ℕ) → (left ≡ 0 → ⊥) → by places (left - 1) refs ≡ by (at ∷ places) left (r ∷ refs)
 by-next at places r refs zero h = absurd (h refl)
@@ -43,20 +43,20 @@ by-next at places r refs (suc left) h = let e : suc left - 1 ≡ left = omega ar
 
 -- ---- the pass
 
-pub record Going (s : List ℕ) (start number at left : ℕ) : Type 0 where
+pub record Going (s : List ℕ) (start index at left : ℕ) : Type 0 where
   pub rest : List Ref
   pub reads : readFrom s at ≡ accepted rest
-  pub same : refNumbered at left rest ≡ pickIn start number (readFrom s start)
+  pub same : refNumbered at left rest ≡ pickIn start index (readFrom s start)
 
-module _ (s : List ℕ) (start number : ℕ) where
-  pub going-none : (count : ℕ) → Count count ≡ countOf (readFrom s start) → Going s start number start number
+module _ (s : List ℕ) (start index : ℕ) where
+  pub going-none : (count : ℕ) → Count count ≡ refCountOf (readFrom s start) → Going s start index start index
   unfolding pickIn bind
   going-none count e =
       let w = count-reads (readFrom s start) count e in
-      record { rest = w .refs; reads = w .is; same = sym (ap (pickIn start number) (w .is)) }
+      record { rest = w .refs; reads = w .is; same = sym (ap (pickIn start index) (w .is)) }
 
-  module _ (at left : ℕ) (g : Going s start number at left) where
-    pub pick-ended : readFrom s at ≡ accepted [] → Unpicked 5 ≡ pickedOf (pickIn start number (readFrom s start))
+  module _ (at left : ℕ) (g : Going s start index at left) where
+    pub pick-ended : readFrom s at ≡ accepted [] → Unpicked 5 ≡ pickedOf (pickIn start index (readFrom s start))
     unfolding refNumbered bind needed pickedOf
     pick-ended e = ap (λ (l : List Ref). pickedOf (refNumbered at left l)) (accepted-inj (sym e ∙ g .reads)) ∙ ap pickedOf (g .same)
 
@@ -64,7 +64,7 @@ module _ (s : List ℕ) (start number : ℕ) where
     pick-fault m e = refused-not (sym e ∙ g .reads)
 
     module _ (k p n q next : ℕ) (h : At s at k p n q next) where
-      pub going-next : (left ≡ 0 → ⊥) → Going s start number next (left - 1)
+      pub going-next : (left ≡ 0 → ⊥) → Going s start index next (left - 1)
       unfolding refNumbered
       going-next more =
           let f = further s at k p n q next h (g .rest) (g .reads) in
@@ -77,7 +77,7 @@ module _ (s : List ℕ) (start number : ℕ) where
           }
 
       pub pick-found : (offset : ℕ) → left ≡ 0 → offset ≡ le (part p 8 s)
-          → Reference (record { kind = k; offset = offset; start = p; len = n }) ≡ pickedOf (pickIn start number (readFrom s start))
+          → Reference (record { kind = k; offset = offset; start = p; len = n }) ≡ pickedOf (pickIn start index (readFrom s start))
       unfolding refNumbered bind needed pickedOf refAt
       pick-found offset z e =
           let f = further s at k p n q next h (g .rest) (g .reads) in
@@ -88,22 +88,22 @@ module _ (s : List ℕ) (start number : ℕ) where
 
 -- ---- the call
 
-module _ (type : ℕ) (s : List ℕ) (number : ℕ) where
-  calls : inlineRef type s number ≡ pickIn (startOf type s) number (refsIn type s)
+module _ (type : ℕ) (s : List ℕ) (index : ℕ) where
+  calls : inlineRef type s index ≡ pickIn (startOf type s) index (refsIn type s)
   unfolding inlineRef pickIn
-  calls = on-refs type s (refNumbered (startOf type s) number)
+  calls = on-refs type s (refNumbered (startOf type s) index)
 
-  pub pick-shut : (m : ℕ) → refsIn type s ≡ refused m → Unpicked m ≡ pickedOf (inlineRef type s number)
+  pub pick-shut : (m : ℕ) → refsIn type s ≡ refused m → Unpicked m ≡ pickedOf (inlineRef type s index)
   unfolding pickIn bind pickedOf
-  pick-shut m e = sym (ap pickedOf (calls ∙ ap (pickIn (startOf type s) number) e))
+  pick-shut m e = sym (ap pickedOf (calls ∙ ap (pickIn (startOf type s) index) e))
 
   module _ (start : ℕ) (o : Opens type s start) where
-    pub pick-refused : (m : ℕ) → Refused m ≡ countOf (readFrom s start) → Unpicked m ≡ pickedOf (inlineRef type s number)
+    pub pick-refused : (m : ℕ) → Refused m ≡ refCountOf (readFrom s start) → Unpicked m ≡ pickedOf (inlineRef type s index)
     unfolding readFrom
     pick-refused m e = pick-shut m (o .reads ∙ fault-reads (readFrom s start) m (readRefs-decides (length (drop start s)) (drop start s)) e)
 
-    pub pick-is : pickedOf (pickIn start number (readFrom s start)) ≡ pickedOf (inlineRef type s number)
-    pick-is = ap pickedOf (ap₂ (λ (a : ℕ) (b : Answer (List Ref)). pickIn a number b) (o .at) (sym (o .reads)) ∙ sym calls)
+    pub pick-is : pickedOf (pickIn start index (readFrom s start)) ≡ pickedOf (inlineRef type s index)
+    pick-is = ap pickedOf (ap₂ (λ (a : ℕ) (b : Answer (List Ref)). pickIn a index b) (o .at) (sym (o .reads)) ∙ sym calls)
 
 -- ---- the payload
 
@@ -132,17 +132,17 @@ module _ (s : List ℕ) where
   is-in remove r e = reference-not (sym e)
   is-in (accepted r′) r e = let z : r ≡ r′ = cc in ap accepted (sym z)
 
-  module _ (type number : ℕ) (p : Picked) (is : p ≡ pickedOf (inlineRef type s number)) where
+  module _ (type index : ℕ) (p : Picked) (is : p ≡ pickedOf (inlineRef type s index)) where
     pub no-payload : (m : ℕ) → p ≡ Unpicked m
-        → ([] ≡ lentPart (inlinePayload type s number)) × (m ≡ codeOf (inlinePayload type s number)) × (0 ≡ startIn (inlineRef type s number))
+        → ([] ≡ lentPart (inlinePayload type s index)) × (m ≡ codeOf (inlinePayload type s index)) × (0 ≡ startIn (inlineRef type s index))
     unfolding inlinePayload
-    no-payload m e = nothing-in (inlineRef type s number) m (sym e ∙ is)
+    no-payload m e = nothing-in (inlineRef type s index) m (sym e ∙ is)
 
     pub a-payload : (r : InlineRef) (end : ℕ) → p ≡ Reference r → end ≡ r .start + r .len
-        → (part (r .start) (end - r .start) s ≡ lentPart (inlinePayload type s number)) × (0 ≡ codeOf (inlinePayload type s number)) × (r .start ≡ startIn (inlineRef type s number))
+        → (part (r .start) (end - r .start) s ≡ lentPart (inlinePayload type s index)) × (0 ≡ codeOf (inlinePayload type s index)) × (r .start ≡ startIn (inlineRef type s index))
     unfolding inlinePayload bind lentPart codeOf lentNumber
     a-payload r end e q =
-        let x = is-in (inlineRef type s number) r (sym e ∙ is) in
+        let x = is-in (inlineRef type s index) r (sym e ∙ is) in
         let n : end - r .start ≡ r .len = omega arith in (
           ap (λ (m : ℕ). part (r .start) m s) n ∙ sym (ap (λ (y : Answer InlineRef). lentPart (payloadIn s y)) x),
           sym (ap (λ (y : Answer InlineRef). codeOf (payloadIn s y)) x),

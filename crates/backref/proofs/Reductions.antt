@@ -19,7 +19,7 @@ use Rattle.format.proofs.Answers.{ask-yes, ifAbsent-ok, refused-not}
 use Rattle.backref.specs.declared.plan.Outcome.{Outcome}
 use Rattle.backref.specs.declared.plan.Outcome.the-variants.{Edit, Absent, Remove, Refused}
 use Rattle.backref.specs.declared.plan.Plan.{Plan}
-use Rattle.backref.specs.Plans.{edited, planned, planAnswer, EditIn, PlanIn, Planned}
+use Rattle.backref.specs.Plans.{edited, planOutcome, planAnswer, EditIn, PlanIn, Planned}
 use Rattle.backref.specs.Steps.{Whole, Reduces, Needs}
 use Rattle.backref.proofs.Outcomes.{plan-is, inside-edit, plan-refused}
 
@@ -44,7 +44,7 @@ module _ (plan : Plan) where
     module _ (e : plan .outcome ≡ Edit) (r : Plan) where
       edit-off : (body : List ℕ) (a : Answer ℕ) → reducedBy amount (plan .total) ≡ a
           → bind (planAnswer plan body) (off amount) ≡ bind a (λ total. accepted (written 0 (leBytes 8 total) (edited plan body)))
-      unfolding bind planned
+      unfolding bind planOutcome
       edit-off body a h =
           ap (λ (x : Answer (List ℕ)). bind x (off amount)) (plan-is plan body e)
           ∙ ap (λ (x : Answer ℕ). bind x (λ total. accepted (written 0 (leBytes 8 total) (edited plan body)))) h
@@ -63,7 +63,7 @@ module _ (plan : Plan) where
       fewer = record { outcome = Edit; from = plan .from; to = plan .to; new = plan .new; size = plan .size; total = plan .total - amount; count = plan .count }
 
       pub reduced-edit : amount ≤ plan .total → r ≡ fewer → Reduces plan amount r
-      unfolding bind reducedBy ask edited planned PlanIn
+      unfolding bind reducedBy ask edited planOutcome PlanIn
       reduced-edit h o =
           let yes : reducedBy amount (plan .total) ≡ accepted (plan .total - amount) = simp (le-leb _ _ h) in
           record {
@@ -89,15 +89,15 @@ module _ (plan : Plan) where
         }
 
     pub reduced-absent : plan .outcome ≡ Absent → Reduces plan amount plan
-    unfolding planned bind
+    unfolding planOutcome bind
     reduced-absent e = reduced-same (λ body. (absent, (plan-is plan body e, refl)))
 
     pub reduced-remove : plan .outcome ≡ Remove → Reduces plan amount plan
-    unfolding planned bind
+    unfolding planOutcome bind
     reduced-remove e = reduced-same (λ body. (remove, (plan-is plan body e, refl)))
 
     pub reduced-refused : (n : ℕ) → plan .outcome ≡ Refused n → Reduces plan amount plan
-    unfolding planned bind
+    unfolding planOutcome bind
     reduced-refused n e = reduced-same (λ body. (refused n, (plan-is plan body e, refl)))
 
   -- where every result is a body, this is the call on bodies
@@ -111,7 +111,7 @@ module _ (plan : Plan) where
         sym (ap le (part-written 0 8 new rest (length-leBytes 8 (plan .total)) h) ∙ le-leBytes 8 (plan .total) (d .word))
 
     off-is : plan .outcome ≡ Edit → off amount (edited plan body) ≡ reduceTotal (edited plan body) amount
-    unfolding reduceTotal onTotal onHead bodyFits totalOf Whole planned
+    unfolding reduceTotal onTotal onHead bodyFits totalOf Whole planOutcome
     off-is e =
         let rest : List ℕ = edited plan body in
         let l : (24 ≤ length rest) × (length rest ≤ 65535) = whole rest (plan-is plan body e) in
@@ -119,7 +119,7 @@ module _ (plan : Plan) where
         ∙ sym (ask-yes (leb (length rest) 65535) 3 _ (le→leb (length rest) 65535 (l .1)) ∙ ask-yes (leb 24 (length rest)) 6 _ (le→leb 24 (length rest) (l .0)))
 
     pub reduces-whole : PlanIn plan body → Planned r body (bind (planAnswer plan body) (λ rest. reduceTotal rest amount))
-    unfolding bind planned
+    unfolding bind planOutcome
     reduces-whole i = record { says = d .says body ∙ go (plan .outcome) refl; inside = d .inside body i }
       where
         go : (o : Outcome) → plan .outcome ≡ o → bind (planAnswer plan body) (off amount) ≡ bind (planAnswer plan body) (λ rest. reduceTotal rest amount)
@@ -131,7 +131,7 @@ module _ (plan : Plan) where
   -- ---- what is absent is 5
 
   pub needs-absent : (r : Plan) → plan .outcome ≡ Absent → r .outcome ≡ Refused 5 → Needs plan r
-  unfolding planned ifAbsent
+  unfolding planOutcome ifAbsent
   needs-absent r e o =
       record {
         says = λ body. plan-refused r body _ 5 o (ap (λ (x : Answer (List ℕ)). ifAbsent x (refused 5)) (plan-is plan body e)) .says;
@@ -146,15 +146,15 @@ module _ (plan : Plan) where
       }
 
   pub needs-edit : plan .outcome ≡ Edit → Needs plan plan
-  unfolding planned ifAbsent
+  unfolding planOutcome ifAbsent
   needs-edit e = needs-same (λ body. (accepted (edited plan body), (plan-is plan body e, refl)))
 
   pub needs-remove : plan .outcome ≡ Remove → Needs plan plan
-  unfolding planned ifAbsent
+  unfolding planOutcome ifAbsent
   needs-remove e = needs-same (λ body. (remove, (plan-is plan body e, refl)))
 
   pub needs-refused : (n : ℕ) → plan .outcome ≡ Refused n → Needs plan plan
-  unfolding planned ifAbsent
+  unfolding planOutcome ifAbsent
   needs-refused n e = needs-same (λ body. (refused n, (plan-is plan body e, refl)))
 
   -- a refusal is no result

@@ -11,23 +11,23 @@ use Rattle.fields.specs.Parts.{part}
 use Rattle.format.specs.Questions.{Answer, accepted, bind, found, TakenOut}
 use Rattle.format.specs.References.{refsBytes, startOf, bodyWith, bodyBytes}
 use Rattle.format.proofs.Bodies.{on-body}
-use Rattle.inline_refs.specs.declared.wanted.Wanted.{Wanted}
+use Rattle.inline_refs.specs.declared.ref_name.RefName.{RefName}
 use Rattle.inline_refs.specs.declared.scan.Seen.{Seen}
 use Rattle.inline_refs.specs.declared.scan.Seen.the-variants.{Open}
 use Rattle.inline_refs.specs.declared.scan.Scan.the-variants.{Fault}
-use Rattle.inline_refs.specs.declared.site.Found.the-variants.{At, Nothing}
+use Rattle.inline_refs.specs.declared.noted.Found.the-variants.{At, Nothing}
 use Rattle.inline_refs.specs.Scans.{isWanted, scanOf, refsIn}
-use Rattle.inline_refs.specs.Sites.{hitOf}
+use Rattle.inline_refs.specs.Noted.{hitOf}
 use Rattle.inline_refs.proofs.Views.{CutAt}
-use Rattle.inline_refs.proofs.Spots.{cut-between, found-view}
+use Rattle.inline_refs.proofs.RefPositions.{cut-between, found-view}
 use Rattle.backref.specs.declared.plan.Outcome.the-variants.{Absent, Refused}
 use Rattle.backref.specs.declared.plan.Plan.{Plan}
 use Rattle.backref.specs.Plans.{PlannedTaken}
 use Rattle.backref.proofs.TakenPlans.{with-count, taken-refused, taken-absent, taken-edit}
 use Rattle.backref.specs.Takes.{takeInline}
-use Rattle.backref.proofs.Sites.{ReadIn, total-read, scan-faults, placed, planOf, site-plan}
+use Rattle.backref.proofs.AddedAt.{ReadIn, total-read, scan-faults, placed, planOf, site-plan}
 
-module _ (type : ℕ) (d : List ℕ) (w : Wanted) (plan : Plan) where
+module _ (type : ℕ) (d : List ℕ) (w : RefName) (plan : Plan) where
   abbrev taken : Answer TakenOut
   taken = takeInline type d w
 

@@ -33,14 +33,14 @@ asked-says count bytes false = refl
 module _ (room count : ℕ) where
   taken-bytes : (a : Answer (List ℕ)) → bytesOf (heldTaken room (bind a (with-count count))) ≡ heldBody room a
   unfolding heldTaken heldBody held bind
-  taken-bytes (refused number) = refl
+  taken-bytes (refused refusal) = refl
   taken-bytes absent = refl
   taken-bytes remove = refl
   taken-bytes (accepted bytes) = asked-bytes count bytes (leb (length bytes) room && bodyFits bytes)
 
   taken-says : (a : Answer (List ℕ)) → takenFrom count (editedOf (heldBody room a)) ≡ takenOf (heldTaken room (bind a (with-count count)))
   unfolding heldTaken heldBody held bind editedOf takenOf takenFrom
-  taken-says (refused number) = refl
+  taken-says (refused refusal) = refl
   taken-says absent = refl
   taken-says remove = refl
   taken-says (accepted bytes) = asked-says count bytes (leb (length bytes) room && bodyFits bytes)

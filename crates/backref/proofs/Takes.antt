@@ -11,20 +11,20 @@ use Rattle.fields.specs.Lists.{Cut}
 use Rattle.fields.specs.Numbers.{le, areBytes}
 use Rattle.fields.specs.Parts.{part}
 use Rattle.format.specs.Questions.{Answer, accepted, bind, found}
-use Rattle.format.specs.References.{payloadLength, Ref, ref, refBytes, refsBytes, startOf, Body, bodyWith, bodyBytes}
+use Rattle.format.specs.References.{payloadLength, Ref, makeRef, refBytes, refsBytes, startOf, Body, bodyWith, bodyBytes}
 use Rattle.format.specs.Bodies.{less, weighed, loweredByOne, dropInline, dropInlineTreeRef, dropInlineDataRef}
 use Rattle.format.proofs.Bodies.{on-body}
 use Rattle.format.proofs.Splices.{refsBytes-one}
-use Rattle.inline_refs.specs.declared.wanted.Wanted.{Wanted}
-use Rattle.inline_refs.specs.declared.wanted.Wanted.the-variants.{Block, Data, SharedBlock, SharedData}
+use Rattle.inline_refs.specs.declared.ref_name.RefName.{RefName}
+use Rattle.inline_refs.specs.declared.ref_name.RefName.the-variants.{Block, Data, SharedBlock, SharedData}
 use Rattle.inline_refs.specs.declared.scan.Seen.{Seen}
 use Rattle.inline_refs.specs.declared.scan.Seen.the-variants.{Open}
 use Rattle.inline_refs.specs.declared.scan.Scan.the-variants.{Fault}
-use Rattle.inline_refs.specs.declared.site.Found.the-variants.{At, Nothing}
+use Rattle.inline_refs.specs.declared.noted.Found.the-variants.{At, Nothing}
 use Rattle.inline_refs.specs.Scans.{kindOf, fieldsOf, isWanted, scanOf, refsIn}
-use Rattle.inline_refs.specs.Sites.{hitOf}
+use Rattle.inline_refs.specs.Noted.{hitOf}
 use Rattle.inline_refs.proofs.Views.{CutAt}
-use Rattle.inline_refs.proofs.Spots.{cut-between, cut-passed, found-view}
+use Rattle.inline_refs.proofs.RefPositions.{cut-between, cut-passed, found-view}
 use Rattle.backref.specs.declared.plan.Outcome.the-variants.{Absent, Refused}
 use Rattle.backref.specs.declared.plan.Plan.{Plan}
 use Rattle.backref.specs.Plans.{Planned}
@@ -32,17 +32,17 @@ use Rattle.backref.specs.Takes.{dropNamed}
 use Rattle.backref.proofs.NewBytes.{Holds}
 use Rattle.backref.proofs.Outcomes.{plan-absent, plan-refused}
 use Rattle.backref.proofs.PlannedTotals.{lowered-yes, lowered-no}
-use Rattle.backref.proofs.Sites.{ReadIn, total-read, scan-faults, placed, planOf, site-plan, wanted-is}
+use Rattle.backref.proofs.AddedAt.{ReadIn, total-read, scan-faults, placed, planOf, site-plan, wanted-is}
 
 -- the definition without cases
-drop-is : (type : ℕ) (d : List ℕ) (w : Wanted) → dropNamed type d w ≡ dropInline type d (kindOf w) (fieldsOf w)
+drop-is : (type : ℕ) (d : List ℕ) (w : RefName) → dropNamed type d w ≡ dropInline type d (kindOf w) (fieldsOf w)
 unfolding dropInlineTreeRef dropInlineDataRef kindOf fieldsOf
 drop-is type d (Block name) = refl
 drop-is type d (Data name) = refl
 drop-is type d (SharedBlock parent) = refl
 drop-is type d (SharedData parent) = refl
 
-module _ (type : ℕ) (d : List ℕ) (w : Wanted) (plan : Plan) where
+module _ (type : ℕ) (d : List ℕ) (w : RefName) (plan : Plan) where
   abbrev dropped : Answer (List ℕ)
   dropped = dropNamed type d w
 
@@ -102,9 +102,9 @@ module _ (type : ℕ) (d : List ℕ) (w : Wanted) (plan : Plan) where
             let z : 1 < c .hit .weight = omega (arith, hit .weighs) in
             let left : List Ref = weighed (c .hit) (c .hit .weight - 1) ∷ [] in
             let one-left : less (c .hit) 1 ≡ left = simp (lt-ltb _ _ z) in
-            let same : weighed (c .hit) (c .hit .weight - 1) ≡ ref (kindOf w) (fieldsOf w) (x - 1) =
+            let same : weighed (c .hit) (c .hit .weight - 1) ≡ makeRef (kindOf w) (fieldsOf w) (x - 1) =
             wanted-is w (c .hit) (c .hit .weight - 1) (cut-passed (isWanted w) (startOf type d) (r .from .refs) p q x hit)
-            ∙ ap (λ (m : ℕ). ref (kindOf w) (fieldsOf w) (m - 1)) (sym (hit .weighs)) in
+            ∙ ap (λ (m : ℕ). makeRef (kindOf w) (fieldsOf w) (m - 1)) (sym (hit .weighs)) in
             site-plan plan d (r .from) (c .front) (c .hit ∷ []) (c .back) p q new size (t - 1) 0 left dropped
             (placed type d (r .from) bytes (r .read) (c .front) (c .hit ∷ []) (c .back) p q (cut-between (isWanted w) (startOf type d) (r .from .refs) p q x hit))
             (r .fits) o

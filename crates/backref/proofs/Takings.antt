@@ -5,7 +5,7 @@ use Prim.Native.Nat.{ℕ, _≤_}
 use native.Mathlib.Omega.{arith}
 use lib.Dec.{T, leb, leb→le}
 use lib.ListN.{length, length-append}
-use Rattle.fields.specs.Lists.{Cut, cut}
+use Rattle.fields.specs.Lists.{Cut, firstCut}
 use Rattle.fields.specs.Numbers.{areBytes}
 use Rattle.fields.proofs.Lists.{Found, cut-some}
 use Rattle.format.specs.declared.SharedRef.{SharedRef}
@@ -48,7 +48,7 @@ module _ (type : ℕ) (d : List ℕ) (s : SharedRef) where
       let q₂ = ask-ok (leb (length d) 65535) 3 _ (q₁ .1) in
       let read = bind-ok (readBody type d) _ (q₂ .1) in
       let b : Body = read .0 in
-      let hit = bind-ok (found (cut (named (s .kind) (one (s .parent))) (b .refs))) _ (read .2) in
+      let hit = bind-ok (found (firstCut (named (s .kind) (one (s .parent))) (b .refs))) _ (read .2) in
       let c : Cut Ref = hit .0 in
       let k : Found (named (s .kind) (one (s .parent))) (b .refs) c = cut-some _ (b .refs) (found-ok _ (hit .1)) in
       let l = left-length type d bytes b (read .1) c (k .same) in

@@ -11,15 +11,15 @@ use Rattle.format.specs.declared.Judged.the-variants.{Says, Refused as Unjudged
 use Rattle.format.specs.Questions.{accepted, judgedOf}
 use Rattle.format.specs.References.{Ref, startOf}
 use Rattle.format.specs.Bodies.{isFound, holdsInlineDataRef}
-use Rattle.inline_refs.specs.declared.wanted.Wanted.the-variants.{Data}
+use Rattle.inline_refs.specs.declared.ref_name.RefName.the-variants.{Data}
 use Rattle.inline_refs.specs.declared.scan.Seen.{Seen}
 use Rattle.inline_refs.specs.declared.scan.Seen.the-variants.{Open}
 use Rattle.inline_refs.specs.declared.scan.Scan.the-variants.{Fault}
-use Rattle.inline_refs.specs.declared.site.Found.the-variants.{At, Nothing}
+use Rattle.inline_refs.specs.declared.noted.Found.the-variants.{At, Nothing}
 use Rattle.inline_refs.specs.Scans.{kindOf, fieldsOf, scanOf, refsIn}
-use Rattle.inline_refs.specs.Sites.{hitOf}
-use Rattle.inline_refs.proofs.Spots.{found-view}
-use Rattle.backref.proofs.Sites.{ReadIn, scan-faults}
+use Rattle.inline_refs.specs.Noted.{hitOf}
+use Rattle.inline_refs.proofs.RefPositions.{found-view}
+use Rattle.backref.proofs.AddedAt.{ReadIn, scan-faults}
 
 module _ (type : ℕ) (d : List ℕ) (name : DataRef) where
   pub holds-fault : (n : ℕ) → Fault n ≡ scanOf (Data name) 0 (startOf type d) (Open false) (refsIn type d)

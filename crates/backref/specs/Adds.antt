@@ -9,14 +9,14 @@ use Rattle.fields.specs.Numbers.{leBytes}
 use Rattle.fields.specs.Parts.{written}
 use Rattle.format.specs.declared.SharedRef.{SharedRef}
 use Rattle.format.specs.Questions.{Answer}
-use Rattle.format.specs.References.{payloadLength, Ref, ref, refBytes, placeOf}
-use Rattle.format.specs.Bodies.{one, onBody, Spot, spotAnywhere, spotByScan, addAt, addInlineData, addInlineShared, keyedAt}
-use Rattle.inline_refs.specs.declared.wanted.Wanted.{Wanted}
-use Rattle.inline_refs.specs.declared.wanted.Wanted.the-variants.{Block, Data, SharedBlock, SharedData}
+use Rattle.format.specs.References.{payloadLength, Ref, makeRef, refBytes, rankOf}
+use Rattle.format.specs.Bodies.{one, onBody, RefPosition, positionAnywhere, positionByScan, addAt, addInlineData, addInlineShared, keyedAt}
+use Rattle.inline_refs.specs.declared.ref_name.RefName.{RefName}
+use Rattle.inline_refs.specs.declared.ref_name.RefName.the-variants.{Block, Data, SharedBlock, SharedData}
 use Rattle.inline_refs.specs.declared.scan.Seen.{Seen}
-use Rattle.inline_refs.specs.declared.site.Site.{Site}
+use Rattle.inline_refs.specs.declared.noted.AddAt.{AddAt}
 use Rattle.inline_refs.specs.Scans.{kindOf, fieldsOf}
-use Rattle.inline_refs.specs.Sites.{siteAnywhere, siteByScan}
+use Rattle.inline_refs.specs.Noted.{addAnywhere, addByScan}
 use Rattle.backref.specs.declared.plan.Outcome.the-variants.{Edit, Refused}
 use Rattle.backref.specs.declared.plan.Plan.{Plan}
 
@@ -25,44 +25,44 @@ unfoldable pub withCount : ℕ → ℕ → List ℕ → List ℕ
 withCount position count bytes = cond (leb 1 position) (written (1 + position) (leBytes 4 count) bytes) bytes
 
 -- the reference that is added
-abbrev pub newRef : Wanted → ℕ → Ref
-newRef wanted amount = ref (kindOf wanted) (fieldsOf wanted) amount
+abbrev pub newRef : RefName → ℕ → Ref
+newRef wanted amount = makeRef (kindOf wanted) (fieldsOf wanted) amount
 
-unfoldable pub ownPlace : Wanted → ℕ
-ownPlace wanted = placeOf (kindOf wanted) (fieldsOf wanted)
+unfoldable pub ownRank : RefName → ℕ
+ownRank wanted = rankOf (kindOf wanted) (fieldsOf wanted)
 
 -- a data reference goes by one scan up to the insert position, another to an equal one anywhere
-abbrev pub byScan : Wanted → Bool
+abbrev pub byScan : RefName → Bool
 byScan wanted = eqb (kindOf wanted) 178
 
-unfoldable pub spotOf : Bool → Wanted → List Ref → Spot
-spotOf true wanted refs = spotByScan (kindOf wanted) (fieldsOf wanted) refs
-spotOf false wanted refs = spotAnywhere (kindOf wanted) (fieldsOf wanted) (ownPlace wanted) refs
+unfoldable pub positionOf : Bool → RefName → List Ref → RefPosition
+positionOf true wanted refs = positionByScan (kindOf wanted) (fieldsOf wanted) refs
+positionOf false wanted refs = positionAnywhere (kindOf wanted) (fieldsOf wanted) (ownRank wanted) refs
 
-unfoldable pub siteOf : Bool → ℕ → Seen → Site
-siteOf true end seen = siteByScan end seen
-siteOf false end seen = siteAnywhere end seen
+unfoldable pub addAtOf : Bool → ℕ → Seen → AddAt
+addAtOf true end seen = addByScan end seen
+addAtOf false end seen = addAnywhere end seen
 
 abbrev pub sharedRef : ℕ → ℕ → SharedRef
 sharedRef kind parent = record { kind = kind; parent = parent }
 
 -- add_inline_tree_ref, whose amount is 1, add_inline_data_ref and add_inline_shared in one
-abbrev pub addInline : ℕ → List ℕ → Wanted → ℕ → Answer (List ℕ)
+abbrev pub addInline : ℕ → List ℕ → RefName → ℕ → Answer (List ℕ)
 addInline type body (Block name) amount =
     onBody type body (λ b.
-    addAt b (ref 176 (one (name .tree)) amount) (spotAnywhere 176 (one (name .tree)) (name .tree) (b .refs)))
+    addAt b (makeRef 176 (one (name .tree)) amount) (positionAnywhere 176 (one (name .tree)) (name .tree) (b .refs)))
 addInline type body (Data name) amount = addInlineData type body name amount
 addInline type body (SharedBlock parent) amount = addInlineShared type body (sharedRef 182 parent) amount
 addInline type body (SharedData parent) amount = addInlineShared type body (sharedRef 184 parent) amount
 
 -- add_inline_keyed's two cases in one
-unfoldable pub addKeyed : ℕ → List ℕ → Wanted → ℕ → ℕ → Answer (List ℕ)
-addKeyed type body wanted place amount =
-    onBody type body (λ b. keyedAt b (newRef wanted amount) (spotAnywhere (kindOf wanted) (fieldsOf wanted) place (b .refs)))
+unfoldable pub addKeyed : ℕ → List ℕ → RefName → ℕ → ℕ → Answer (List ℕ)
+addKeyed type body wanted rank amount =
+    onBody type body (λ b. keyedAt b (newRef wanted amount) (positionAnywhere (kindOf wanted) (fieldsOf wanted) rank (b .refs)))
 
 -- a plan that puts a reference of that count between two positions and adds the amount to the total; 12 where the total cannot
 -- hold the sum
-pub record Raised (from to : ℕ) (wanted : Wanted) (count total amount : ℕ) (p : Plan) : Type 0 where
+pub record Raised (from to : ℕ) (wanted : RefName) (count total amount : ℕ) (p : Plan) : Type 0 where
   pub full : 18446744073709551615 - amount < total → p .outcome ≡ Refused 12
   pub is : total ≤ 18446744073709551615 - amount
       → p ≡ record { outcome = Edit; from = from; to = to; new = p .new; size = 1 + payloadLength (kindOf wanted); total = total + amount; count = 0 }

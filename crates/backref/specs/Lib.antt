@@ -1,4 +1,4 @@
-pub mod Places
+pub mod RefPositions
 pub mod Picks
 pub mod Heads
 pub mod Totals

@@ -9,12 +9,12 @@ use Rattle.format.specs.References.{Ref}
 use Rattle.format.specs.Bodies.{refNumbered}
 
 unfoldable pub pickIn : ℕ → ℕ → Answer (List Ref) → Answer InlineRef
-pickIn start number read = bind read (refNumbered start number)
+pickIn start index read = bind read (refNumbered start index)
 
 -- a payload lies within the body
 abbrev pub Inside : Picked → ℕ → Type 0
 Inside (Reference r) size = r .start + r .len ≤ size
-Inside (Unpicked number) size = Unit {0}
+Inside (Unpicked index) size = Unit {0}
 
 abbrev pub startIn : Answer InlineRef → ℕ
 startIn answer = lentNumber (bind answer (λ r. accepted (r .start)))

@@ -14,14 +14,14 @@ use Rattle.backref.specs.declared.plan.Plan.{Plan}
 unfoldable pub edited : Plan → List ℕ → List ℕ
 edited p body = written 0 (leBytes 8 (p .total)) (spliced (p .from) (p .to) (take (p .size) (p .new)) body)
 
-unfoldable pub planned : Outcome → Plan → List ℕ → Answer (List ℕ)
-planned Edit p body = accepted (edited p body)
-planned Absent p body = absent
-planned Remove p body = remove
-planned (Refused number) p body = refused number
+unfoldable pub planOutcome : Outcome → Plan → List ℕ → Answer (List ℕ)
+planOutcome Edit p body = accepted (edited p body)
+planOutcome Absent p body = absent
+planOutcome Remove p body = remove
+planOutcome (Refused refusal) p body = refused refusal
 
 unfoldable pub planAnswer : Plan → List ℕ → Answer (List ℕ)
-planAnswer p body = planned (p .outcome) p body
+planAnswer p body = planOutcome (p .outcome) p body
 
 -- the same with the count of a reference that is taken out
 unfoldable pub planTaken : Plan → List ℕ → Answer TakenOut
@@ -40,7 +40,7 @@ abbrev pub within : Outcome → Plan → List ℕ → Type 0
 within Edit p body = EditIn p body
 within Absent p body = Unit
 within Remove p body = Unit
-within (Refused number) p body = Unit
+within (Refused refusal) p body = Unit
 
 unfoldable pub PlanIn : Plan → List ℕ → Type 0
 PlanIn p body = within (p .outcome) p body

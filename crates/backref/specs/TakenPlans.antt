@@ -11,4 +11,4 @@ unfoldable pub takenFrom : ℕ → Edited → Taken
 takenFrom count (Written size) = Out size count
 takenFrom count Absent = NoMatch
 takenFrom count Remove = Denied 101
-takenFrom count (Refused number) = Denied number
+takenFrom count (Refused refusal) = Denied refusal

@@ -21,6 +21,6 @@ totalBy LowerByOne total = loweredByOne total
 totalBy (Reduce amount) total = reducedBy amount total
 
 -- what a number or a refusal says
-abbrev pub answerOf : Told → Answer ℕ
-answerOf (Value number) = accepted number
-answerOf (Refused number) = refused number
+abbrev pub toldAnswer : Told → Answer ℕ
+toldAnswer (Value number) = accepted number
+toldAnswer (Refused refusal) = refused refusal

@@ -1,20 +1,21 @@
 // Plans that add references. The total and the count are compared before they are summed, so that no sum wraps.
 use crate::Plan;
-use inline_refs::OwnPlace;
+use format::EXTENT_DATA_REF;
+use inline_refs::AddAt;
+use inline_refs::OwnRank;
+use inline_refs::RefName;
 use inline_refs::Scan;
 use inline_refs::Seen;
-use inline_refs::Site;
-use inline_refs::Wanted;
 ghost use mathlib.Core.Path.{_≡_};
 ghost use mathlib.Core.Bool.{_||_, not};
 ghost use lib.Dec.{eqb};
 ghost use Rattle.format.specs.References.{counted};
 ghost use Rattle.inline_refs.specs.Scans.{kindOf, KnownFor};
 ghost use Rattle.backref.specs.Plans.{Planned};
-ghost use Rattle.backref.specs.Adds.{byScan, siteOf, Raised, addInline, addKeyed};
+ghost use Rattle.backref.specs.Adds.{byScan, addAtOf, Raised, addInline, addKeyed};
 
 // Question 10: amount 1 where the kind has no count.
-fn may_add(wanted: Wanted, amount: u32) -> bool
+fn may_add(wanted: RefName, amount: u32) -> bool
     ensures { λ r. ⌜ r ≡ counted (kindOf wanted) || eqb amount 1 ⌝ }
 {
     if crate::new_bytes::counts(wanted) {
@@ -23,17 +24,17 @@ fn may_add(wanted: Wanted, amount: u32) -> bool
     amount == 1
 }
 
-fn site_of(seen: Seen, end: usize, wanted: Wanted) -> Site
-    ensures { λ r. ⌜ r ≡ siteOf (byScan wanted) end seen ⌝ }
+fn add_at(seen: Seen, end: usize, wanted: RefName) -> AddAt
+    ensures { λ r. ⌜ r ≡ addAtOf (byScan wanted) end seen ⌝ }
 {
-    if inline_refs::kind_of(wanted) == 178 {
-        return inline_refs::site_by_scan(seen, end);
+    if inline_refs::kind_of(wanted) == EXTENT_DATA_REF {
+        return inline_refs::add_by_scan(seen, end);
     }
-    inline_refs::site_anywhere(seen, end)
+    inline_refs::add_anywhere(seen, end)
 }
 
 // The reference with its count between two positions, and the amount added to the total if that holds the sum.
-fn edit_raised(from: usize, to: usize, wanted: Wanted, count: u32, total: u64, amount: u32) -> Plan
+fn edit_raised(from: usize, to: usize, wanted: RefName, count: u32, total: u64, amount: u32) -> Plan
     ensures { λ r. ⌜ Raised from to wanted count total amount r ⌝ }
 {
     let more = amount as u64;
@@ -46,22 +47,22 @@ fn edit_raised(from: usize, to: usize, wanted: Wanted, count: u32, total: u64, a
 }
 
 // The amount is added at one name, and to the total.
-pub fn plan_add(item_type: u8, body: &[u8], wanted: Wanted, known: OwnPlace, amount: u32) -> Plan
+pub fn plan_add(item_type: u8, body: &[u8], wanted: RefName, known: OwnRank, amount: u32) -> Plan
     requires { ⌜ KnownFor wanted known ⌝ }
     ensures { λ r. ⌜ Planned r (now (body .entry)) (addInline «item_type» (now (body .entry)) wanted amount) ⌝ }
 {
     match inline_refs::scan_to_add(item_type, body, wanted, known) {
-        Scan::Fault(number) => crate::refuse(number),
+        Scan::Fault(refusal) => crate::refuse(refusal),
         Scan::Read(seen) => {
             let total = fields::get_u64_le(body, 0);
-            match site_of(seen, body.len(), wanted) {
-                Site::Gap(at) => {
+            match add_at(seen, body.len(), wanted) {
+                AddAt::Gap(at) => {
                     if !may_add(wanted, amount) {
                         return crate::refuse(10);
                     }
                     edit_raised(at, at, wanted, amount, total, amount)
                 }
-                Site::Standing { at, next, weight } => {
+                AddAt::Standing { at, next, weight } => {
                     if !crate::new_bytes::counts(wanted) {
                         return crate::refuse(9); // it has no count that could rise
                     }
@@ -76,7 +77,7 @@ pub fn plan_add(item_type: u8, body: &[u8], wanted: Wanted, known: OwnPlace, amo
 }
 
 // Question 10 of a keyed reference: no other one of its kind stands, if the kind has a count.
-fn may_key(wanted: Wanted, others: bool) -> bool
+fn may_key(wanted: RefName, others: bool) -> bool
     ensures { λ r. ⌜ r ≡ not (counted (kindOf wanted)) || not others ⌝ }
 {
     if crate::new_bytes::counts(wanted) {
@@ -86,22 +87,22 @@ fn may_key(wanted: Wanted, others: bool) -> bool
 }
 
 // The same where the total stays.
-pub fn plan_add_keyed(item_type: u8, body: &[u8], wanted: Wanted, place: u64, amount: u32) -> Plan
-    ensures { λ r. ⌜ Planned r (now (body .entry)) (addKeyed «item_type» (now (body .entry)) wanted place amount) ⌝ }
+pub fn plan_add_keyed(item_type: u8, body: &[u8], wanted: RefName, rank: u64, amount: u32) -> Plan
+    ensures { λ r. ⌜ Planned r (now (body .entry)) (addKeyed «item_type» (now (body .entry)) wanted rank amount) ⌝ }
 {
-    match inline_refs::scan_body(item_type, body, wanted, place) {
-        Scan::Fault(number) => crate::refuse(number),
+    match inline_refs::scan_body(item_type, body, wanted, rank) {
+        Scan::Fault(refusal) => crate::refuse(refusal),
         Scan::Read(seen) => {
             let total = fields::get_u64_le(body, 0);
-            match inline_refs::site_anywhere(seen, body.len()) {
-                Site::Gap(at) => {
+            match inline_refs::add_anywhere(seen, body.len()) {
+                AddAt::Gap(at) => {
                     if !may_key(wanted, inline_refs::any_others(seen)) {
                         return crate::refuse(10);
                     }
                     let new = crate::new_bytes::bytes_of(wanted, amount);
                     crate::edit(at, at, new, crate::new_bytes::size_of(wanted), total, 0)
                 }
-                Site::Standing { at, next, weight } => {
+                AddAt::Standing { at, next, weight } => {
                     if !crate::new_bytes::counts(wanted) {
                         return crate::refuse(9); // as above
                     }

@@ -5,8 +5,8 @@ use format::Edited;
 use format::Keyed;
 use format::SharedRef;
 use format::Taken;
-use inline_refs::OwnPlace;
-use inline_refs::Wanted;
+use inline_refs::OwnRank;
+use inline_refs::RefName;
 ghost use lib.ListN.{length};
 ghost use Rattle.format.specs.Questions.{Answered, AnsweredTaken};
 ghost use Rattle.format.specs.Bodies.{heldBody, dropInlineTreeRef, dropInlineDataRef, addInlineTreeRef, addInlineDataRef, addInlineShared, addInlineKeyed, heldTaken, takeInlineShared};
@@ -15,29 +15,29 @@ ghost use Rattle.backref.specs.Adds.{addKeyed};
 pub fn drop_inline_tree_ref(item_type: u8, body: &[u8], tree: u64, out: &mut [u8]) -> Edited
     ensures { λ r. ⌜ Answered (heldBody (length (now (out .entry))) (dropInlineTreeRef «item_type» (now (body .entry)) (record { tree = tree }))) r (now (out .entry)) (now (out .exit)) ⌝ }
 {
-    let plan = crate::plan_drop(item_type, body, Wanted::Block(BlockRef { tree }));
+    let plan = crate::plan_drop(item_type, body, RefName::Block(BlockRef { tree }));
     crate::write_plan(body, plan, out)
 }
 
 pub fn drop_inline_data_ref(item_type: u8, body: &[u8], name: DataRef, out: &mut [u8]) -> Edited
     ensures { λ r. ⌜ Answered (heldBody (length (now (out .entry))) (dropInlineDataRef «item_type» (now (body .entry)) name)) r (now (out .entry)) (now (out .exit)) ⌝ }
 {
-    let plan = crate::plan_drop(item_type, body, Wanted::Data(name));
+    let plan = crate::plan_drop(item_type, body, RefName::Data(name));
     crate::write_plan(body, plan, out)
 }
 
 pub fn add_inline_tree_ref(item_type: u8, body: &[u8], tree: u64, out: &mut [u8]) -> Edited
     ensures { λ r. ⌜ Answered (heldBody (length (now (out .entry))) (addInlineTreeRef «item_type» (now (body .entry)) (record { tree = tree }))) r (now (out .entry)) (now (out .exit)) ⌝ }
 {
-    let wanted = Wanted::Block(BlockRef { tree });
-    let plan = crate::plan_add(item_type, body, wanted, OwnPlace::Unknown, 1);
+    let wanted = RefName::Block(BlockRef { tree });
+    let plan = crate::plan_add(item_type, body, wanted, OwnRank::Unknown, 1);
     crate::write_plan(body, plan, out)
 }
 
 pub fn add_inline_data_ref(item_type: u8, body: &[u8], name: DataRef, out: &mut [u8]) -> Edited
     ensures { λ r. ⌜ Answered (heldBody (length (now (out .entry))) (addInlineDataRef «item_type» (now (body .entry)) name)) r (now (out .entry)) (now (out .exit)) ⌝ }
 {
-    let plan = crate::plan_add(item_type, body, Wanted::Data(name), OwnPlace::Unknown, 1);
+    let plan = crate::plan_add(item_type, body, RefName::Data(name), OwnRank::Unknown, 1);
     crate::write_plan(body, plan, out)
 }
 
@@ -59,18 +59,18 @@ pub fn add_inline_shared(
 fn add_keyed(
     item_type: u8,
     body: &[u8],
-    wanted: Wanted,
-    place: u64,
+    wanted: RefName,
+    rank: u64,
     count: u32,
     out: &mut [u8],
 ) -> Edited
-    ensures { λ r. ⌜ Answered (heldBody (length (now (out .entry))) (addKeyed «item_type» (now (body .entry)) wanted place count)) r (now (out .entry)) (now (out .exit)) ⌝ }
+    ensures { λ r. ⌜ Answered (heldBody (length (now (out .entry))) (addKeyed «item_type» (now (body .entry)) wanted rank count)) r (now (out .entry)) (now (out .exit)) ⌝ }
 {
-    let plan = crate::plan_add_keyed(item_type, body, wanted, place, count);
+    let plan = crate::plan_add_keyed(item_type, body, wanted, rank, count);
     crate::write_plan(body, plan, out)
 }
 
-// A block reference ignores the count. A data reference that is the only one goes before the first higher type: place 0.
+// A block reference ignores the count. A data reference that is the only one goes before the first higher type: rank 0.
 pub fn add_inline_keyed(
     item_type: u8,
     body: &[u8],
@@ -81,8 +81,10 @@ pub fn add_inline_keyed(
     ensures { λ r. ⌜ Answered (heldBody (length (now (out .entry))) (addInlineKeyed «item_type» (now (body .entry)) keyed count)) r (now (out .entry)) (now (out .exit)) ⌝ }
 {
     match keyed {
-        Keyed::Block(name) => { add_keyed(item_type, body, Wanted::Block(name), name.tree, 1, out) }
-        Keyed::Data(name) => add_keyed(item_type, body, Wanted::Data(name), 0, count, out),
+        Keyed::Block(name) => {
+            add_keyed(item_type, body, RefName::Block(name), name.tree, 1, out)
+        }
+        Keyed::Data(name) => add_keyed(item_type, body, RefName::Data(name), 0, count, out),
     }
 }
 

@@ -2,17 +2,17 @@
 use crate::Outcome;
 use crate::Plan;
 use inline_refs::Found;
+use inline_refs::RefName;
 use inline_refs::Scan;
-use inline_refs::Wanted;
 ghost use Rattle.backref.specs.Plans.{Planned, PlannedTaken};
 ghost use Rattle.backref.specs.Takes.{dropNamed, takeInline};
 
 // One count off the wanted reference, and off the total. Place 0: no gap is looked for, so no hash is computed.
-pub fn plan_drop(item_type: u8, body: &[u8], wanted: Wanted) -> Plan
+pub fn plan_drop(item_type: u8, body: &[u8], wanted: RefName) -> Plan
     ensures { λ r. ⌜ Planned r (now (body .entry)) (dropNamed «item_type» (now (body .entry)) wanted) ⌝ }
 {
     match inline_refs::scan_body(item_type, body, wanted, 0) {
-        Scan::Fault(number) => crate::refuse(number),
+        Scan::Fault(refusal) => crate::refuse(refusal),
         Scan::Read(seen) => {
             let Found::At { at, next, weight } = inline_refs::hit_of(seen) else {
                 return crate::without(Outcome::Absent);
@@ -38,11 +38,11 @@ pub fn plan_drop(item_type: u8, body: &[u8], wanted: Wanted) -> Plan
 }
 
 // The wanted reference goes whole, and the total stays.
-pub fn plan_take(item_type: u8, body: &[u8], wanted: Wanted) -> Plan
+pub fn plan_take(item_type: u8, body: &[u8], wanted: RefName) -> Plan
     ensures { λ r. ⌜ PlannedTaken r (now (body .entry)) (takeInline «item_type» (now (body .entry)) wanted) ⌝ }
 {
     match inline_refs::scan_body(item_type, body, wanted, 0) {
-        Scan::Fault(number) => crate::refuse(number),
+        Scan::Fault(refusal) => crate::refuse(refusal),
         Scan::Read(seen) => {
             let Found::At { at, next, weight } = inline_refs::hit_of(seen) else {
                 return crate::without(Outcome::Absent);

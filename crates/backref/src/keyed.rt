@@ -1,5 +1,6 @@
 // The calls on a data reference's item.
 use format::DataRef;
+use format::EXTENT_DATA_REF;
 use format::Edited;
 ghost use lib.ListN.{length};
 ghost use Rattle.format.specs.Questions.{Answered, accepted};
@@ -9,7 +10,7 @@ ghost use Rattle.format.specs.Bodies.{heldBody, keyedDataRefBody, dropKeyedData
 pub fn keyed_data_ref_body(name: DataRef, count: u32, out: &mut [u8]) -> Edited
     ensures { λ r. ⌜ Answered (heldBody (length (now (out .entry))) (accepted (keyedDataRefBody name count))) r (now (out .entry)) (now (out .exit)) ⌝ }
 {
-    let row = inline_refs::lengths_of(178);
+    let row = inline_refs::lengths_of(EXTENT_DATA_REF);
     let mut new = [0u8; 32];
     fields::put_u64_le(&mut new, 0, name.tree);
     fields::put_u64_le(&mut new, 8, name.objectid);

@@ -2,6 +2,8 @@
 use crate::Outcome;
 use crate::Plan;
 use format::DataRef;
+use format::EXTENT_DATA_REF;
+use format::MOST_DATA;
 ghost use mathlib.Core.Path.{_≡_};
 ghost use Prim.Native.Nat.{_+_};
 ghost use lib.ListN.{replicate};
@@ -24,10 +26,10 @@ pub fn plan_drop_keyed(item: &[u8], name: DataRef) -> Plan
     ensures { λ r. ⌜ Planned r (now (item .entry)) (dropKeyedDataRef (now (item .entry)) name) ⌝ }
     ensures { λ r. ⌜ r .from + r .size ≡ r .to ⌝ }
 {
-    if 65535 < item.len() {
+    if MOST_DATA < item.len() {
         return crate::refuse(3);
     }
-    let row = inline_refs::lengths_of(178);
+    let row = inline_refs::lengths_of(EXTENT_DATA_REF);
     if item.len() != row.payload {
         return crate::refuse(15);
     }

@@ -1,4 +1,4 @@
-// The calls on bodies: each plans its edit and writes it.
+// The calls on bodies: each plans its edit and writes it once. Where references stand, and one of them by its number.
 mod add_plans;
 mod asks;
 mod calls;

@@ -1,7 +1,7 @@
 // Planned edits of a body: an edit is planned first and written later, so that a call on a sheet needs no second buffer.
 ghost use mathlib.Core.Path.{_≡_};
 ghost use Prim.Native.Nat.{_+_};
-ghost use Rattle.backref.specs.Plans.{planned};
+ghost use Rattle.backref.specs.Plans.{planOutcome};
 
 pub enum Outcome {
     Edit,
@@ -39,11 +39,11 @@ pub fn without(outcome: Outcome) -> Plan
     }
 }
 
-pub fn refuse(number: u32) -> Plan
-    ensures { λ r. ⌜ r .outcome ≡ Outcome.Refused number ⌝ }
+pub fn refuse(refusal: u32) -> Plan
+    ensures { λ r. ⌜ r .outcome ≡ Outcome.Refused refusal ⌝ }
     ensures { λ r. ⌜ r .from + r .size ≡ r .to ⌝ }
 {
-    without(Outcome::Refused(number))
+    without(Outcome::Refused(refusal))
 }
 
 pub fn edit(from: usize, to: usize, new: [u8; 32], size: usize, total: u64, count: u32) -> Plan

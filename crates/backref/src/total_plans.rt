@@ -1,6 +1,8 @@
 // Plans that read no references: the item's type plays no part in them.
 use crate::Outcome;
 use crate::Plan;
+use format::BODY_HEAD;
+use format::MOST_DATA;
 use format::Told;
 ghost use mathlib.Core.Path.{_≡_};
 ghost use Prim.Native.Nat.{_+_};
@@ -10,7 +12,7 @@ ghost use Rattle.fields.specs.Parts.{written};
 ghost use Rattle.format.specs.Bodies.{withFlags};
 ghost use Rattle.backref.specs.Plans.{Planned};
 ghost use Rattle.backref.specs.Heads.{headOf};
-ghost use Rattle.backref.specs.Totals.{answerOf, totalBy, changeTotal};
+ghost use Rattle.backref.specs.Totals.{toldAnswer, totalBy, changeTotal};
 
 // What becomes of a total.
 pub enum TotalChange {
@@ -23,10 +25,10 @@ pub enum TotalChange {
 pub fn head_fault(body: &[u8]) -> u32
     ensures { λ r. ⌜ r ≡ headOf (now (body .entry)) ⌝ }
 {
-    if 65535 < body.len() {
+    if MOST_DATA < body.len() {
         return 3;
     }
-    if body.len() < 24 {
+    if body.len() < BODY_HEAD {
         return 6;
     }
     0
@@ -41,7 +43,7 @@ fn set_total(total: u64) -> Plan
 
 // The total with a change, or the question that is answered "no". Totals are compared first, so that none wraps.
 fn changed_total(change: TotalChange, total: u64) -> Told
-    ensures { λ r. ⌜ answerOf r ≡ totalBy change total ⌝ }
+    ensures { λ r. ⌜ toldAnswer r ≡ totalBy change total ⌝ }
 {
     match change {
         TotalChange::Raise(amount) => {
@@ -74,7 +76,7 @@ pub fn plan_total(body: &[u8], change: TotalChange) -> Plan
         return crate::refuse(fault);
     }
     match changed_total(change, fields::get_u64_le(body, 0)) {
-        Told::Refused(number) => crate::refuse(number),
+        Told::Refused(refusal) => crate::refuse(refusal),
         Told::Value(total) => set_total(total),
     }
 }

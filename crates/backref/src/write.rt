@@ -2,19 +2,21 @@
 use crate::plan::Outcome;
 use crate::plan::Plan;
 use format::Edited;
+use format::MOST_DATA;
 use format::Taken;
 ghost use mathlib.Core.Path.{_≡_};
 ghost use Prim.Native.Nat.{_+_, _-_, _≤_};
 ghost use lib.ListN.{length};
 ghost use Rattle.fields.specs.Numbers.{leBytes};
 ghost use Rattle.fields.specs.Parts.{written, spliced};
+ghost use Rattle.format.specs.Constants.{mostData};
 ghost use Rattle.format.specs.Questions.{Answered, AnsweredTaken, accepted};
 ghost use Rattle.format.specs.Bodies.{heldBody, heldTaken};
 ghost use Rattle.backref.specs.Plans.{edited, planAnswer, planTaken, EditIn, PlanIn};
 
 // How long a body of so many bytes is after a planned edit.
 pub fn plan_length(plan: Plan, body_len: usize) -> usize
-    requires { ⌜ (plan .from ≤ plan .to) × (plan .to ≤ «body_len») × («body_len» ≤ 65535) × (plan .size ≤ 29) ⌝ }
+    requires { ⌜ (plan .from ≤ plan .to) × (plan .to ≤ «body_len») × («body_len» ≤ mostData) × (plan .size ≤ 29) ⌝ }
     ensures { λ r. ⌜ r ≡ plan .from + plan .size + («body_len» - plan .to) ⌝ }
 {
     plan.from + plan.size + (body_len - plan.to)
@@ -31,7 +33,7 @@ pub fn put_edit(
     out: &mut [u8],
     at: usize,
 ) -> usize
-    requires { ⌜ (8 ≤ from) × (from ≤ to) × (to ≤ length (now body)) × (length (now body) ≤ 65535) × (length (now new) ≤ 29) ⌝ }
+    requires { ⌜ (8 ≤ from) × (from ≤ to) × (to ≤ length (now body)) × (length (now body) ≤ mostData) × (length (now new) ≤ 29) ⌝ }
     requires { ⌜ at + (from + length (now new) + (length (now body) - to)) ≤ length (now out) ⌝ }
     ensures { λ r. ⌜ (r ≡ at + (from + length (now (new .entry)) + (length (now (body .entry)) - to))) × (now (out .exit) ≡ written at (written 0 (leBytes 8 total) (spliced from to (now (new .entry)) (now (body .entry)))) (now (out .entry))) ⌝ }
 {
@@ -49,7 +51,7 @@ fn write_edit(body: &[u8], plan: Plan, out: &mut [u8]) -> Edited
     if out.len() < n {
         return Edited::Refused(21);
     }
-    if 65535 < n {
+    if MOST_DATA < n {
         return Edited::Refused(21);
     }
     let new = plan.new;
@@ -67,7 +69,7 @@ pub fn write_plan(body: &[u8], plan: Plan, out: &mut [u8]) -> Edited
         Outcome::Edit => write_edit(body, plan, out),
         Outcome::Absent => Edited::Absent,
         Outcome::Remove => Edited::Remove,
-        Outcome::Refused(number) => Edited::Refused(number),
+        Outcome::Refused(refusal) => Edited::Refused(refusal),
     }
 }
 
@@ -81,7 +83,7 @@ pub fn write_taken(body: &[u8], plan: Plan, out: &mut [u8]) -> Taken
         Edited::Written(size) => Taken::Written { size, count },
         Edited::Absent => Taken::Absent,
         Edited::Remove => Taken::Refused(101),
-        Edited::Refused(number) => Taken::Refused(number),
+        Edited::Refused(refusal) => Taken::Refused(refusal),
     }
 }
 
@@ -115,6 +117,6 @@ pub fn write_same(body: &[u8], plan: Plan, out: &mut [u8]) -> Edited
         }
         Outcome::Absent => Edited::Absent,
         Outcome::Remove => Edited::Remove,
-        Outcome::Refused(number) => Edited::Refused(number),
+        Outcome::Refused(refusal) => Edited::Refused(refusal),
     }
 }

@@ -11,17 +11,17 @@ use borrow.Author.Tests.{eq-eqb, ne-eqb, le-leb, lt-leb, lt-ltb, le-ltb}
 use Rattle.fields.specs.Lists.{all, same}
 use Rattle.fields.specs.Numbers.{words}
 use Rattle.fields.proofs.Lists.{and-false, lt-or}
-use Rattle.format.specs.References.{rowIn, known, payloadLength, countPosition, counted, fieldCount, Ref, refAt, place, falls}
+use Rattle.format.specs.References.{rowIn, known, payloadLength, countPosition, counted, fieldCount, Ref, refAt, rank, falls}
 use Rattle.format.specs.Bodies.{named}
-use Rattle.distinct_triples.specs.Triples.{dataSize, tripleOf, Distinct}
+use Rattle.distinct_triples.specs.Triples.{tripleSize, tripleOf, Distinct}
 use Rattle.distinct_triples.proofs.Orders.{none-twice}
 use Rattle.balance.specs.SideBySide.{spanRefs}
-use Rattle.balance.specs.Runs.{Run, start, joins, kept, after, apart, weighs, admits}
+use Rattle.balance.specs.Runs.{RefRun, start, joins, keptRun, after, runsApart, weighs, admits}
 use Rattle.balance.proofs.SideBySide.{span-snoc}
 use Rattle.balance.specs.declared.record.Run.{Run as Passed}
 use Rattle.balance.specs.declared.record.Admitted.{Admitted}
 use Rattle.balance.specs.declared.record.Admitted.the-variants.{Yes, No}
-use Rattle.balance.specs.Spans.{clear, runOf, Reaches, Apart, Admitting}
+use Rattle.balance.specs.Spans.{clear, runOf, Reaches, SpansApart, Admitting}
 
 pub payload-178 : payloadLength 178 ≡ 28
 unfolding payloadLength rowIn
@@ -58,12 +58,12 @@ module _ (body : List ℕ) (at p left : ℕ) (name : List ℕ) (is : name ≡ wo
       rw z (simp (sym (names-same b e) ∙ t))
 
   clear-step : (b : Bool) (m : ℕ) → b ≡ named 178 name (refAt 178 (drop (p + 1) body)) → b ≡ false
-      → clear body at p (suc m) ≡ clear body at (p + dataSize) m
+      → clear body at p (suc m) ≡ clear body at (p + tripleSize) m
   unfolding clear spanRefs
   clear-step b m e t = simp (sym (names-same b e) ∙ t, payload-178) refl
 
   pub clear-miss : (b : Bool) → 0 < left → b ≡ named 178 name (refAt 178 (drop (p + 1) body)) → b ≡ false
-      → clear body at (p + dataSize) (left - 1) ≡ clear body at p left
+      → clear body at (p + tripleSize) (left - 1) ≡ clear body at p left
   clear-miss b h e t =
       let z : left ≡ suc (left - 1) = omega arith in
       sym (ap (clear body at p) z ∙ clear-step b (left - 1) e t)
@@ -74,28 +74,28 @@ clear-none body at p = refl
 
 -- those that are known to differ from one another differ from one more of them
 module _ (body : List ℕ) (from n known : ℕ) (d : Distinct body from known) (h : n < known) where
-  differs : (i : ℕ) → i < n → same (refAt 178 (drop (from + dataSize * i + 1) body) .fields) (refAt 178 (drop (from + dataSize * n + 1) body) .fields) ≡ false
+  differs : (i : ℕ) → i < n → same (refAt 178 (drop (from + tripleSize * i + 1) body) .fields) (refAt 178 (drop (from + tripleSize * n + 1) body) .fields) ≡ false
   unfolding tripleOf
   differs i l = ap₂ same (fields-178 _) (fields-178 _) ∙ d .differ i n l h
 
-  clear-from : (m i : ℕ) → i + m ≡ n → clear body (from + dataSize * n) (from + dataSize * i) m ≡ true
+  clear-from : (m i : ℕ) → i + m ≡ n → clear body (from + tripleSize * n) (from + tripleSize * i) m ≡ true
   unfolding clear spanRefs
   clear-from zero i e = refl
   clear-from (suc m) i e =
       let l : i < n = omega arith in
-      let p : from + dataSize * i + dataSize ≡ from + dataSize * suc i = omega arith in
+      let p : from + tripleSize * i + tripleSize ≡ from + tripleSize * suc i = omega arith in
       let f : suc i + m ≡ n = omega arith in
       simp (differs i l, payload-178, p) (clear-from m (suc i) f)
 
-  pub clear-by : (at : ℕ) → from + dataSize * n ≡ at → clear body at from n ≡ true
+  pub clear-by : (at : ℕ) → from + tripleSize * n ≡ at → clear body at from n ≡ true
   clear-by at e =
-      let z : from + dataSize * 0 ≡ from = omega arith in
+      let z : from + tripleSize * 0 ≡ from = omega arith in
       let f : 0 + n ≡ n = omega arith in
-      subst (λ (q : ℕ). clear body q from n ≡ true) e (subst (λ (q : ℕ). clear body (from + dataSize * n) q n ≡ true) z (clear-from n 0 f))
+      subst (λ (q : ℕ). clear body q from n ≡ true) e (subst (λ (q : ℕ). clear body (from + tripleSize * n) q n ≡ true) z (clear-from n 0 f))
 
 -- ---- the answer, from the tests
 
-module _ (run : Run) (r : Ref) where
+module _ (run : RefRun) (r : Ref) where
   pub admits-lower : r .kind < run .kind → admits run r ≡ false
   unfolding admits after
   admits-lower h =
@@ -107,7 +107,7 @@ module _ (run : Run) (r : Ref) where
   unfolding admits weighs
   admits-light h e =
       let w : leb 1 (r .weight) ≡ false = lt-leb 1 (r .weight) (omega arith) in
-      simp (ne-eqb _ _ h, w) (never (after run r) (apart run r))
+      simp (ne-eqb _ _ h, w) (never (after run r) (runsApart run r))
     where
       never : (a b : Bool) → (a && (b && false)) ≡ false
       never true true = refl
@@ -120,9 +120,9 @@ module _ (run : Run) (r : Ref) where
       let k : r .kind ≡ run .kind → ⊥ = (λ e. h (sym e)) in
       simp (ne-eqb _ _ k) (and-false (eqb (run .kind) 178))
 
-  not-joins-spot : (place r ≡ run .spot → ⊥) → joins run r ≡ false
+  not-joins-rank : (rank r ≡ run .rank → ⊥) → joins run r ≡ false
   unfolding joins
-  not-joins-spot h = simp (ne-eqb _ _ h) (never (eqb (run .kind) 178) (eqb (r .kind) (run .kind)))
+  not-joins-rank h = simp (ne-eqb _ _ h) (never (eqb (run .kind) 178) (eqb (r .kind) (run .kind)))
     where
       never : (a b : Bool) → (a && (b && false)) ≡ false
       never true true = refl
@@ -133,8 +133,8 @@ module _ (run : Run) (r : Ref) where
   unfolding joins
   not-joins-178 h = simp (ne-eqb _ _ h)
 
-  kept-alone : joins run r ≡ false → record { kind = r .kind; spot = place r; back = r ∷ [] } ≡ kept run r
-  unfolding kept
+  kept-alone : joins run r ≡ false → record { kind = r .kind; rank = rank r; back = r ∷ [] } ≡ keptRun run r
+  unfolding keptRun
   kept-alone j = simp j
 
   -- a new run
@@ -147,17 +147,17 @@ module _ (run : Run) (r : Ref) where
       simp (le-ltb _ _ k, eq-eqb _ _ q, eq-eqb _ _ z)
 
   abbrev pub Begins : Type 0
-  Begins = (admits run r ≡ true) × (record { kind = r .kind; spot = place r; back = r ∷ [] } ≡ kept run r)
+  Begins = (admits run r ≡ true) × (record { kind = r .kind; rank = rank r; back = r ∷ [] } ≡ keptRun run r)
 
   pub admits-owner : run .kind ≤ r .kind → r .kind ≡ 172 → Begins
-  unfolding admits apart weighs
+  unfolding admits runsApart weighs
   admits-owner h e =
       let no178 : run .kind ≡ 178 → ⊥ = (λ q. omega arith) in
       let j : joins run r ≡ false = not-joins-178 no178 in
       (simp (j, eq-eqb _ _ e, owner-after (lt-or (run .kind) (r .kind)) h e), kept-alone j)
 
   pub admits-higher : run .kind < r .kind → 0 < r .weight → Begins
-  unfolding admits apart weighs after
+  unfolding admits runsApart weighs after
   admits-higher h w =
       let ne : run .kind ≡ r .kind → ⊥ = (λ q. omega arith) in
       let j : joins run r ≡ false = not-joins-kind ne in
@@ -168,15 +168,15 @@ module _ (run : Run) (r : Ref) where
       yes true = refl
       yes false = refl
 
-  pub admits-falls : run .kind ≡ r .kind → (r .kind ≡ 172 → ⊥) → place r < run .spot → 0 < r .weight → Begins
-  unfolding admits apart weighs after falls
+  pub admits-falls : run .kind ≡ r .kind → (r .kind ≡ 172 → ⊥) → rank r < run .rank → 0 < r .weight → Begins
+  unfolding admits runsApart weighs after falls
   admits-falls q owner h w =
-      let ne : place r ≡ run .spot → ⊥ = (λ e. omega arith) in
-      let j : joins run r ≡ false = not-joins-spot ne in
+      let ne : rank r ≡ run .rank → ⊥ = (λ e. omega arith) in
+      let j : joins run r ≡ false = not-joins-rank ne in
       let l : leb 1 (r .weight) ≡ true = le-leb 1 (r .weight) (omega arith) in
       let n : run .kind ≡ 172 → ⊥ = (λ e. owner (sym q ∙ e)) in
-      let o : place r ≤ run .spot = omega arith in
-      let b : leb (place r) (run .spot) ≡ true = le-leb _ _ o in
+      let o : rank r ≤ run .rank = omega arith in
+      let b : leb (rank r) (run .rank) ≡ true = le-leb _ _ o in
       let u : run .kind ≤ r .kind = omega arith in
       let v : r .kind ≤ run .kind = omega arith in
       (simp (j, le-ltb _ _ v, eq-eqb _ _ q, ne-eqb _ _ n, ne-eqb _ _ owner, lt-ltb _ _ h, b, l) (yes (eqb (run .kind) 178)), kept-alone j)
@@ -185,8 +185,8 @@ module _ (run : Run) (r : Ref) where
       yes true = refl
       yes false = refl
 
-  -- of one type, no lower place
-  pub admits-stays : run .kind ≡ r .kind → (r .kind ≡ 172 → ⊥) → (r .kind ≡ 178 → ⊥) → run .spot ≤ place r → admits run r ≡ false
+  -- of one type, no lower rank
+  pub admits-stays : run .kind ≡ r .kind → (r .kind ≡ 172 → ⊥) → (r .kind ≡ 178 → ⊥) → run .rank ≤ rank r → admits run r ≡ false
   unfolding admits after falls
   admits-stays q owner no178 h =
       let n : run .kind ≡ 172 → ⊥ = (λ e. owner (sym q ∙ e)) in
@@ -195,7 +195,7 @@ module _ (run : Run) (r : Ref) where
       simp (le-ltb _ _ v, eq-eqb _ _ q, ne-eqb _ _ n, ne-eqb _ _ m, le-ltb _ _ h)
 
   module _ (q : run .kind ≡ r .kind) (d : r .kind ≡ 178) where
-    pub admits-rises : run .spot < place r → admits run r ≡ false
+    pub admits-rises : run .rank < rank r → admits run r ≡ false
     unfolding admits after falls
     admits-rises h =
         let n : run .kind ≡ 172 → ⊥ = (λ e. omega arith) in
@@ -203,13 +203,13 @@ module _ (run : Run) (r : Ref) where
         let v : r .kind ≤ run .kind = omega arith in
         simp (le-ltb _ _ v, eq-eqb _ _ q, ne-eqb _ _ n, eq-eqb _ _ m, lt-leb _ _ h)
 
-    module _ (s : place r ≡ run .spot) where
+    module _ (s : rank r ≡ run .rank) where
       joins-yes : joins run r ≡ true
       unfolding joins
       joins-yes = let m : run .kind ≡ 178 = q ∙ d in simp (eq-eqb _ _ m, eq-eqb _ _ (sym q), eq-eqb _ _ s)
 
       pub admits-twice : all (λ x. not (same (x .fields) (r .fields))) (run .back) ≡ false → admits run r ≡ false
-      unfolding admits apart
+      unfolding admits runsApart
       admits-twice a = simp (joins-yes, a) (never (after run r))
         where
           never : (c : Bool) → (c && false) ≡ false
@@ -217,14 +217,14 @@ module _ (run : Run) (r : Ref) where
           never false = refl
 
       pub admits-joins : all (λ x. not (same (x .fields) (r .fields))) (run .back) ≡ true → 0 < r .weight
-          → (admits run r ≡ true) × (record { kind = run .kind; spot = run .spot; back = run .back ++ r ∷ [] } ≡ kept run r)
-      unfolding admits after falls apart weighs kept
+          → (admits run r ≡ true) × (record { kind = run .kind; rank = run .rank; back = run .back ++ r ∷ [] } ≡ keptRun run r)
+      unfolding admits after falls runsApart weighs keptRun
       admits-joins a w =
           let n : run .kind ≡ 172 → ⊥ = (λ e. omega arith) in
           let m : run .kind ≡ 178 = q ∙ d in
           let v : r .kind ≤ run .kind = omega arith in
-          let o : place r ≤ run .spot = omega arith in
-          let b : leb (place r) (run .spot) ≡ true = le-leb _ _ o in
+          let o : rank r ≤ run .rank = omega arith in
+          let b : leb (rank r) (run .rank) ≡ true = le-leb _ _ o in
           let l : leb 1 (r .weight) ≡ true = le-leb 1 (r .weight) (omega arith) in
           (simp (joins-yes, a, le-ltb _ _ v, eq-eqb _ _ q, ne-eqb _ _ n, eq-eqb _ _ m, b, l) (yes (eqb (r .kind) 172)), simp joins-yes)
         where
@@ -242,13 +242,13 @@ module _ (body : List ℕ) (p : Passed) (at kind start : ℕ) (s : start ≡ at 
   unfolding runOf refAt Admitting
   says-lower h = admits-lower (runOf body p) here h
 
-  module _ (weight spot : ℕ) (w : weight ≡ here .weight) (o : spot ≡ place here) where
+  module _ (weight own-rank : ℕ) (w : weight ≡ here .weight) (o : own-rank ≡ rank here) where
     abbrev pub alone : Passed
-    alone = record { kind = kind; spot = spot; from = at; n = 1; known = 0 }
+    alone = record { kind = kind; rank = own-rank; from = at; n = 1; known = 0 }
 
-    alone-is : runOf body alone ≡ record { kind = here .kind; spot = place here; back = here ∷ [] }
+    alone-is : runOf body alone ≡ record { kind = here .kind; rank = rank here; back = here ∷ [] }
     unfolding runOf spanRefs refAt
-    alone-is = λ i. record { kind = kind; spot = o i; back = refAt kind (drop (sym s i) body) ∷ [] }
+    alone-is = λ i. record { kind = kind; rank = o i; back = refAt kind (drop (sym s i) body) ∷ [] }
 
     alone-reaches : Reaches alone (start + payloadLength kind)
     alone-reaches e = rw (e, payload-178) (omega arith)
@@ -275,23 +275,23 @@ module _ (body : List ℕ) (p : Passed) (at kind start : ℕ) (s : start ≡ at 
         says-higher h = says-alone (admits-higher (runOf body p) here h some-weight)
 
         module _ (same-kind : p .kind ≡ kind) where
-          pub says-falls : spot < p .spot → Admitting body p here (start + payloadLength kind) (Yes alone weight)
+          pub says-falls : own-rank < p .rank → Admitting body p here (start + payloadLength kind) (Yes alone weight)
           unfolding runOf refAt Admitting
           says-falls h = says-alone (admits-falls (runOf body p) here same-kind owner (rw (← o) h) some-weight)
 
-          pub says-stays : (kind ≡ 178 → ⊥) → p .spot ≤ spot → Admitting body p here (start + payloadLength kind) No
+          pub says-stays : (kind ≡ 178 → ⊥) → p .rank ≤ own-rank → Admitting body p here (start + payloadLength kind) No
           unfolding runOf refAt Admitting
           says-stays n h = admits-stays (runOf body p) here same-kind owner n (rw (← o) h)
 
           module _ (d : kind ≡ 178) where
-            pub says-rises : p .spot < spot → Admitting body p here (start + payloadLength kind) No
+            pub says-rises : p .rank < own-rank → Admitting body p here (start + payloadLength kind) No
             unfolding runOf refAt Admitting
             says-rises h = admits-rises (runOf body p) here same-kind d (rw (← o) h)
 
-            module _ (e : spot ≡ p .spot) where
-              spot-is : place here ≡ runOf body p .spot
+            module _ (e : own-rank ≡ p .rank) where
+              rank-is : rank here ≡ runOf body p .rank
               unfolding runOf
-              spot-is = sym o ∙ e
+              rank-is = sym o ∙ e
 
               clear-is : (b : Bool) → clear body at (p .from) (p .n) ≡ b
                   → all (λ x. not (same (x .fields) (here .fields))) (runOf body p .back) ≡ b
@@ -302,22 +302,22 @@ module _ (body : List ℕ) (p : Passed) (at kind start : ℕ) (s : start ≡ at 
 
               pub says-twice : clear body at (p .from) (p .n) ≡ false → Admitting body p here (start + payloadLength kind) No
               unfolding runOf refAt Admitting
-              says-twice c = admits-twice (runOf body p) here same-kind d spot-is (clear-is false c)
+              says-twice c = admits-twice (runOf body p) here same-kind d rank-is (clear-is false c)
 
               abbrev pub grown : ℕ → Passed
-              grown k = record { kind = kind; spot = spot; from = p .from; n = p .n + 1; known = k }
+              grown k = record { kind = kind; rank = own-rank; from = p .from; n = p .n + 1; known = k }
 
               ends-here : p .from + p .n * (1 + payloadLength (p .kind)) + 1 ≡ start
               ends-here =
                   let k : p .kind ≡ 178 = same-kind ∙ d in
-                  let z : p .n * (1 + payloadLength (p .kind)) ≡ p .n * dataSize = ap (λ (j : ℕ). p .n * (1 + payloadLength j)) k ∙ ap (λ (j : ℕ). p .n * (1 + j)) payload-178 in
+                  let z : p .n * (1 + payloadLength (p .kind)) ≡ p .n * tripleSize = ap (λ (j : ℕ). p .n * (1 + payloadLength j)) k ∙ ap (λ (j : ℕ). p .n * (1 + j)) payload-178 in
                   omega (arith, reach k)
 
-              grown-is : (k : ℕ) → runOf body (grown k) ≡ record { kind = runOf body p .kind; spot = runOf body p .spot; back = runOf body p .back ++ here ∷ [] }
+              grown-is : (k : ℕ) → runOf body (grown k) ≡ record { kind = runOf body p .kind; rank = runOf body p .rank; back = runOf body p .back ++ here ∷ [] }
               unfolding runOf
               grown-is k =
-                  (λ i. record { kind = sym same-kind i; spot = e i; back = spanRefs (sym same-kind i) body (p .from) (p .n + 1) })
-                  ∙ ap (λ (l : List Ref). record { kind = p .kind; spot = p .spot; back = l })
+                  (λ i. record { kind = sym same-kind i; rank = e i; back = spanRefs (sym same-kind i) body (p .from) (p .n + 1) })
+                  ∙ ap (λ (l : List Ref). record { kind = p .kind; rank = p .rank; back = l })
                   (span-snoc (p .kind) body (p .from) (p .n)
                   ∙ (λ i. spanRefs (p .kind) body (p .from) (p .n) ++ refAt (same-kind i) (drop (ends-here i) body) ∷ []))
 
@@ -328,13 +328,13 @@ module _ (body : List ℕ) (p : Passed) (at kind start : ℕ) (s : start ≡ at 
                   → Admitting body p here (start + payloadLength kind) (Yes (grown k) weight)
               unfolding runOf refAt Admitting
               says-joins k a c =
-                  let j = admits-joins (runOf body p) here same-kind d spot-is (clear-is true c) some-weight in
+                  let j = admits-joins (runOf body p) here same-kind d rank-is (clear-is true c) some-weight in
                   (j .0, (grown-is k ∙ j .1, (grown-reaches k, (w, a))))
 
 -- ---- and back
 
 pub admitted-yes : (body : List ℕ) (p : Passed) (r : Ref) (next : ℕ) (a : Admitted) (q : Passed) (weight : ℕ) → a ≡ Yes q weight → Admitting body p r next a
-    → (admits (runOf body p) r ≡ true) × ((runOf body q ≡ kept (runOf body p) r) × (Reaches q next × ((weight ≡ r .weight) × Apart body q)))
+    → (admits (runOf body p) r ≡ true) × ((runOf body q ≡ keptRun (runOf body p) r) × (Reaches q next × ((weight ≡ r .weight) × SpansApart body q)))
 unfolding Admitting
 admitted-yes body p r next a q weight e h = subst (Admitting body p r next) e h
 
@@ -347,10 +347,10 @@ admitted-no body p r next a e h = subst (Admitting body p r next) e h
 pub no-172 : _≡_ {A = ℕ} 178 172 → ⊥
 no-172 e = omega arith
 
-pub at-178 : (body : List ℕ) (start kind weight spot : ℕ) → kind ≡ 178 → weight ≡ refAt kind (drop start body) .weight → spot ≡ place (refAt kind (drop start body))
-    → (weight ≡ refAt 178 (drop start body) .weight) × (spot ≡ place (refAt 178 (drop start body)))
-at-178 body start kind weight spot e w o =
-    subst (λ (k : ℕ). (weight ≡ refAt k (drop start body) .weight) × (spot ≡ place (refAt k (drop start body)))) e (w, o)
+pub at-178 : (body : List ℕ) (start kind weight own-rank : ℕ) → kind ≡ 178 → weight ≡ refAt kind (drop start body) .weight → own-rank ≡ rank (refAt kind (drop start body))
+    → (weight ≡ refAt 178 (drop start body) .weight) × (own-rank ≡ rank (refAt 178 (drop start body)))
+at-178 body start kind weight own-rank e w o =
+    subst (λ (k : ℕ). (weight ≡ refAt k (drop start body) .weight) × (own-rank ≡ rank (refAt k (drop start body)))) e (w, o)
 
 pub as-178 : (body : List ℕ) (p : Passed) (start kind : ℕ) (r : Admitted) → kind ≡ 178
     → Admitting body p (refAt 178 (drop start body)) (start + payloadLength 178) r → Admitting body p (refAt kind (drop start body)) (start + payloadLength kind) r

@@ -14,30 +14,30 @@ use Rattle.format.specs.Apply.{isRecord}
 use Rattle.format.specs.Names.{Name, Entry, isRefItem, viewOf, refEntries, itemEntries, entries, isRecordOf, records, stands, ofExtent, viewTotal}
 use Rattle.format.proofs.Keys.{Before, below-out, beyond, rising-after}
 use Rattle.theorems.proofs.Facts.{entries-here, none-here}
-use Rattle.balance.specs.Tally.{Tally, fresh, closed}
+use Rattle.balance.specs.Tally.{GroupTally, fresh, closed}
 use Rattle.balance.proofs.Sorted.{names}
 use Rattle.balance.proofs.Parts.{isRefOf, totalIn, Facts}
 use Rattle.balance.proofs.Says.{nothing, says, names-far}
 
 -- ---- what a tally says of each extent and name
 
-abbrev pub recs : Tally → ℕ → ℕ
+abbrev pub recs : GroupTally → ℕ → ℕ
 recs t x = cond (eqb (t .extent) x) (cond (t .marked) 1 0) 0
 
-abbrev pub tots : Tally → ℕ → ℕ
+abbrev pub tots : GroupTally → ℕ → ℕ
 tots t x = cond (eqb (t .extent) x) (t .total) 0
 
-abbrev pub sums : Tally → ℕ → ℕ
+abbrev pub sums : GroupTally → ℕ → ℕ
 sums t x = cond (eqb (t .extent) x) (t .weight) 0
 
-abbrev pub nams : Tally → Name → ℕ
+abbrev pub nams : GroupTally → Name → ℕ
 nams t n = names (t .extent) n (t .refs)
 
-abbrev pub Of : Tally → List Item → Type 0
+abbrev pub Of : GroupTally → List Item → Type 0
 Of t rest = Facts (recs t) (tots t) (sums t) (nams t) rest
 
 -- no name stands twice inline, and without a record there is nothing
-pub record Valid (t : Tally) : Type 0 where
+pub record Valid (t : GroupTally) : Type 0 where
   pub single : (n : Name) → nams t n ≤ 1
   pub blank : T (not (t .marked)) → (t .refs ≡ []) × ((t .total ≡ 0) × (t .weight ≡ 0))
 
@@ -125,10 +125,10 @@ far-all x (i ∷ l) t =
 -- ---- a new extent
 
 -- the items are of this extent or higher ones
-abbrev pub ahead : Tally → Item → Bool
+abbrev pub ahead : GroupTally → Item → Bool
 ahead t i = leb (t .extent) (i .key .objectid)
 
-pub past : (t : Tally) (i : Item) (rest : List Item) → T (ahead t i) → i .key .objectid ≢ t .extent → T (rising (i ∷ rest)) → T (all (far (t .extent)) (i ∷ rest))
+pub past : (t : GroupTally) (i : Item) (rest : List Item) → T (ahead t i) → i .key .objectid ≢ t .extent → T (rising (i ∷ rest)) → T (all (far (t .extent)) (i ∷ rest))
 unfolding far
 past t i rest a ne r =
     let lo : t .extent ≤ i .key .objectid = leb→le _ _ a in
@@ -139,7 +139,7 @@ past t i rest a ne r =
     higher j e lo (inl h) = omega arith
     higher j e lo (inr (h, k)) = ne (h ∙ e)
 
-module _ (t : Tally) (x : ℕ) (rest : List Item) (v : Valid t) (f : Far (t .extent) rest) where
+module _ (t : GroupTally) (x : ℕ) (rest : List Item) (v : Valid t) (f : Far (t .extent) rest) where
   -- an extent is that of the tally, or not
   self-or : (y : ℕ) → (t .extent ≡ y) ⊎ ((recs t y ≡ 0) × ((tots t y ≡ 0) × (sums t y ≡ 0)))
   self-or y = go (eqb (t .extent) y) refl

@@ -12,12 +12,12 @@ use Rattle.fields.proofs.Lists.{and-false}
 use Rattle.fields.specs.Numbers.{le, words}
 use Rattle.fields.specs.Parts.{part}
 use Rattle.format.specs.declared.DataRef.{DataRef}
-use Rattle.format.specs.References.{rowIn, countPosition, counted, fieldCount, weightOf, ref, refAt, place, placeOf}
+use Rattle.format.specs.References.{rowIn, countPosition, counted, fieldCount, weightOf, makeRef, refAt, rank, rankOf}
 use Rattle.format.specs.Bodies.{one, triple}
 use Rattle.format.specs.Items.{Item}
 use Rattle.format.specs.Names.{reference, isRefItem, inForm, viewRefItem}
-use Rattle.inline_refs.specs.declared.wanted.Wanted.{Wanted}
-use Rattle.inline_refs.specs.declared.wanted.Wanted.the-variants.{Block, Data, SharedBlock, SharedData}
+use Rattle.inline_refs.specs.declared.ref_name.RefName.{RefName}
+use Rattle.inline_refs.specs.declared.ref_name.RefName.the-variants.{Block, Data, SharedBlock, SharedData}
 use Rattle.inline_refs.specs.Scans.{kindOf, fieldsOf}
 use Rattle.balance.proofs.Says.{naming-of}
 use Rattle.theorems.proofs.Naming.{Naming as Kinds, is176, is178, is182, is184}
@@ -30,22 +30,22 @@ module _ (i : Item) where
     unfolding Naming viewRefItem inForm
     data-short h = simp (eq-eqb _ _ k, ne-eqb _ _ h)
 
-    module _ (spot : ℕ) (e : spot ≡ place (refAt 178 (drop 0 (i .bytes)))) where
-      pub data-elsewhere : (spot ≡ i .key .offset → ⊥) → Naming i Bad
+    module _ (own-rank : ℕ) (e : own-rank ≡ rank (refAt 178 (drop 0 (i .bytes)))) where
+      pub data-elsewhere : (own-rank ≡ i .key .offset → ⊥) → Naming i Bad
       unfolding Naming viewRefItem inForm
       data-elsewhere h =
-          let n : i .key .offset ≡ place (refAt 178 (i .bytes)) → ⊥ = (λ q. h (e ∙ sym q)) in
+          let n : i .key .offset ≡ rank (refAt 178 (i .bytes)) → ⊥ = (λ q. h (e ∙ sym q)) in
           simp (eq-eqb _ _ k, ne-eqb _ _ n, and-false)
 
-      pub data-form : (weight : ℕ) (d : DataRef) → length (i .bytes) ≡ 28 → spot ≡ i .key .offset → weight ≡ le (part 24 4 (i .bytes))
+      pub data-form : (weight : ℕ) (d : DataRef) → length (i .bytes) ≡ 28 → own-rank ≡ i .key .offset → weight ≡ le (part 24 4 (i .bytes))
           → triple d ≡ words 3 (drop 0 (i .bytes)) → Naming i (Of weight (Data d))
-      unfolding Naming viewRefItem inForm kindOf fieldsOf refAt fieldCount counted countPosition rowIn weightOf place
+      unfolding Naming viewRefItem inForm kindOf fieldsOf refAt fieldCount counted countPosition rowIn weightOf rank
       data-form weight d l o w t =
-          let q : i .key .offset ≡ place (refAt 178 (i .bytes)) = sym o ∙ e in
+          let q : i .key .offset ≡ rank (refAt 178 (i .bytes)) = sym o ∙ e in
           record {
-            says = simp (eq-eqb _ _ k, eq-eqb _ _ l, eq-eqb _ _ q) (ap₂ (λ (f : List ℕ) (n : ℕ). reference (ref 178 f n)) (sym t) (sym w));
+            says = simp (eq-eqb _ _ k, eq-eqb _ _ l, eq-eqb _ _ q) (ap₂ (λ (f : List ℕ) (n : ℕ). reference (makeRef 178 f n)) (sym t) (sym w));
             kind = sym k;
-            place = q ∙ ap (placeOf 178) (sym t);
+            rank = q ∙ ap (rankOf 178) (sym t);
           }
 
   module _ (k : i .key .kind ≡ 178 → ⊥) where
@@ -55,13 +55,13 @@ module _ (i : Item) where
       shared-short h = simp (ne-eqb _ _ k, eq-eqb _ _ m, ne-eqb _ _ h)
 
       pub shared-form : (weight : ℕ) → length (i .bytes) ≡ 4 → weight ≡ le (part 0 4 (i .bytes)) → Naming i (Of weight (SharedData (i .key .offset)))
-      unfolding Naming viewRefItem inForm kindOf fieldsOf placeOf
+      unfolding Naming viewRefItem inForm kindOf fieldsOf rankOf
       shared-form weight l w =
           let a : take 4 (i .bytes) ≡ i .bytes = take-all 4 (i .bytes) (omega arith) in
           record {
-            says = simp (ne-eqb _ _ k, eq-eqb _ _ m, eq-eqb _ _ l) (ap (λ (n : ℕ). reference (ref 184 (one (i .key .offset)) n)) (sym (w ∙ ap le a)));
+            says = simp (ne-eqb _ _ k, eq-eqb _ _ m, eq-eqb _ _ l) (ap (λ (n : ℕ). reference (makeRef 184 (one (i .key .offset)) n)) (sym (w ∙ ap le a)));
             kind = sym m;
-            place = refl;
+            rank = refl;
           }
 
     module _ (m : i .key .kind ≡ 184 → ⊥) where
@@ -69,12 +69,12 @@ module _ (i : Item) where
       unfolding Naming viewRefItem inForm
       plain-long h = simp (ne-eqb _ _ k, ne-eqb _ _ m, ne-eqb _ _ h)
 
-      plain-form : (w : Wanted) → kindOf w ≡ i .key .kind → fieldsOf w ≡ one (i .key .offset) → length (i .bytes) ≡ 0 → Naming i (Of 1 w)
-      unfolding Naming viewRefItem inForm placeOf
+      plain-form : (w : RefName) → kindOf w ≡ i .key .kind → fieldsOf w ≡ one (i .key .offset) → length (i .bytes) ≡ 0 → Naming i (Of 1 w)
+      unfolding Naming viewRefItem inForm rankOf
       plain-form w p q l = record {
-        says = simp (ne-eqb _ _ k, ne-eqb _ _ m, eq-eqb _ _ l) (ap₂ (λ (n : ℕ) (f : List ℕ). reference (ref n f 1)) (sym p) (sym q));
+        says = simp (ne-eqb _ _ k, ne-eqb _ _ m, eq-eqb _ _ l) (ap₂ (λ (n : ℕ) (f : List ℕ). reference (makeRef n f 1)) (sym p) (sym q));
         kind = p;
-        place = rw (p, q) (simp (ne-eqb _ _ k));
+        rank = rw (p, q) (simp (ne-eqb _ _ k));
       }
 
       pub block-form : i .key .kind ≡ 176 → length (i .bytes) ≡ 0 → Naming i (Of 1 (Block (record { tree = i .key .offset })))

@@ -28,9 +28,9 @@ use Rattle.inline_refs.specs.Steps.{readFrom, openOf}
 use Rattle.inline_refs.specs.Scans.{refsIn}
 use Rattle.inline_refs.proofs.Notes.{Opens, opens}
 use Rattle.balance.specs.Runs.{start, sound}
-use Rattle.balance.specs.Tally.{Tally, weightIn, taken}
+use Rattle.balance.specs.Tally.{GroupTally, weightIn, taken}
 use Rattle.balance.proofs.Sorted.{sound-out}
-use Rattle.balance.specs.Places.{refsRead, refsFrom}
+use Rattle.balance.specs.Ranks.{refsRead, refsFrom}
 use Rattle.balance.proofs.Steps.{read-is}
 use Rattle.balance.specs.declared.record.Weighed.{Weighed}
 use Rattle.balance.specs.declared.record.Weighed.the-variants.{Of, Bad as Unfit}
@@ -91,7 +91,7 @@ light-of size r weight e l = subst (Light size) e l
 
 -- ---- what a record says to the pass
 
-module _ (t : Tally) (i : Item) (rec : T (isRecord i)) where
+module _ (t : GroupTally) (i : Item) (rec : T (isRecord i)) where
   view-is : viewOf i ≡ viewRecord (readBody (i .key .kind) (i .bytes))
   unfolding viewOf
   view-is = rw (T-eq (isRecord i) rec) refl
@@ -122,11 +122,11 @@ module _ (s : List ℕ) (g : Group) (at next : ℕ) (key : Key) (rec : T (isReco
   mark-twice m = refused-by (tallyOf s g) (itemOf s at next key) rec (λ b e. rw m refl)
 
   module _ (fits : length inner ≤ 65535) where
-    pub mark-shut : (number : ℕ) → Shut number ≡ openOf (key .kind) inner → Taking s g (itemOf s at next key) next Bad
+    pub mark-shut : (refusal : ℕ) → Shut refusal ≡ openOf (key .kind) inner → Taking s g (itemOf s at next key) next Bad
     unfolding Taking refsIn onBody bodyFits ask bind
-    mark-shut number e =
+    mark-shut refusal e =
         refused-by (tallyOf s g) (itemOf s at next key) rec (λ b r.
-        let a : refsIn (key .kind) inner ≡ refused number = opens (key .kind) inner (Shut number) e in
+        let a : refsIn (key .kind) inner ≡ refused refusal = opens (key .kind) inner (Shut refusal) e in
         let c : refsIn (key .kind) inner ≡ accepted (b .refs) = rw (le-leb (length inner) 65535 fits, r) refl in
         refused-not (sym a ∙ c))
 

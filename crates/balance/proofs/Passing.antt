@@ -16,13 +16,13 @@ use Rattle.format.proofs.Refs.{yes-or-no}
 use Rattle.format.proofs.Keys.{Before, below-out, beyond, rising-after}
 use Rattle.format.proofs.Items.{sane, sane-out}
 use Rattle.balance.specs.Runs.{start, sound}
-use Rattle.balance.specs.Tally.{Tally, fresh, closed, unnamed, taken, here, entered, entry, onward, pass}
+use Rattle.balance.specs.Tally.{GroupTally, fresh, closed, unnamed, taken, here, entered, entryOf, onward, pass}
 use Rattle.balance.proofs.Parts.{nil, none-named, balanced-facts, facts-balanced, facts-same}
 use Rattle.balance.proofs.Says.{Says, aRecord, aReference, nothing, bad, says}
 use Rattle.balance.proofs.Extents.{Of, Valid, zero-cond, fresh-valid, far-all, ahead, past, leave, return}
 use Rattle.balance.proofs.Taking.{marked-by, take-record, record-sound, record-taken, record-first, marked-valid, weighed-by, take-ref, ref-marked, ref-heavy, ref-unnamed, ref-taken, weighed-valid, take-none, none-taken}
 
-ahead-of : (t : Tally) (i : Item) (rest : List Item) → i .key .objectid ≡ t .extent → T (rising (i ∷ rest)) → T (all (ahead t) rest)
+ahead-of : (t : GroupTally) (i : Item) (rest : List Item) → i .key .objectid ≡ t .extent → T (rising (i ∷ rest)) → T (all (ahead t) rest)
 ahead-of t i rest e r = all-map (beyond (i .key)) (ahead t) (λ j b. le→leb _ _ (low j (below-out (i .key) (j .key) b))) rest (rising-after i rest r)
   where
     low : (j : Item) → Before (i .key) (j .key) → t .extent ≤ j .key .objectid
@@ -31,16 +31,16 @@ ahead-of t i rest e r = all-map (beyond (i .key)) (ahead t) (λ j b. le→leb _ 
 
 -- ---- an item of the extent at hand, from what holds of the rest
 
-module _ (t : Tally) (i : Item) (rest : List Item) (self : i .key .objectid ≡ t .extent) (v : Valid t) (up : T (rising (i ∷ rest)))
+module _ (t : GroupTally) (i : Item) (rest : List Item) (self : i .key .objectid ≡ t .extent) (v : Valid t) (up : T (rising (i ∷ rest)))
     (sanes : T (all sane rest)) where
-  ahead-here : (u : Tally) → u .extent ≡ t .extent → T (all (ahead u) rest)
+  ahead-here : (u : GroupTally) → u .extent ≡ t .extent → T (all (ahead u) rest)
   ahead-here u e = ahead-of u i rest (self ∙ sym e) up
 
   no-good : viewOf i ≡ malformed → Of t (i ∷ rest) → ⊥
   unfolding wellFormed
   no-good e F = let g : T (good i) = and-yes (good i) _ (F .goods) .0 in rw e at g
 
-  yes-taken : ((u : Tally) → Valid u → T (all (ahead u) rest) → T (pass rest u) → Of u rest)
+  yes-taken : ((u : GroupTally) → Valid u → T (all (ahead u) rest) → T (pass rest u) → Of u rest)
       → Says i → T (onward (pass rest) (taken t (viewOf i))) → Of t (i ∷ rest)
   unfolding taken
   yes-taken ih (aRecord b isRec e w) p =
@@ -61,7 +61,7 @@ module _ (t : Tally) (i : Item) (rest : List Item) (self : i .key .objectid ≡ 
       go true q h =
           let k = and-yes (t .marked) _ (subst T (sym q) tt) in
           let l = and-yes (leb 1 (r .weight)) _ (k .1) in
-          let u : Tally = weighed-by t i rest self v r notRec isRef naming e ek ep up sanes in
+          let u : GroupTally = weighed-by t i rest self v r notRec isRef naming e ek ep up sanes in
           take-ref t i rest self v r notRec isRef naming e ek ep up sanes (k .0) (l .0) (l .1)
           (ih u (weighed-valid t i rest self v r notRec isRef naming e ek ep up sanes (k .0)) (ahead-here u refl) h)
       go false q h = absurd h
@@ -69,23 +69,23 @@ module _ (t : Tally) (i : Item) (rest : List Item) (self : i .key .objectid ≡ 
       take-none t i rest self v notRec notRef e (ih t v (ahead-here t refl) (subst (λ (x : View). T (onward (pass rest) (taken t x))) e p))
   yes-taken ih (bad e) p = absurd (subst (λ (x : View). T (onward (pass rest) (taken t x))) e p)
 
-  taken-yes : ((u : Tally) → Valid u → T (all (ahead u) rest) → Of u rest → T (pass rest u))
+  taken-yes : ((u : GroupTally) → Valid u → T (all (ahead u) rest) → Of u rest → T (pass rest u))
       → Says i → Of t (i ∷ rest) → T (onward (pass rest) (taken t (viewOf i)))
   unfolding taken
   taken-yes ih (aRecord b isRec e w) F =
       let m = record-first t i rest self v b isRec e w F in
       let s = record-sound t i rest self v b isRec e w m F in
-      let u : Tally = marked-by t i rest self v b isRec e w in
+      let u : GroupTally = marked-by t i rest self v b isRec e w in
       subst (λ (x : View). T (onward (pass rest) (taken t x))) (sym e)
-      (subst (λ (o : Option Tally). T (onward (pass rest) o)) (sym (cond-yes (not (t .marked) && sound start (b .refs)) (some u) none (yes-and (not (t .marked)) _ m s)))
+      (subst (λ (o : Option GroupTally). T (onward (pass rest) o)) (sym (cond-yes (not (t .marked) && sound start (b .refs)) (some u) none (yes-and (not (t .marked)) _ m s)))
       (ih u (marked-valid t i rest self v b isRec e w s) (ahead-here u refl) (record-taken t i rest self v b isRec e w m F)))
   taken-yes ih (aReference r notRec isRef naming e ek ep) F =
       let m = ref-marked t i rest self v r notRec isRef naming e ek ep up sanes F in
       let h = ref-heavy t i rest self v r notRec isRef naming e ek ep up sanes F in
       let n = ref-unnamed t i rest self v r notRec isRef naming e ek ep up sanes F in
-      let u : Tally = weighed-by t i rest self v r notRec isRef naming e ek ep up sanes in
+      let u : GroupTally = weighed-by t i rest self v r notRec isRef naming e ek ep up sanes in
       subst (λ (x : View). T (onward (pass rest) (taken t x))) (sym e)
-      (subst (λ (o : Option Tally). T (onward (pass rest) o))
+      (subst (λ (o : Option GroupTally). T (onward (pass rest) o))
       (sym (cond-yes (t .marked && (leb 1 (r .weight) && unnamed (t .refs) r)) (some u) none (yes-and (t .marked) _ m (yes-and (leb 1 (r .weight)) _ h n))))
       (ih u (weighed-valid t i rest self v r notRec isRef naming e ek ep up sanes m) (ahead-here u refl) (ref-taken t i rest self v r notRec isRef naming e ek ep up sanes F)))
   taken-yes ih (nothing notRec notRef e) F =
@@ -105,23 +105,23 @@ nothing-left x = record {
   totals = λ y h. omega (arith, zero-cond (eqb x y));
 }
 
-entry-here : (t : Tally) (i : Item) → T (here t i) → entry t i ≡ t
-unfolding entry
+entry-here : (t : GroupTally) (i : Item) → T (here t i) → entryOf t i ≡ t
+unfolding entryOf
 entry-here t i h = cond-yes (here t i) t _ h
 
-entry-new : (t : Tally) (i : Item) → T (not (here t i)) → entry t i ≡ fresh (i .key .objectid)
-unfolding entry
+entry-new : (t : GroupTally) (i : Item) → T (not (here t i)) → entryOf t i ≡ fresh (i .key .objectid)
+unfolding entryOf
 entry-new t i h = cond-no (here t i) t _ h
 
-here-is : (t : Tally) (i : Item) → T (here t i) → i .key .objectid ≡ t .extent
+here-is : (t : GroupTally) (i : Item) → T (here t i) → i .key .objectid ≡ t .extent
 unfolding here
 here-is t i h = eqb→eq _ _ h
 
-not-here : (t : Tally) (i : Item) → T (not (here t i)) → i .key .objectid ≢ t .extent
+not-here : (t : GroupTally) (i : Item) → T (not (here t i)) → i .key .objectid ≢ t .extent
 unfolding here
 not-here t i h e = T-not (eqb (i .key .objectid) (t .extent)) (yes-eqb e) h
 
-new-closed : (t : Tally) (i : Item) → T (entered t i) → T (not (here t i)) → T (closed t)
+new-closed : (t : GroupTally) (i : Item) → T (entered t i) → T (not (here t i)) → T (closed t)
 unfolding entered
 new-closed t i n h = go (or-yes (here t i) (closed t) n)
   where
@@ -129,7 +129,7 @@ new-closed t i n h = go (or-yes (here t i) (closed t) n)
     go (inl k) = absurd (T-not (here t i) k h)
     go (inr k) = k
 
-pub pass-facts : (rest : List Item) (t : Tally) → Valid t → T (all (ahead t) rest) → T (rising rest) → T (all sane rest) → T (pass rest t) → Of t rest
+pub pass-facts : (rest : List Item) (t : GroupTally) → Valid t → T (all (ahead t) rest) → T (rising rest) → T (all sane rest) → T (pass rest t) → Of t rest
 unfolding pass
 pass-facts [] t v a up s p = return t 0 [] v (far-all (t .extent) [] tt) p (nothing-left 0)
 pass-facts (i ∷ rest) t v a up s p =
@@ -142,17 +142,17 @@ pass-facts (i ∷ rest) t v a up s p =
     word : Says i
     word = says i (sane-out i (and-yes (sane i) _ s .0) .bytesSmall)
 
-    go : ((u : Tally) → Valid u → T (all (ahead u) rest) → T (pass rest u) → Of u rest) → T (entered t i)
-        → T (onward (pass rest) (taken (entry t i) (viewOf i))) → T (here t i) ⊎ T (not (here t i)) → Of t (i ∷ rest)
+    go : ((u : GroupTally) → Valid u → T (all (ahead u) rest) → T (pass rest u) → Of u rest) → T (entered t i)
+        → T (onward (pass rest) (taken (entryOf t i) (viewOf i))) → T (here t i) ⊎ T (not (here t i)) → Of t (i ∷ rest)
     go ih n p (inl h) =
-        yes-taken t i rest (here-is t i h) v up sanes ih word (subst (λ (u : Tally). T (onward (pass rest) (taken u (viewOf i)))) (entry-here t i h) p)
+        yes-taken t i rest (here-is t i h) v up sanes ih word (subst (λ (u : GroupTally). T (onward (pass rest) (taken u (viewOf i)))) (entry-here t i h) p)
     go ih n p (inr h) =
         return t (i .key .objectid) (i ∷ rest) v
         (far-all (t .extent) (i ∷ rest) (past t i rest (and-yes (ahead t i) _ a .0) (not-here t i h) up)) (new-closed t i n h)
         (yes-taken (fresh (i .key .objectid)) i rest refl (fresh-valid (i .key .objectid)) up sanes ih word
-        (subst (λ (u : Tally). T (onward (pass rest) (taken u (viewOf i)))) (entry-new t i h) p))
+        (subst (λ (u : GroupTally). T (onward (pass rest) (taken u (viewOf i)))) (entry-new t i h) p))
 
-pub facts-pass : (rest : List Item) (t : Tally) → Valid t → T (all (ahead t) rest) → T (rising rest) → T (all sane rest) → Of t rest → T (pass rest t)
+pub facts-pass : (rest : List Item) (t : GroupTally) → Valid t → T (all (ahead t) rest) → T (rising rest) → T (all sane rest) → Of t rest → T (pass rest t)
 unfolding pass entered
 facts-pass [] t v a up s F = leave t 0 [] v (far-all (t .extent) [] tt) F .0
 facts-pass (i ∷ rest) t v a up s F =
@@ -164,15 +164,15 @@ facts-pass (i ∷ rest) t v a up s F =
     word : Says i
     word = says i (sane-out i (and-yes (sane i) _ s .0) .bytesSmall)
 
-    go : ((u : Tally) → Valid u → T (all (ahead u) rest) → Of u rest → T (pass rest u)) → T (here t i) ⊎ T (not (here t i))
-        → T ((here t i || closed t) && onward (pass rest) (taken (entry t i) (viewOf i)))
+    go : ((u : GroupTally) → Valid u → T (all (ahead u) rest) → Of u rest → T (pass rest u)) → T (here t i) ⊎ T (not (here t i))
+        → T ((here t i || closed t) && onward (pass rest) (taken (entryOf t i) (viewOf i)))
     go ih (inl h) =
         yes-and (here t i || closed t) _ (or-left (here t i) _ h)
-        (subst (λ (u : Tally). T (onward (pass rest) (taken u (viewOf i)))) (sym (entry-here t i h)) (taken-yes t i rest (here-is t i h) v up sanes ih word F))
+        (subst (λ (u : GroupTally). T (onward (pass rest) (taken u (viewOf i)))) (sym (entry-here t i h)) (taken-yes t i rest (here-is t i h) v up sanes ih word F))
     go ih (inr h) =
         let l = leave t (i .key .objectid) (i ∷ rest) v (far-all (t .extent) (i ∷ rest) (past t i rest (and-yes (ahead t i) _ a .0) (not-here t i h) up)) F in
         yes-and (here t i || closed t) _ (or-right (here t i) _ (l .0))
-        (subst (λ (u : Tally). T (onward (pass rest) (taken u (viewOf i)))) (sym (entry-new t i h))
+        (subst (λ (u : GroupTally). T (onward (pass rest) (taken u (viewOf i)))) (sym (entry-new t i h))
         (taken-yes (fresh (i .key .objectid)) i rest refl (fresh-valid (i .key .objectid)) up sanes ih word (l .1)))
 
 -- two tests that say yes together are the same

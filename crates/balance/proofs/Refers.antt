@@ -11,23 +11,23 @@ use mir.Facts.{not-T}
 use borrow.Author.Tests.{le-leb, lt-leb}
 use Rattle.fields.proofs.Lists.{and-false}
 use Rattle.format.specs.declared.Key.{Key}
-use Rattle.format.specs.References.{known, payloadLength, Ref, ref}
+use Rattle.format.specs.References.{known, payloadLength, Ref, makeRef}
 use Rattle.format.specs.Items.{Item}
 use Rattle.format.specs.Names.{View, reference, malformed, isRefItem, viewRefItem, viewOf}
 use Rattle.theorems.proofs.Naming.{above-172, naming-known}
 use Rattle.theorems.proofs.Order.{named-yes}
 use Rattle.theorems.proofs.Facts.{view-item}
-use Rattle.inline_refs.specs.declared.wanted.Wanted.{Wanted}
+use Rattle.inline_refs.specs.declared.ref_name.RefName.{RefName}
 use Rattle.inline_refs.specs.Scans.{kindOf, fieldsOf, isWanted}
 use Rattle.balance.specs.Tally.{taken, unnamed}
 use Rattle.balance.proofs.Says.{naming-of}
 use Rattle.balance.specs.declared.span.Span.{Span}
-use Rattle.balance.specs.Places.{Spanned, absentIn}
+use Rattle.balance.specs.Ranks.{Spanned, absentIn}
 use Rattle.balance.specs.declared.group.Group.{Group}
 use Rattle.balance.specs.declared.group.Turn.the-variants.{Next, Bad}
 use Rattle.balance.specs.declared.reference.Named.{Named}
 use Rattle.balance.specs.declared.reference.Named.the-variants.{Of, Bad as NoForm}
-use Rattle.balance.specs.Groups.{itemOf, bodyOf, tallyOf, NameOf, Naming, Kept, Taking}
+use Rattle.balance.specs.Groups.{itemOf, bodyOf, tallyOf, NamedBy, Naming, GroupKept, Taking}
 
 pub ref-known : (i : Item) → T (isRefItem i) → T (known (i .key .kind))
 ref-known i t = naming-known (i .key .kind) (naming-of i t)
@@ -43,7 +43,7 @@ span-known body start s i t f e = f (λ z. let h = above-172 (i .key .kind) (nam
 pub stride-is : (size kind other : ℕ) → size ≡ 1 + payloadLength kind → other ≡ kind → size ≡ 1 + payloadLength other
 stride-is size kind other e q = e ∙ ap (λ (k : ℕ). 1 + payloadLength k) (sym q)
 
-pub named-form : (i : Item) (r : Named) (weight : ℕ) (w : Wanted) → r ≡ Of weight w → Naming i r → NameOf i weight w
+pub named-form : (i : Item) (r : Named) (weight : ℕ) (w : RefName) → r ≡ Of weight w → Naming i r → NamedBy i weight w
 unfolding Naming
 named-form i r weight w e n = subst (Naming i) e n
 
@@ -76,9 +76,9 @@ module _ (s : List ℕ) (g : Group) (at next : ℕ) (key : Key) (isRef : T (isRe
     unfolding Taking
     name-unmarked n h = unmarked (viewOf it) refl n h
 
-  module _ (weight : ℕ) (w : Wanted) (n : NameOf it weight w) where
+  module _ (weight : ℕ) (w : RefName) (n : NamedBy it weight w) where
     abbrev named-ref : Ref
-    named-ref = ref (kindOf w) (fieldsOf w) weight
+    named-ref = makeRef (kindOf w) (fieldsOf w) weight
 
     taken-is : taken (tallyOf s g) (viewOf it) ≡ taken (tallyOf s g) (reference named-ref)
     taken-is = ap (taken (tallyOf s g)) (view-is ∙ n .says)
@@ -102,7 +102,7 @@ module _ (s : List ℕ) (g : Group) (at next : ℕ) (key : Key) (isRef : T (isRe
       name-twice a =
           taken-is ∙ rw (absent-is ∙ a) (never (tallyOf s g .marked) (leb 1 weight) _)
 
-      module _ (k : Kept s g at) (order : at + 21 ≤ next) (light : weight < 4294967296) where
+      module _ (k : GroupKept s g at) (order : at + 21 ≤ next) (light : weight < 4294967296) where
         abbrev pub weighed-group : Group
         weighed-group =
             record {

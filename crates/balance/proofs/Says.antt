@@ -13,7 +13,7 @@ use Rattle.fields.specs.Lists.{sum, all}
 use Rattle.fields.specs.Numbers.{le, areBytes}
 use Rattle.fields.proofs.Lists.{sum-append, all-both, all-left, all-right, all-map}
 use Rattle.format.specs.Questions.{Answer, refused, absent, remove, accepted}
-use Rattle.format.specs.References.{known, countPosition, counted, rowIn, weightOf, Ref, ref, refAt, Body, readBody, place, placeOf}
+use Rattle.format.specs.References.{known, countPosition, counted, rowIn, weightOf, Ref, makeRef, refAt, Body, readBody, rank, rankOf}
 use Rattle.format.specs.Bodies.{one}
 use Rattle.format.specs.Items.{Item}
 use Rattle.format.specs.Apply.{isRecord}
@@ -31,7 +31,7 @@ use Rattle.balance.proofs.Sorted.{names, nameOf, names-cons, one-or}
 pub data Says (i : Item) : Type 0 where
   aRecord : (b : Body) → T (isRecord i) → viewOf i ≡ extentRecord b → T (all whole (b .refs)) → Says i
   aReference : (r : Ref) → T (not (isRecord i)) → T (isRefItem i) → Naming (i .key .kind) → viewOf i ≡ reference r
-      → r .kind ≡ i .key .kind → place r ≡ i .key .offset → Says i
+      → r .kind ≡ i .key .kind → rank r ≡ i .key .offset → Says i
   nothing : T (not (isRecord i)) → T (not (isRefItem i)) → viewOf i ≡ unrelated → Says i
   bad : viewOf i ≡ malformed → Says i
 
@@ -60,19 +60,19 @@ module _ (i : Item) where
       go (k184 e) n = is184 e
 
   module _ (notRec : T (not (isRecord i))) (isRef : T (isRefItem i)) (v : viewOf i ≡ viewRefItem i) where
-    form : (c : Bool) (r : Ref) → viewRefItem i ≡ inForm c r → r .kind ≡ i .key .kind → (T c → place r ≡ i .key .offset) → Says i
+    form : (c : Bool) (r : Ref) → viewRefItem i ≡ inForm c r → r .kind ≡ i .key .kind → (T c → rank r ≡ i .key .offset) → Says i
     unfolding inForm
     form true r e k p = aReference r notRec isRef (naming-of isRef) (v ∙ e) k (p tt)
     form false r e k p = bad (v ∙ e)
 
     says-ref : Naming (i .key .kind) → Says i
-    unfolding viewRefItem refAt place placeOf
-    says-ref (is176 e) = form (eqb (length (i .bytes)) 0) (ref (i .key .kind) (one (i .key .offset)) 1) (rw e refl) refl (λ _. rw e refl)
+    unfolding viewRefItem refAt rank rankOf
+    says-ref (is176 e) = form (eqb (length (i .bytes)) 0) (makeRef (i .key .kind) (one (i .key .offset)) 1) (rw e refl) refl (λ _. rw e refl)
     says-ref (is178 e) =
-        form (eqb (length (i .bytes)) 28 && eqb (i .key .offset) (place (refAt 178 (i .bytes)))) (refAt 178 (i .bytes)) (rw e refl) (sym e)
+        form (eqb (length (i .bytes)) 28 && eqb (i .key .offset) (rank (refAt 178 (i .bytes)))) (refAt 178 (i .bytes)) (rw e refl) (sym e)
         (λ t. sym (eqb→eq _ _ (and-yes (eqb (length (i .bytes)) 28) _ t .1)))
-    says-ref (is182 e) = form (eqb (length (i .bytes)) 0) (ref (i .key .kind) (one (i .key .offset)) 1) (rw e refl) refl (λ _. rw e refl)
-    says-ref (is184 e) = form (eqb (length (i .bytes)) 4) (ref 184 (one (i .key .offset)) (le (i .bytes))) (rw e refl) (sym e) (λ _. refl)
+    says-ref (is182 e) = form (eqb (length (i .bytes)) 0) (makeRef (i .key .kind) (one (i .key .offset)) 1) (rw e refl) refl (λ _. rw e refl)
+    says-ref (is184 e) = form (eqb (length (i .bytes)) 4) (makeRef 184 (one (i .key .offset)) (le (i .bytes))) (rw e refl) (sym e) (λ _. refl)
 
   pub says : T (areBytes (i .bytes)) → Says i
   says t = go (isRecord i) (isRefItem i) refl refl

@@ -1,4 +1,4 @@
--- The references of one type in a record whose references are in order: they stand side by side, and their places never rise.
+-- The references of one type in a record whose references are in order: they stand side by side, and their ranks never rise.
 -- Assumes nothing.
 use mathlib.Core.Path.{_≡_, refl, sym, ap, ap₂, _∙_, subst}
 use mathlib.Core.Logic.{_≢_, _⊎_, inl, inr}
@@ -12,10 +12,10 @@ use lib.ListN.{drop}
 use mir.Facts.{and-yes, yes-and, T-not, yes-eqb}
 use Rattle.fields.specs.Lists.{all}
 use Rattle.fields.proofs.Lists.{T-eq, all-right, all-map, all-two}
-use Rattle.format.specs.References.{known, payloadLength, Ref, refAt, place, falls, follows, leads, ordered}
+use Rattle.format.specs.References.{known, payloadLength, Ref, refAt, rank, falls, follows, leads, ordered}
 use Rattle.theorems.proofs.Order.{follows-out, ordered-back, follows-trans}
 use Rattle.balance.specs.SideBySide.{spanRefs}
-use Rattle.balance.specs.Places.{refsFrom, reached, left, Skips, Counts, payloadAt, placeAt, Spanned}
+use Rattle.balance.specs.Ranks.{refsFrom, reached, left, Skips, CountsIn, payloadAt, rankAt, Spanned}
 
 -- ---- those of a span, by number
 
@@ -59,7 +59,7 @@ ordered-all r (s ∷ l) t =
 follows-up : (m : ℕ) (r s : Ref) → T (follows r s) → m ≤ r .kind → m ≤ s .kind
 follows-up m r s t h = go (follows-out r s t)
   where
-    go : (r .kind < s .kind) ⊎ ((r .kind ≡ s .kind) × T (falls (r .kind) (place r) (place s))) → m ≤ s .kind
+    go : (r .kind < s .kind) ⊎ ((r .kind ≡ s .kind) × T (falls (r .kind) (rank r) (rank s))) → m ≤ s .kind
     go (inl k) = omega arith
     go (inr (k, f)) = omega arith
 
@@ -69,17 +69,17 @@ kinds-up m r l t h =
     yes-and (leb m (r .kind)) _ (le→leb _ _ h)
     (all-map (follows r) (λ s. leb m (s .kind)) (λ s k. le→leb _ _ (follows-up m r s k h)) l (ordered-all r l t))
 
--- of one type but 172, places never rise
-follows-down : (r s : Ref) → T (follows r s) → r .kind ≡ s .kind → r .kind ≢ 172 → place s ≤ place r
+-- of one type but 172, ranks never rise
+follows-down : (r s : Ref) → T (follows r s) → r .kind ≡ s .kind → r .kind ≢ 172 → rank s ≤ rank r
 unfolding falls
 follows-down r s t e ne = go (follows-out r s t)
   where
-    weak : (c d : Bool) → eqb (r .kind) 172 ≡ c → T (cond c true (cond d (leb (place s) (place r)) (ltb (place s) (place r)))) → place s ≤ place r
+    weak : (c d : Bool) → eqb (r .kind) 172 ≡ c → T (cond c true (cond d (leb (rank s) (rank r)) (ltb (rank s) (rank r)))) → rank s ≤ rank r
     weak true d q t = absurd (ne (eqb→eq _ _ (subst T (sym q) tt)))
     weak false true q t = leb→le _ _ t
-    weak false false q t = let h : place s < place r = ltb→lt _ _ t in omega arith
+    weak false false q t = let h : rank s < rank r = ltb→lt _ _ t in omega arith
 
-    go : (r .kind < s .kind) ⊎ ((r .kind ≡ s .kind) × T (falls (r .kind) (place r) (place s))) → place s ≤ place r
+    go : (r .kind < s .kind) ⊎ ((r .kind ≡ s .kind) × T (falls (r .kind) (rank r) (rank s))) → rank s ≤ rank r
     go (inl k) = absurd (omega arith)
     go (inr (k, f)) = weak (eqb (r .kind) 172) (eqb (r .kind) 178) refl f
 
@@ -88,26 +88,26 @@ unfolding refAt
 span-kinds kind body from n = span-all (λ s. eqb (s .kind) kind) kind body from n (λ j h. eqb-refl kind)
 
 span-falls : (kind : ℕ) → kind ≢ 172 → (body : List ℕ) (from n : ℕ) → T (ordered (spanRefs kind body from n))
-    → (i j : ℕ) → i ≤ j → j < n → placeAt body kind from j ≤ placeAt body kind from i
+    → (i j : ℕ) → i ≤ j → j < n → rankAt body kind from j ≤ rankAt body kind from i
 unfolding spanRefs refAt
 span-falls kind ne body from zero t i j h k = absurd (omega arith)
 span-falls kind ne body from (suc n) t zero zero h k = omega arith
 span-falls kind ne body from (suc n) t zero (suc j) h k =
     let r : Ref = refAt kind (drop (from + 1) body) in
     let l : List Ref = spanRefs kind body (from + (1 + payloadLength kind)) n in
-    let down : T (all (λ s. leb (place s) (place r)) l) =
-    all-two (follows r) (λ s. eqb (s .kind) kind) (λ s. leb (place s) (place r))
+    let down : T (all (λ s. leb (rank s) (rank r)) l) =
+    all-two (follows r) (λ s. eqb (s .kind) kind) (λ s. leb (rank s) (rank r))
     (λ s f e. le→leb _ _ (follows-down r s f (sym (eqb→eq _ _ e)) ne)) l (ordered-all r l t) (span-kinds kind body (from + (1 + payloadLength kind)) n) in
-    let m : place (refAt kind (drop (payloadAt kind (from + (1 + payloadLength kind)) j) body)) ≤ place r =
-    leb→le _ _ (span-at (λ s. leb (place s) (place r)) kind body (from + (1 + payloadLength kind)) n down j (omega arith)) in
-    subst (λ (x : ℕ). place (refAt kind (drop (payloadAt kind from (suc j)) body)) ≤ place (refAt kind (drop x body))) (sym (first-at kind from))
-    (subst (λ (x : ℕ). place (refAt kind (drop x body)) ≤ place r) (shift kind from j) m)
+    let m : rank (refAt kind (drop (payloadAt kind (from + (1 + payloadLength kind)) j) body)) ≤ rank r =
+    leb→le _ _ (span-at (λ s. leb (rank s) (rank r)) kind body (from + (1 + payloadLength kind)) n down j (omega arith)) in
+    subst (λ (x : ℕ). rank (refAt kind (drop (payloadAt kind from (suc j)) body)) ≤ rank (refAt kind (drop x body))) (sym (first-at kind from))
+    (subst (λ (x : ℕ). rank (refAt kind (drop x body)) ≤ rank r) (shift kind from j) m)
 span-falls kind ne body from (suc n) t (suc i) zero h k = absurd (omega arith)
 span-falls kind ne body from (suc n) t (suc i) (suc j) h k =
-    let ih : placeAt body kind (from + (1 + payloadLength kind)) j ≤ placeAt body kind (from + (1 + payloadLength kind)) i =
+    let ih : rankAt body kind (from + (1 + payloadLength kind)) j ≤ rankAt body kind (from + (1 + payloadLength kind)) i =
     span-falls kind ne body (from + (1 + payloadLength kind)) n (and-yes (leads (refAt kind (drop (from + 1) body)) (spanRefs kind body (from + (1 + payloadLength kind)) n)) _ t .1) i j (omega arith) (omega arith) in
-    subst (λ (x : ℕ). place (refAt kind (drop (payloadAt kind from (suc j)) body)) ≤ place (refAt kind (drop x body))) (shift kind from i)
-    (subst (λ (x : ℕ). place (refAt kind (drop x body)) ≤ place (refAt kind (drop (payloadAt kind (from + (1 + payloadLength kind)) i) body))) (shift kind from j) ih)
+    subst (λ (x : ℕ). rank (refAt kind (drop (payloadAt kind from (suc j)) body)) ≤ rank (refAt kind (drop x body))) (shift kind from i)
+    (subst (λ (x : ℕ). rank (refAt kind (drop x body)) ≤ rank (refAt kind (drop (payloadAt kind (from + (1 + payloadLength kind)) i) body))) (shift kind from j) ih)
 
 -- ---- what is left over is of other types
 
@@ -134,7 +134,7 @@ from-up : (kind : ℕ) (l : List Ref) → T (ordered l) → T (reached kind l) �
 from-up kind [] o t = tt
 from-up kind (r ∷ l) o t = kinds-up kind r l o (leb→le _ _ t)
 
-module _ (body : List ℕ) (start kind from n : ℕ) (s : Skips body start kind from) (c : Counts body from kind n) (ne : kind ≢ 172)
+module _ (body : List ℕ) (start kind from n : ℕ) (s : Skips body start kind from) (c : CountsIn body from kind n) (ne : kind ≢ 172)
     (o : T (ordered (refsFrom body start))) where
   back-ordered : T (ordered (spanRefs kind body from n ++ c .rest))
   back-ordered =

@@ -18,7 +18,7 @@ use Rattle.inline_refs.specs.Steps.{readFrom}
 use Rattle.inline_refs.proofs.Steps.{At}
 use Rattle.balance.specs.SideBySide.{spanRefs}
 use Rattle.balance.proofs.SideBySide.{span-snoc}
-use Rattle.balance.specs.Places.{refsRead, refsFrom, reached, left, Skips, Counts, payloadAt}
+use Rattle.balance.specs.Ranks.{refsRead, refsFrom, reached, left, Skips, CountsIn, payloadAt}
 
 pub mul-next : (n k : ℕ) → (n + 1) * k ≡ n * k + k
 mul-next n k = ap (λ (m : ℕ). m * k) (add-one n) ∙ suc-mul n k
@@ -44,7 +44,7 @@ pub step-end : (body : List ℕ) (at : ℕ) → readFrom body at ≡ accepted []
 unfolding refsRead
 step-end body at e = ap refsRead e
 
-pub step-never : (body : List ℕ) (at number : ℕ) → readFrom body at ≡ accepted (refsFrom body at) → readFrom body at ≡ refused number → ⊥
+pub step-never : (body : List ℕ) (at refusal : ℕ) → readFrom body at ≡ accepted (refsFrom body at) → readFrom body at ≡ refused refusal → ⊥
 step-never body at number r e = refused-not (sym e ∙ r)
 
 -- ---- the walk to the first of a type
@@ -96,15 +96,15 @@ module _ (body : List ℕ) (from kind : ℕ) where
   unfolding spanRefs
   count-start r i = record { same = refl; where-at = rw (zero-mul (1 + payloadLength kind)) (omega arith); reads = r; inside = i; few = omega arith }
 
-  pub count-end : (at n : ℕ) → Counting at n → T (left kind (refsFrom body at)) → Counts body from kind n
+  pub count-end : (at n : ℕ) → Counting at n → T (left kind (refsFrom body at)) → CountsIn body from kind n
   count-end at n c t = record { rest = refsFrom body at; same = c .same; last = t; inside = subst (λ (m : ℕ). m ≤ length body) (c .where-at) (c .inside) }
 
-  pub count-stop : (at n k p size q next : ℕ) → Counting at n → At body at k p size q next → (k ≡ kind → ⊥) → Counts body from kind n
+  pub count-stop : (at n k p size q next : ℕ) → Counting at n → At body at k p size q next → (k ≡ kind → ⊥) → CountsIn body from kind n
   unfolding refAt
   count-stop at n k p size q next c h ne =
       count-end at n c (subst (λ (l : List Ref). T (left kind l)) (sym (step-more body at k p size q next (c .reads) h .same)) (no-eqb ne))
 
-  pub count-over : (at n : ℕ) → Counting at n → refsFrom body at ≡ [] → Counts body from kind n
+  pub count-over : (at n : ℕ) → Counting at n → refsFrom body at ≡ [] → CountsIn body from kind n
   count-over at n c e = count-end at n c (subst (λ (l : List Ref). T (left kind l)) (sym e) tt)
 
   pub count-next : (at n k p size q next : ℕ) → Counting at n → At body at k p size q next → k ≡ kind → Counting next (n + 1)

@@ -10,7 +10,7 @@ use lib.Dec.{T, leb, eqb, eqb-refl, eqb→eq}
 use mir.Facts.{and-yes, yes-and, or-yes, T-not, not-T, yes-eqb, no-eqb}
 use Rattle.fields.specs.Lists.{sum, all}
 use Rattle.fields.proofs.Lists.{T-eq, or-right, cond-yes, cond-no, sum-append}
-use Rattle.format.specs.References.{Ref, Body, place, placeOf, ordered}
+use Rattle.format.specs.References.{Ref, Body, rank, rankOf, ordered}
 use Rattle.format.specs.Bodies.{named}
 use Rattle.format.specs.Items.{Item, rising}
 use Rattle.format.specs.Apply.{isRecord, recordOf}
@@ -21,7 +21,7 @@ use Rattle.format.proofs.Items.{sane, sane-out}
 use Rattle.theorems.proofs.Naming.{Naming, above-172}
 use Rattle.theorems.proofs.Order.{named-yes}
 use Rattle.balance.specs.Runs.{start, weighs, sound}
-use Rattle.balance.specs.Tally.{Tally, weightIn, unnamed, taken}
+use Rattle.balance.specs.Tally.{GroupTally, weightIn, unnamed, taken}
 use Rattle.balance.proofs.Sorted.{names, nameOf, one-or, one-most, one-self, names-other, names-cons, sound-out, sound-in}
 use Rattle.balance.proofs.Parts.{isRefOf, totalIn, Facts, R⁺, U⁺, S⁺, N⁺, facts-tail, facts-heavy, facts-cons, facts-same}
 use Rattle.balance.proofs.Says.{Says, aRecord, aReference, nothing, bad, says, record-no-ref, record-low, refs-weight, heavy-in, heavy-out, kinds-above, entries-record, entries-ref, entries-none, entries-bad, ref-weight}
@@ -81,20 +81,20 @@ module _ (i : Item) (rest : List Item) (up : T (rising (i ∷ rest))) where
           omega (arith, go l (k .1))
 
   -- nor its name
-  later-names : T (all sane rest) → (r : Ref) → r .kind ≡ i .key .kind → place r ≡ i .key .offset → 170 ≤ i .key .kind
+  later-names : T (all sane rest) → (r : Ref) → r .kind ≡ i .key .kind → rank r ≡ i .key .offset → 170 ≤ i .key .kind
       → sum (stands (nameOf (i .key .objectid) r)) (entries rest) ≡ 0
-  unfolding entries place far
+  unfolding entries rank far
   later-names sanes r ek ep low = go rest (rising-after i rest up) sanes
     where
       n : Name
       n = nameOf (i .key .objectid) r
 
-      same-place : (j : Item) (q : Ref) → n ≡ nameOf (j .key .objectid) q → q .kind ≡ j .key .kind → place q ≡ j .key .offset
+      same-rank : (j : Item) (q : Ref) → n ≡ nameOf (j .key .objectid) q → q .kind ≡ j .key .kind → rank q ≡ j .key .offset
           → Before (i .key) (j .key) → ⊥
-      same-place j q e k p (inl h) = let a : i .key .objectid ≡ j .key .objectid = ap (λ (m : Name). m .extent) e in omega arith
-      same-place j q e k p (inr (a, inl h)) = let b : r .kind ≡ q .kind = ap (λ (m : Name). m .kind) e in omega arith
-      same-place j q e k p (inr (a, inr (b, h))) =
-          let c : place r ≡ place q = ap (λ (m : Name). placeOf (m .kind) (m .fields)) e in
+      same-rank j q e k p (inl h) = let a : i .key .objectid ≡ j .key .objectid = ap (λ (m : Name). m .extent) e in omega arith
+      same-rank j q e k p (inr (a, inl h)) = let b : r .kind ≡ q .kind = ap (λ (m : Name). m .kind) e in omega arith
+      same-rank j q e k p (inr (a, inr (b, h))) =
+          let c : rank r ≡ rank q = ap (λ (m : Name). rankOf (m .kind) (m .fields)) e in
           omega arith
 
       one : (j : Item) → Before (i .key) (j .key) → Says j → sum (stands n) (itemEntries j) ≡ 0
@@ -107,7 +107,7 @@ module _ (i : Item) (rest : List Item) (up : T (rising (i ∷ rest))) where
       one j b (aReference q t u m v k p) = ap (sum (stands n)) (entries-ref j q v) ∙ pick (one-or (j .key .objectid) n q)
         where
           pick : (n ≡ nameOf (j .key .objectid) q) ⊎ (names (j .key .objectid) n (q ∷ []) ≡ 0) → names (j .key .objectid) n (q ∷ []) ≡ 0
-          pick (inl e) = absurd (same-place j q e k p b)
+          pick (inl e) = absurd (same-rank j q e k p b)
           pick (inr z) = z
       one j b (nothing t u v) = ap (sum (stands n)) (entries-none j v)
       one j b (bad v) = ap (sum (stands n)) (entries-bad j v)
@@ -126,7 +126,7 @@ module _ (i : Item) (rest : List Item) (up : T (rising (i ∷ rest))) where
 
 -- ---- an item is taken exactly if the facts hold with it
 
-module _ (t : Tally) (i : Item) (rest : List Item) (self : i .key .objectid ≡ t .extent) (v : Valid t) where
+module _ (t : GroupTally) (i : Item) (rest : List Item) (self : i .key .objectid ≡ t .extent) (v : Valid t) where
   -- what the item adds, by the extent of the tally
   record-adds : T (isRecord i) → (y : ℕ) → isRecordOf y i ≡ cond (eqb (t .extent) y) 1 0
   record-adds r y = ap₂ (λ (a : Bool) (z : ℕ). cond (a && eqb z y) 1 0) (T-eq (isRecord i) r) self
@@ -150,7 +150,7 @@ module _ (t : Tally) (i : Item) (rest : List Item) (self : i .key .objectid ≡ 
 
   -- a record
   module _ (b : Body) (isRec : T (isRecord i)) (e : viewOf i ≡ extentRecord b) (w : T (all whole (b .refs))) where
-    abbrev pub marked-by : Tally
+    abbrev pub marked-by : GroupTally
     marked-by = record { extent = t .extent; marked = true; refs = b .refs; total = b .total; weight = sum weightIn (b .refs) }
 
     record-weight : (y : ℕ) → sum (ofExtent y) (itemEntries i) ≡ cond (eqb (t .extent) y) (sum weightIn (b .refs)) 0
@@ -240,9 +240,9 @@ module _ (t : Tally) (i : Item) (rest : List Item) (self : i .key .objectid ≡ 
 
   -- a reference
   module _ (r : Ref) (notRec : T (not (isRecord i))) (isRef : T (isRefItem i)) (naming : Naming (i .key .kind))
-      (e : viewOf i ≡ reference r) (ek : r .kind ≡ i .key .kind) (ep : place r ≡ i .key .offset)
+      (e : viewOf i ≡ reference r) (ek : r .kind ≡ i .key .kind) (ep : rank r ≡ i .key .offset)
       (up : T (rising (i ∷ rest))) (sanes : T (all sane rest)) where
-    abbrev pub weighed-by : Tally
+    abbrev pub weighed-by : GroupTally
     weighed-by = record { extent = t .extent; marked = t .marked; refs = t .refs; total = t .total; weight = t .weight + r .weight }
 
     above-170 : 170 ≤ i .key .kind

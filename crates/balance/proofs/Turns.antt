@@ -16,15 +16,15 @@ use Rattle.format.specs.Apply.{isRecord}
 use Rattle.format.specs.Names.{unrelated, isRefItem, viewRefItem, viewOf, balanced}
 use Rattle.format.proofs.Items.{sheet-sane}
 use Rattle.theorems.proofs.Naming.{Naming as Kinds, is176, is178, is182, is184}
-use Rattle.item_list.specs.Steps.{itemAt, itemsOf, Listed}
+use Rattle.item_list.specs.Steps.{itemAt, listItems, IsList}
 use Rattle.item_list.proofs.Steps.{WholeAt, data-is}
-use Rattle.balance.specs.Tally.{Tally, fresh, closed, taken, here, entered, entry, onward, pass}
+use Rattle.balance.specs.Tally.{GroupTally, fresh, closed, taken, here, entered, entryOf, onward, pass}
 use Rattle.balance.proofs.Says.{naming-of}
 use Rattle.balance.proofs.Passing.{pass-balanced}
 use Rattle.balance.specs.declared.group.Group.{Group}
 use Rattle.balance.specs.declared.group.Turn.{Turn}
 use Rattle.balance.specs.declared.group.Turn.the-variants.{Next, Bad}
-use Rattle.balance.specs.Groups.{itemOf, tallyOf, empty, Kept, Taking, Turning}
+use Rattle.balance.specs.Groups.{itemOf, tallyOf, empty, GroupKept, Taking, Turning}
 
 -- ---- by the type
 
@@ -61,7 +61,7 @@ module _ (i : Item) where
       go true q = absurd (n (subst T (sym q) tt))
       go false q = refl
 
-pub take-other : (s : List ℕ) (g : Group) (at next : ℕ) (key : Key) → at + 21 ≤ next → Kept s g at
+pub take-other : (s : List ℕ) (g : Group) (at next : ℕ) (key : Key) → at + 21 ≤ next → GroupKept s g at
     → (key .kind ≡ 168 → ⊥) → (key .kind ≡ 169 → ⊥) → (key .kind ≡ 176 → ⊥) → (key .kind ≡ 178 → ⊥) → (key .kind ≡ 182 → ⊥) → (key .kind ≡ 184 → ⊥)
     → Taking s g (itemOf s at next key) next (Next g)
 unfolding Taking taken
@@ -78,19 +78,19 @@ take-other s g at next key o k a b c d e f = (
 
 -- ---- by the extent
 
-pub empty-kept : (s : List ℕ) (g : Group) (x at : ℕ) → g ≡ empty x → Kept s g at
+pub empty-kept : (s : List ℕ) (g : Group) (x at : ℕ) → g ≡ empty x → GroupKept s g at
 empty-kept s g x at e =
-    subst (λ (h : Group). Kept s h at) (sym e)
+    subst (λ (h : Group). GroupKept s h at) (sym e)
     (record { body = λ q. absurd (subst (λ (b : Bool). T (not b)) q tt); light = omega arith })
 
 -- the pass over an item, from what was taken
-module _ (t : Tally) (i : Item) (rest : List Item) where
+module _ (t : GroupTally) (i : Item) (rest : List Item) where
   pass-here : here t i ≡ true → pass (i ∷ rest) t ≡ onward (pass rest) (taken t (viewOf i))
-  unfolding pass entered entry
+  unfolding pass entered entryOf
   pass-here h = rw h refl
 
   pass-new : here t i ≡ false → closed t ≡ true → pass (i ∷ rest) t ≡ onward (pass rest) (taken (fresh (i .key .objectid)) (viewOf i))
-  unfolding pass entered entry
+  unfolding pass entered entryOf
   pass-new h c = rw (h, c) refl
 
   pass-open : here t i ≡ false → closed t ≡ false → pass (i ∷ rest) t ≡ false
@@ -112,10 +112,10 @@ module _ (s : List ℕ) (g : Group) (at next : ℕ) (key : Key) (kis : key ≡ i
   pub turn-here : (r : Turn) → key .objectid ≡ g .extent → Taking s g (itemOf s at next key) next r → Turning s g (itemAt s at) next r
   unfolding Taking Turning
   turn-here Bad e h = λ rest. pass-here (tallyOf s g) (itemAt s at) rest (here-yes e)
-      ∙ ap (λ (o : Option Tally). onward (pass rest) o) (ap (λ (i : Item). taken (tallyOf s g) (viewOf i)) (sym is-item) ∙ h)
+      ∙ ap (λ (o : Option GroupTally). onward (pass rest) o) (ap (λ (i : Item). taken (tallyOf s g) (viewOf i)) (sym is-item) ∙ h)
   turn-here (Next x) e h = (
     (λ rest. pass-here (tallyOf s g) (itemAt s at) rest (here-yes e)
-        ∙ ap (λ (o : Option Tally). onward (pass rest) o) (ap (λ (i : Item). taken (tallyOf s g) (viewOf i)) (sym is-item) ∙ h .0)),
+        ∙ ap (λ (o : Option GroupTally). onward (pass rest) o) (ap (λ (i : Item). taken (tallyOf s g) (viewOf i)) (sym is-item) ∙ h .0)),
     h .1,
   )
 
@@ -131,10 +131,10 @@ module _ (s : List ℕ) (g : Group) (at next : ℕ) (key : Key) (kis : key ≡ i
       → Taking s f (itemOf s at next key) next r → Turning s g (itemAt s at) next r
   unfolding Taking Turning
   turn-new f Bad e n c h = λ rest. pass-new (tallyOf s g) (itemAt s at) rest (here-no n) (closed-yes c)
-      ∙ ap (λ (o : Option Tally). onward (pass rest) o) (ap₂ (λ (t : Tally) (i : Item). taken t (viewOf i)) (sym (fresh-is f e)) (sym is-item) ∙ h)
+      ∙ ap (λ (o : Option GroupTally). onward (pass rest) o) (ap₂ (λ (t : GroupTally) (i : Item). taken t (viewOf i)) (sym (fresh-is f e)) (sym is-item) ∙ h)
   turn-new f (Next x) e n c h = (
     (λ rest. pass-new (tallyOf s g) (itemAt s at) rest (here-no n) (closed-yes c)
-        ∙ ap (λ (o : Option Tally). onward (pass rest) o) (ap₂ (λ (t : Tally) (i : Item). taken t (viewOf i)) (sym (fresh-is f e)) (sym is-item) ∙ h .0)),
+        ∙ ap (λ (o : Option GroupTally). onward (pass rest) o) (ap₂ (λ (t : GroupTally) (i : Item). taken t (viewOf i)) (sym (fresh-is f e)) (sym is-item) ∙ h .0)),
     h .1,
   )
 
@@ -143,7 +143,7 @@ module _ (s : List ℕ) (g : Group) (at next : ℕ) (key : Key) (kis : key ≡ i
   turn-open n c = λ rest. pass-open (tallyOf s g) (itemAt s at) rest (here-no n) (ne-eqb _ _ c)
 
 pub turned-next : (s : List ℕ) (g : Group) (i : Item) (next : ℕ) (r : Turn) (h : Group) → r ≡ Next h → Turning s g i next r
-    → ((rest : List Item) → pass (i ∷ rest) (tallyOf s g) ≡ pass rest (tallyOf s h)) × Kept s h next
+    → ((rest : List Item) → pass (i ∷ rest) (tallyOf s g) ≡ pass rest (tallyOf s h)) × GroupKept s h next
 unfolding Turning
 turned-next s g i next r h e t = subst (Turning s g i next) e t
 
@@ -156,14 +156,14 @@ turned-bad s g i next r e t = subst (Turning s g i next) e t
 pub item-whole : (s : List ℕ) (at next : ℕ) → WholeAt s at next → itemAt s at ≡ itemOf s at next (itemAt s at .key)
 item-whole s at next w = let e = data-is s at next w in λ i. record { key = itemAt s at .key; bytes = e i }
 
-pub sheet-short : (s : List ℕ) → T (areBytes s) → Listed s → length s ≤ 262144
-sheet-short s t l = sheet-sane s (itemsOf s) t (l .reads) .3
+pub sheet-short : (s : List ℕ) → T (areBytes s) → IsList s → length s ≤ 262144
+sheet-short s t l = sheet-sane s (listItems s) t (l .reads) .3
 
-pub pass-all : (s : List ℕ) (g : Group) → T (areBytes s) → Listed s → g ≡ empty 0 → pass (itemsOf s) (tallyOf s g) ≡ balanced (itemsOf s)
+pub pass-all : (s : List ℕ) (g : Group) → T (areBytes s) → IsList s → g ≡ empty 0 → pass (listItems s) (tallyOf s g) ≡ balanced (listItems s)
 unfolding tallyOf
 pass-all s g t l e =
-    let k = sheet-sane s (itemsOf s) t (l .reads) in
-    ap (λ (h : Group). pass (itemsOf s) (tallyOf s h)) e ∙ pass-balanced (itemsOf s) (k .2) (k .0)
+    let k = sheet-sane s (listItems s) t (l .reads) in
+    ap (λ (h : Group). pass (listItems s) (tallyOf s h)) e ∙ pass-balanced (listItems s) (k .2) (k .0)
 
 pub pass-end : (s : List ℕ) (g : Group) (items : List Item) → items ≡ [] → pass items (tallyOf s g) ≡ eqb (g .total) (g .weight)
 unfolding pass closed tallyOf

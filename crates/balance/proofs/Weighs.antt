@@ -11,18 +11,18 @@ use Rattle.format.specs.References.{Ref, refAt}
 use Rattle.inline_refs.specs.Steps.{readFrom}
 use Rattle.inline_refs.proofs.Steps.{At}
 use Rattle.balance.specs.SideBySide.{spanRefs}
-use Rattle.balance.specs.Runs.{Run, kept, admits, sound}
+use Rattle.balance.specs.Runs.{RefRun, keptRun, admits, sound}
 use Rattle.balance.specs.Tally.{weightIn}
 use Rattle.balance.specs.declared.record.Weighed.the-variants.{Of, Bad}
 use Rattle.balance.specs.Spans.{runOf, weighing, weighedOf}
 
 pub weigh-start : (body : List ℕ) (from : ℕ) (a : Answer (List Ref))
-    → weighing (runOf body (record { kind = 0; spot = 0; from = from; n = 0; known = 0 })) 0 a ≡ weighedOf a
+    → weighing (runOf body (record { kind = 0; rank = 0; from = from; n = 0; known = 0 })) 0 a ≡ weighedOf a
 unfolding weighedOf runOf spanRefs
 weigh-start body from a = refl
 
-more : (run : Run) (weight : ℕ) (r : Ref) (a : Answer (List Ref)) → admits run r ≡ true
-    → weighing (kept run r) (weight + r .weight) a ≡ weighing run weight (bind a (λ refs. accepted (r ∷ refs)))
+more : (run : RefRun) (weight : ℕ) (r : Ref) (a : Answer (List Ref)) → admits run r ≡ true
+    → weighing (keptRun run r) (weight + r .weight) a ≡ weighing run weight (bind a (λ refs. accepted (r ∷ refs)))
 unfolding weighing bind sound
 more run weight r (refused n) e = refl
 more run weight r absent e = refl
@@ -31,7 +31,7 @@ more run weight r (accepted refs) e =
     let z : weight + r .weight + sum weightIn refs ≡ weight + (r .weight + sum weightIn refs) = omega arith in
     rw (e, z) refl
 
-fewer : (run : Run) (weight : ℕ) (r : Ref) (a : Answer (List Ref)) → admits run r ≡ false
+fewer : (run : RefRun) (weight : ℕ) (r : Ref) (a : Answer (List Ref)) → admits run r ≡ false
     → Bad ≡ weighing run weight (bind a (λ refs. accepted (r ∷ refs)))
 unfolding weighing bind sound
 fewer run weight r (refused n) e = refl
@@ -39,21 +39,21 @@ fewer run weight r absent e = refl
 fewer run weight r remove e = refl
 fewer run weight r (accepted refs) e = rw e refl
 
-module _ (s : List ℕ) (at k p n q next : ℕ) (h : At s at k p n q next) (run : Run) (weight : ℕ) where
-  pub weigh-step : (grown : Run) (w : ℕ) → admits run (refAt k (drop p s)) ≡ true → grown ≡ kept run (refAt k (drop p s)) → w ≡ refAt k (drop p s) .weight
+module _ (s : List ℕ) (at k p n q next : ℕ) (h : At s at k p n q next) (run : RefRun) (weight : ℕ) where
+  pub weigh-step : (grown : RefRun) (w : ℕ) → admits run (refAt k (drop p s)) ≡ true → grown ≡ keptRun run (refAt k (drop p s)) → w ≡ refAt k (drop p s) .weight
       → weighing grown (weight + w) (readFrom s next) ≡ weighing run weight (readFrom s at)
   weigh-step grown w a g e =
-      ap₂ (λ (x : Run) (y : ℕ). weighing x (weight + y) (readFrom s next)) g e
+      ap₂ (λ (x : RefRun) (y : ℕ). weighing x (weight + y) (readFrom s next)) g e
       ∙ more run weight (refAt k (drop p s)) (readFrom s next) a
       ∙ ap (weighing run weight) (sym (h .reads))
 
   pub weigh-no : admits run (refAt k (drop p s)) ≡ false → Bad ≡ weighing run weight (readFrom s at)
   weigh-no a = fewer run weight (refAt k (drop p s)) (readFrom s next) a ∙ ap (weighing run weight) (sym (h .reads))
 
-pub weigh-end : (run : Run) (weight : ℕ) (a : Answer (List Ref)) → a ≡ accepted [] → Of weight ≡ weighing run weight a
+pub weigh-end : (run : RefRun) (weight : ℕ) (a : Answer (List Ref)) → a ≡ accepted [] → Of weight ≡ weighing run weight a
 unfolding weighing sound
 weigh-end run weight a e = rw e (ap Of (omega arith))
 
-pub weigh-fault : (run : Run) (weight number : ℕ) (a : Answer (List Ref)) → a ≡ refused number → Bad ≡ weighing run weight a
+pub weigh-fault : (run : RefRun) (weight refusal : ℕ) (a : Answer (List Ref)) → a ≡ refused refusal → Bad ≡ weighing run weight a
 unfolding weighing
 weigh-fault run weight number a e = rw e refl

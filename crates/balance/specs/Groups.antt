@@ -8,13 +8,13 @@ use lib.Dec.{T}
 use lib.ListN.{length}
 use Rattle.fields.specs.Parts.{part}
 use Rattle.format.specs.declared.Key.{Key}
-use Rattle.format.specs.References.{ref, placeOf, ordered}
+use Rattle.format.specs.References.{makeRef, rankOf, ordered}
 use Rattle.format.specs.Items.{Item}
 use Rattle.format.specs.Names.{reference, malformed, viewRefItem, viewOf}
-use Rattle.inline_refs.specs.declared.wanted.Wanted.{Wanted}
+use Rattle.inline_refs.specs.declared.ref_name.RefName.{RefName}
 use Rattle.inline_refs.specs.Scans.{kindOf, fieldsOf}
-use Rattle.balance.specs.Tally.{Tally, taken, pass}
-use Rattle.balance.specs.Places.{refsFrom, Readable, Spanned}
+use Rattle.balance.specs.Tally.{GroupTally, taken, pass}
+use Rattle.balance.specs.Ranks.{refsFrom, Readable, Spanned}
 use Rattle.balance.specs.declared.group.Group.{Group}
 use Rattle.balance.specs.declared.group.Turn.{Turn}
 use Rattle.balance.specs.declared.group.Turn.the-variants.{Next, Bad}
@@ -27,21 +27,21 @@ itemOf s at next key = record { key = key; bytes = part (at + 21) (next - (at + 
 
 -- ---- a reference as an item
 
-pub record NameOf (i : Item) (weight : ℕ) (wanted : Wanted) : Type 0 where
-  pub says : viewRefItem i ≡ reference (ref (kindOf wanted) (fieldsOf wanted) weight)
+pub record NamedBy (i : Item) (weight : ℕ) (wanted : RefName) : Type 0 where
+  pub says : viewRefItem i ≡ reference (makeRef (kindOf wanted) (fieldsOf wanted) weight)
   pub kind : kindOf wanted ≡ i .key .kind
-  pub place : i .key .offset ≡ placeOf (kindOf wanted) (fieldsOf wanted)
+  pub rank : i .key .offset ≡ rankOf (kindOf wanted) (fieldsOf wanted)
 
 unfoldable pub Naming : Item → Named → Type 0
 Naming i NoForm = viewRefItem i ≡ malformed
-Naming i (Of weight wanted) = NameOf i weight wanted
+Naming i (Of weight wanted) = NamedBy i weight wanted
 
 -- ---- the extent at hand
 
 abbrev pub bodyOf : List ℕ → Group → List ℕ
 bodyOf s g = part (g .from) (g .to - g .from) s
 
-unfoldable pub tallyOf : List ℕ → Group → Tally
+unfoldable pub tallyOf : List ℕ → Group → GroupTally
 tallyOf s g =
     record {
       extent = g .extent;
@@ -52,7 +52,7 @@ tallyOf s g =
     }
 
 -- the record's references are read and in order, and those of the last type looked for are known
-pub record Body (s : List ℕ) (g : Group) : Type 0 where
+pub record GroupBody (s : List ℕ) (g : Group) : Type 0 where
   pub order : g .from ≤ g .to
   pub inside : g .to ≤ length s
   pub begins : g .start ≤ length (bodyOf s g)
@@ -60,8 +60,8 @@ pub record Body (s : List ℕ) (g : Group) : Type 0 where
   pub sorted : T (ordered (refsFrom (bodyOf s g) (g .start)))
   pub spans : (g .span .kind ≡ 0 → ⊥) → Spanned (bodyOf s g) (g .start) (g .span)
 
-pub record Kept (s : List ℕ) (g : Group) (at : ℕ) : Type 0 where
-  pub body : g .marked ≡ true → Body s g
+pub record GroupKept (s : List ℕ) (g : Group) (at : ℕ) : Type 0 where
+  pub body : g .marked ≡ true → GroupBody s g
   pub light : g .weight ≤ 4294967296 * at
 
 -- an extent whose record was read
@@ -95,9 +95,9 @@ empty extent =
 -- an item of the extent at hand, up to `next`
 unfoldable pub Taking : List ℕ → Group → Item → ℕ → Turn → Type 0
 Taking s g i next Bad = taken (tallyOf s g) (viewOf i) ≡ none
-Taking s g i next (Next h) = (taken (tallyOf s g) (viewOf i) ≡ some (tallyOf s h)) × Kept s h next
+Taking s g i next (Next h) = (taken (tallyOf s g) (viewOf i) ≡ some (tallyOf s h)) × GroupKept s h next
 
 -- an item of any extent
 unfoldable pub Turning : List ℕ → Group → Item → ℕ → Turn → Type 0
 Turning s g i next Bad = (rest : List Item) → pass (i ∷ rest) (tallyOf s g) ≡ false
-Turning s g i next (Next h) = ((rest : List Item) → pass (i ∷ rest) (tallyOf s g) ≡ pass rest (tallyOf s h)) × Kept s h next
+Turning s g i next (Next h) = ((rest : List Item) → pass (i ∷ rest) (tallyOf s g) ≡ pass rest (tallyOf s h)) × GroupKept s h next

@@ -1,5 +1,5 @@
 pub mod Spans
-pub mod Places
+pub mod Ranks
 pub mod SideBySide
 pub mod Runs
 pub mod Tally

@@ -4,41 +4,41 @@ use mathlib.Core.List.{List, [], _∷_, _++_}
 use Prim.Native.Nat.{ℕ}
 use lib.Dec.{leb, ltb, eqb}
 use Rattle.fields.specs.Lists.{all, same}
-use Rattle.format.specs.References.{Ref, place, falls}
+use Rattle.format.specs.References.{Ref, rank, falls}
 
 -- the references at hand: the last type, what it was ordered by, and the references of 178 that share that hash
-pub record Run : Type 0 where
+pub record RefRun : Type 0 where
   pub kind : ℕ
-  pub spot : ℕ
+  pub rank : ℕ
   pub back : List Ref
 
-abbrev pub start : Run
-start = record { kind = 0; spot = 0; back = [] }
+abbrev pub start : RefRun
+start = record { kind = 0; rank = 0; back = [] }
 
 -- a further data reference of the same hash
-unfoldable pub joins : Run → Ref → Bool
-joins run r = eqb (run .kind) 178 && (eqb (r .kind) (run .kind) && eqb (place r) (run .spot))
+unfoldable pub joins : RefRun → Ref → Bool
+joins run r = eqb (run .kind) 178 && (eqb (r .kind) (run .kind) && eqb (rank r) (run .rank))
 
-unfoldable pub kept : Run → Ref → Run
-kept run r =
-    cond (joins run r) (record { kind = run .kind; spot = run .spot; back = run .back ++ r ∷ [] })
-    (record { kind = r .kind; spot = place r; back = r ∷ [] })
+unfoldable pub keptRun : RefRun → Ref → RefRun
+keptRun run r =
+    cond (joins run r) (record { kind = run .kind; rank = run .rank; back = run .back ++ r ∷ [] })
+    (record { kind = r .kind; rank = rank r; back = r ∷ [] })
 
 -- in order after the last
-unfoldable pub after : Run → Ref → Bool
-after run r = ltb (run .kind) (r .kind) || (eqb (run .kind) (r .kind) && falls (run .kind) (run .spot) (place r))
+unfoldable pub after : RefRun → Ref → Bool
+after run r = ltb (run .kind) (r .kind) || (eqb (run .kind) (r .kind) && falls (run .kind) (run .rank) (rank r))
 
 -- of another name than those of its hash
-unfoldable pub apart : Run → Ref → Bool
-apart run r = not (joins run r) || all (λ s. not (same (s .fields) (r .fields))) (run .back)
+unfoldable pub runsApart : RefRun → Ref → Bool
+runsApart run r = not (joins run r) || all (λ s. not (same (s .fields) (r .fields))) (run .back)
 
 -- an owner reference counts nothing
 unfoldable pub weighs : Ref → Bool
 weighs r = eqb (r .kind) 172 || leb 1 (r .weight)
 
-unfoldable pub admits : Run → Ref → Bool
-admits run r = after run r && (apart run r && weighs r)
+unfoldable pub admits : RefRun → Ref → Bool
+admits run r = after run r && (runsApart run r && weighs r)
 
-unfoldable pub sound : Run → List Ref → Bool
+unfoldable pub sound : RefRun → List Ref → Bool
 sound run [] = true
-sound run (r ∷ refs) = admits run r && sound (kept run r) refs
+sound run (r ∷ refs) = admits run r && sound (keptRun run r) refs

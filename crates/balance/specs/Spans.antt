@@ -7,9 +7,9 @@ use lib.ListN.{drop}
 use Rattle.fields.specs.Lists.{sum, all, same}
 use Rattle.format.specs.Questions.{Answer, refused, absent, remove, accepted}
 use Rattle.format.specs.References.{Ref, refAt}
-use Rattle.distinct_triples.specs.Triples.{dataSize, Distinct}
+use Rattle.distinct_triples.specs.Triples.{tripleSize, Distinct}
 use Rattle.balance.specs.SideBySide.{spanRefs}
-use Rattle.balance.specs.Runs.{Run, start, kept, admits, sound}
+use Rattle.balance.specs.Runs.{RefRun, start, keptRun, admits, sound}
 use Rattle.balance.specs.Tally.{weightIn}
 use Rattle.balance.specs.declared.record.Run.{Run as Passed}
 use Rattle.balance.specs.declared.record.Admitted.{Admitted}
@@ -21,26 +21,26 @@ use Rattle.balance.specs.declared.record.Weighed.the-variants.{Of, Bad}
 unfoldable pub clear : List ℕ → ℕ → ℕ → ℕ → Bool
 clear body at from n = all (λ s. not (same (s .fields) (refAt 178 (drop (at + 1) body) .fields))) (spanRefs 178 body from n)
 
-unfoldable pub runOf : List ℕ → Passed → Run
-runOf body p = record { kind = p .kind; spot = p .spot; back = spanRefs (p .kind) body (p .from) (p .n) }
+unfoldable pub runOf : List ℕ → Passed → RefRun
+runOf body p = record { kind = p .kind; rank = p .rank; back = spanRefs (p .kind) body (p .from) (p .n) }
 
 -- the data references passed end where the next one stands
 abbrev pub Reaches : Passed → ℕ → Type 0
-Reaches p at = p .kind ≡ 178 → p .from + dataSize * p .n ≡ at
+Reaches p at = p .kind ≡ 178 → p .from + tripleSize * p .n ≡ at
 
 -- the triples of so many from the first on differ
-abbrev pub Apart : List ℕ → Passed → Type 0
-Apart body p = Distinct body (p .from) (p .known)
+abbrev pub SpansApart : List ℕ → Passed → Type 0
+SpansApart body p = Distinct body (p .from) (p .known)
 
 -- what the answer says of the reference that ends at `next`
 unfoldable pub Admitting : List ℕ → Passed → Ref → ℕ → Admitted → Type 0
 Admitting body p r next No = admits (runOf body p) r ≡ false
 Admitting body p r next (Yes q weight) =
-    (admits (runOf body p) r ≡ true) × ((runOf body q ≡ kept (runOf body p) r) × (Reaches q next × ((weight ≡ r .weight) × Apart body q)))
+    (admits (runOf body p) r ≡ true) × ((runOf body q ≡ keptRun (runOf body p) r) × (Reaches q next × ((weight ≡ r .weight) × SpansApart body q)))
 
 -- the weight of the references that are left, after those of a run and their weight
-unfoldable pub weighing : Run → ℕ → Answer (List Ref) → Weighed
-weighing run weight (refused number) = Bad
+unfoldable pub weighing : RefRun → ℕ → Answer (List Ref) → Weighed
+weighing run weight (refused refusal) = Bad
 weighing run weight absent = Bad
 weighing run weight remove = Bad
 weighing run weight (accepted refs) = cond (sound run refs) (Of (weight + sum weightIn refs)) Bad

@@ -12,20 +12,20 @@ use Rattle.format.specs.Names.{View, extentRecord, reference, unrelated, malfor
 use Rattle.balance.specs.Runs.{start, sound}
 
 -- of the extent at hand: whether its record stood, the record's references and total, and the weight of all references so far
-pub record Tally : Type 0 where
+pub record GroupTally : Type 0 where
   pub extent : ℕ
   pub marked : Bool
   pub refs : List Ref
   pub total : ℕ
   pub weight : ℕ
 
-abbrev pub fresh : ℕ → Tally
+abbrev pub fresh : ℕ → GroupTally
 fresh extent = record { extent = extent; marked = false; refs = []; total = 0; weight = 0 }
 
 abbrev pub weightIn : Ref → ℕ
 weightIn r = r .weight
 
-unfoldable pub closed : Tally → Bool
+unfoldable pub closed : GroupTally → Bool
 closed t = eqb (t .total) (t .weight)
 
 -- no inline reference has the name
@@ -33,7 +33,7 @@ unfoldable pub unnamed : List Ref → Ref → Bool
 unnamed refs r = all (λ s. not (named (r .kind) (r .fields) s)) refs
 
 -- an item of the extent at hand
-unfoldable pub taken : Tally → View → Option Tally
+unfoldable pub taken : GroupTally → View → Option GroupTally
 taken t (extentRecord b) =
     cond (not (t .marked) && sound start (b .refs))
     (some (record { extent = t .extent; marked = true; refs = b .refs; total = b .total; weight = sum weightIn (b .refs) })) none
@@ -43,20 +43,20 @@ taken t (reference r) =
 taken t unrelated = some t
 taken t malformed = none
 
-unfoldable pub here : Tally → Item → Bool
+unfoldable pub here : GroupTally → Item → Bool
 here t i = eqb (i .key .objectid) (t .extent)
 
 -- the extent of an item is at hand, or the last one is closed
-unfoldable pub entered : Tally → Item → Bool
+unfoldable pub entered : GroupTally → Item → Bool
 entered t i = here t i || closed t
 
-unfoldable pub entry : Tally → Item → Tally
-entry t i = cond (here t i) t (fresh (i .key .objectid))
+unfoldable pub entryOf : GroupTally → Item → GroupTally
+entryOf t i = cond (here t i) t (fresh (i .key .objectid))
 
-abbrev pub onward : (Tally → Bool) → Option Tally → Bool
+abbrev pub onward : (GroupTally → Bool) → Option GroupTally → Bool
 onward rest none = false
 onward rest (some t) = rest t
 
-unfoldable pub pass : List Item → Tally → Bool
+unfoldable pub pass : List Item → GroupTally → Bool
 pass [] t = closed t
-pass (i ∷ items) t = entered t i && onward (pass items) (taken (entry t i) (viewOf i))
+pass (i ∷ items) t = entered t i && onward (pass items) (taken (entryOf t i) (viewOf i))

@@ -1,4 +1,4 @@
-// Whether a sheet is balanced, in one pass over its items.
+// Whether a sheet is balanced, in one pass over its items. The definition as such a pass is in specs/, proved equal to it by sums.
 mod group;
 mod marking;
 mod naming;

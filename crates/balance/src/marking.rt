@@ -3,12 +3,14 @@ use crate::Span;
 use crate::Weighed;
 use crate::group::Group;
 use crate::group::Turn;
+use format::ITEM_HEAD;
 use format::Key;
 use inline_refs::Start;
 ghost use mathlib.Core.Path.{_≡_};
 ghost use Prim.Native.Nat.{_+_, _≤_};
 ghost use lib.Dec.{T};
 ghost use lib.ListN.{length};
+ghost use Rattle.format.specs.Constants.{itemHead};
 ghost use Rattle.format.specs.References.{kinds};
 ghost use Rattle.format.specs.Apply.{isRecord};
 ghost use Rattle.balance.specs.Groups.{itemOf, afterRecord, Taking};
@@ -42,14 +44,14 @@ pub fn take_record(
     g: Group,
 ) -> Turn
     requires { ⌜ now rows ≡ kinds ⌝ }
-    requires { ⌜ (at + 21 ≤ next) × ((next ≤ length (now s)) × (next ≤ at + 65556)) ⌝ }
+    requires { ⌜ (at + itemHead ≤ next) × ((next ≤ length (now s)) × (next ≤ at + 65556)) ⌝ }
     requires { ⌜ T (isRecord (itemOf (now s) at next key)) ⌝ }
     ensures { λ r. ⌜ Taking (now (s .entry)) g (itemOf (now (s .entry)) at next key) next r ⌝ }
 {
     if g.marked {
         return Turn::Bad;
     }
-    let from = at + 21;
+    let from = at + ITEM_HEAD;
     let body = &s[from..next];
     match inline_refs::open_body(key.kind, body) {
         Start::From(start) => match crate::weigh_refs(rows, body, start) {

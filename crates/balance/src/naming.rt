@@ -3,16 +3,18 @@ use crate::group::Group;
 use crate::group::Turn;
 use crate::reference;
 use crate::reference::Named;
+use format::ITEM_HEAD;
 use format::Key;
-use inline_refs::Wanted;
+use inline_refs::RefName;
 ghost use mathlib.Core.Path.{_≡_};
 ghost use mathlib.Core.Bool.{true};
 ghost use Prim.Native.Nat.{_+_, _≤_};
 ghost use lib.Dec.{T};
 ghost use lib.ListN.{length};
+ghost use Rattle.format.specs.Constants.{itemHead, mostSheet};
 ghost use Rattle.format.specs.References.{kinds};
 ghost use Rattle.format.specs.Names.{isRefItem};
-ghost use Rattle.balance.specs.Groups.{itemOf, NameOf, Kept, Taking};
+ghost use Rattle.balance.specs.Groups.{itemOf, NamedBy, GroupKept, Taking};
 
 // Its name does not stand inline, and it counts.
 fn take_name(
@@ -23,12 +25,12 @@ fn take_name(
     key: Key,
     g: Group,
     weight: u32,
-    wanted: Wanted,
+    wanted: RefName,
 ) -> Turn
     requires { ⌜ now rows ≡ kinds ⌝ }
-    requires { ⌜ (at + 21 ≤ next) × (next ≤ 262144) ⌝ }
-    requires { ⌜ T (isRefItem (itemOf (now s) at next key)) × ((g .marked ≡ true) × Kept (now s) g at) ⌝ }
-    requires { ⌜ NameOf (itemOf (now s) at next key) weight wanted ⌝ }
+    requires { ⌜ (at + itemHead ≤ next) × (next ≤ mostSheet) ⌝ }
+    requires { ⌜ T (isRefItem (itemOf (now s) at next key)) × ((g .marked ≡ true) × GroupKept (now s) g at) ⌝ }
+    requires { ⌜ NamedBy (itemOf (now s) at next key) weight wanted ⌝ }
     ensures { λ r. ⌜ Taking (now (s .entry)) g (itemOf (now (s .entry)) at next key) next r ⌝ }
 {
     if weight == 0 {
@@ -56,11 +58,11 @@ fn take_name(
 
 pub fn take_ref(rows: &[[u8; 3]; 5], s: &[u8], at: usize, next: usize, key: Key, g: Group) -> Turn
     requires { ⌜ now rows ≡ kinds ⌝ }
-    requires { ⌜ (at + 21 ≤ next) × ((next ≤ length (now s)) × (next ≤ 262144)) ⌝ }
-    requires { ⌜ T (isRefItem (itemOf (now s) at next key)) × Kept (now s) g at ⌝ }
+    requires { ⌜ (at + itemHead ≤ next) × ((next ≤ length (now s)) × (next ≤ mostSheet)) ⌝ }
+    requires { ⌜ T (isRefItem (itemOf (now s) at next key)) × GroupKept (now s) g at ⌝ }
     ensures { λ r. ⌜ Taking (now (s .entry)) g (itemOf (now (s .entry)) at next key) next r ⌝ }
 {
-    let from = at + 21;
+    let from = at + ITEM_HEAD;
     match reference::name_of(key, &s[from..next]) {
         Named::Of { weight, wanted } => {
             if g.marked {

@@ -1,23 +1,26 @@
 // The references of one record: in order, counting, no name twice among them; and their weight.
 use crate::together;
+use format::EXTENT_DATA_REF;
+use format::EXTENT_OWNER_REF;
 use inline_refs::Cursor;
-use inline_refs::Step;
-use inline_refs::Wanted;
+use inline_refs::RefName;
+use inline_refs::RefStep;
 ghost use mathlib.Core.Path.{_≡_};
 ghost use mathlib.Core.Bool.{not};
 ghost use Prim.Native.Nat.{_+_, _*_, _≤_};
 ghost use lib.Dec.{T};
 ghost use lib.ListN.{length, drop};
-ghost use Rattle.format.specs.References.{kinds, known, payloadLength, countPosition, refAt, place};
+ghost use Rattle.format.specs.Constants.{mostSheet};
+ghost use Rattle.format.specs.References.{kinds, known, payloadLength, countPosition, refAt, rank};
 ghost use Rattle.inline_refs.specs.Steps.{readFrom};
-ghost use Rattle.distinct_triples.specs.Triples.{dataSize, Distinct};
-ghost use Rattle.balance.specs.Spans.{clear, Admitting, Reaches, Apart, weighedOf, Light};
+ghost use Rattle.distinct_triples.specs.Triples.{tripleSize, Distinct};
+ghost use Rattle.balance.specs.Spans.{clear, Admitting, Reaches, SpansApart, weighedOf, Light};
 
 // The references passed last: their type, what they are ordered by, where the first of them stands, how many there are, and of
 // how many from the first on it is known that their triples differ. Only data references of one hash are more than one.
 pub struct Run {
     pub kind: u8,
-    pub spot: u64,
+    pub rank: u64,
     pub from: usize,
     pub n: usize,
     pub known: usize,
@@ -37,15 +40,15 @@ pub enum Weighed {
 
 // Whether the triple of the data reference at `at` stands among the `n` data references from `from` on.
 fn repeated(body: &[u8], from: usize, n: usize, at: usize) -> bool
-    requires { ⌜ (from + dataSize * n ≤ at) × (at + dataSize ≤ length (now body)) ⌝ }
+    requires { ⌜ (from + tripleSize * n ≤ at) × (at + tripleSize ≤ length (now body)) ⌝ }
     ensures { λ r. ⌜ r ≡ not (clear (now (body .entry)) at from n) ⌝ }
 {
-    let wanted = Wanted::Data(distinct_triples::triple_at(body, at + 1));
+    let wanted = RefName::Data(distinct_triples::triple_at(body, at + 1));
     let size = distinct_triples::data_size();
     let mut p = from;
     let mut left = n;
     while 0 < left {
-        if inline_refs::names(wanted, body, 178, p + 1) {
+        if inline_refs::names(wanted, body, EXTENT_DATA_REF, p + 1) {
             return true;
         }
         p += size;
@@ -56,7 +59,7 @@ fn repeated(body: &[u8], from: usize, n: usize, at: usize) -> bool
 
 // The same where the first `known` data references from `from` on are known to differ, and `at` is where one more stands.
 fn stands_twice(body: &[u8], from: usize, n: usize, known: usize, at: usize) -> bool
-    requires { ⌜ (from + dataSize * n ≡ at) × (at + dataSize ≤ length (now body)) ⌝ }
+    requires { ⌜ (from + tripleSize * n ≡ at) × (at + tripleSize ≤ length (now body)) ⌝ }
     requires { ⌜ Distinct (now body) from known ⌝ }
     ensures { λ r. ⌜ r ≡ not (clear (now (body .entry)) at from n) ⌝ }
 {
@@ -67,25 +70,25 @@ fn stands_twice(body: &[u8], from: usize, n: usize, known: usize, at: usize) -> 
 }
 
 // A data reference whose hash is not below that of the data references passed.
-fn join(body: &[u8], run: Run, at: usize, start: usize, spot: u64, weight: u32) -> Admitted
-    requires { ⌜ (run .kind ≡ 178) × ((run .spot ≤ spot) × (weight ≡ 0 → ⊥)) ⌝ }
-    requires { ⌜ (start ≡ at + 1) × ((at + dataSize ≤ length (now body)) × Reaches run at) ⌝ }
-    requires { ⌜ (weight ≡ refAt 178 (drop start (now body)) .weight) × (spot ≡ place (refAt 178 (drop start (now body)))) ⌝ }
-    requires { ⌜ (length (now body) ≤ 262144) × Apart (now body) run ⌝ }
+fn join(body: &[u8], run: Run, at: usize, start: usize, own: u64, weight: u32) -> Admitted
+    requires { ⌜ (run .kind ≡ 178) × ((run .rank ≤ own) × (weight ≡ 0 → ⊥)) ⌝ }
+    requires { ⌜ (start ≡ at + 1) × ((at + tripleSize ≤ length (now body)) × Reaches run at) ⌝ }
+    requires { ⌜ (weight ≡ refAt 178 (drop start (now body)) .weight) × (own ≡ rank (refAt 178 (drop start (now body)))) ⌝ }
+    requires { ⌜ (length (now body) ≤ mostSheet) × SpansApart (now body) run ⌝ }
     ensures { λ r. ⌜ Admitting (now (body .entry)) run (refAt 178 (drop start (now (body .entry)))) (start + payloadLength 178) r ⌝ }
 {
-    if run.spot < spot {
+    if run.rank < own {
         return Admitted::No;
     }
-    let known = together::known_in(body, run.from, run.n, run.known, spot);
+    let known = together::known_in(body, run.from, run.n, run.known, own);
     if stands_twice(body, run.from, run.n, known, at) {
         return Admitted::No;
     }
     let n = run.n + 1;
     Admitted::Yes {
         run: Run {
-            kind: 178,
-            spot,
+            kind: EXTENT_DATA_REF,
+            rank: own,
             from: run.from,
             n,
             known,
@@ -98,22 +101,22 @@ fn join(body: &[u8], run: Run, at: usize, start: usize, spot: u64, weight: u32) 
 fn admit(body: &[u8], run: Run, at: usize, kind: u8, start: usize, count: usize) -> Admitted
     requires { ⌜ T (known kind) × (start + payloadLength kind ≤ length (now body)) × (count ≡ countPosition kind) ⌝ }
     requires { ⌜ (start ≡ at + 1) × Reaches run at ⌝ }
-    requires { ⌜ (length (now body) ≤ 262144) × Apart (now body) run ⌝ }
+    requires { ⌜ (length (now body) ≤ mostSheet) × SpansApart (now body) run ⌝ }
     ensures { λ r. ⌜ Admitting (now (body .entry)) run (refAt kind (drop start (now (body .entry)))) (start + payloadLength kind) r ⌝ }
 {
     if kind < run.kind {
         return Admitted::No;
     }
     let weight = inline_refs::weight_at(body, kind, start, count);
-    let spot = inline_refs::place_at(body, kind, start);
+    let rank = inline_refs::rank_at(body, kind, start);
     let alone = Run {
         kind,
-        spot,
+        rank,
         from: at,
         n: 1,
         known: 0,
     };
-    if kind == 172 {
+    if kind == EXTENT_OWNER_REF {
         return Admitted::Yes { run: alone, weight };
     }
     if weight == 0 {
@@ -122,25 +125,25 @@ fn admit(body: &[u8], run: Run, at: usize, kind: u8, start: usize, count: usize)
     if run.kind < kind {
         return Admitted::Yes { run: alone, weight };
     }
-    if spot < run.spot {
+    if rank < run.rank {
         return Admitted::Yes { run: alone, weight };
     }
-    if kind != 178 {
+    if kind != EXTENT_DATA_REF {
         return Admitted::No;
     }
-    join(body, run, at, start, spot, weight)
+    join(body, run, at, start, rank, weight)
 }
 
 // The weight of the references from `start` to the end of a body.
 pub fn weigh_refs(rows: &[[u8; 3]; 5], body: &[u8], start: usize) -> Weighed
     requires { ⌜ now rows ≡ kinds ⌝ }
-    requires { ⌜ (length (now body) ≤ 262144) × (start ≤ length (now body)) ⌝ }
+    requires { ⌜ (length (now body) ≤ mostSheet) × (start ≤ length (now body)) ⌝ }
     ensures { λ r. ⌜ (r ≡ weighedOf (readFrom (now (body .entry)) start)) × Light (length (now (body .entry))) r ⌝ }
 {
     let mut at = start;
     let mut run = Run {
         kind: 0,
-        spot: 0,
+        rank: 0,
         from: start,
         n: 0,
         known: 0,
@@ -149,7 +152,7 @@ pub fn weigh_refs(rows: &[[u8; 3]; 5], body: &[u8], start: usize) -> Weighed
     loop {
         let cursor = Cursor { at };
         match cursor.step(rows, body) {
-            Step::Ref {
+            RefStep::Ref {
                 kind,
                 start: payload,
                 size: _,
@@ -166,8 +169,8 @@ pub fn weigh_refs(rows: &[[u8; 3]; 5], body: &[u8], start: usize) -> Weighed
                     Admitted::No => return Weighed::Bad,
                 }
             }
-            Step::End => return Weighed::Of(sum),
-            Step::Refused(_) => return Weighed::Bad,
+            RefStep::End => return Weighed::Of(sum),
+            RefStep::Refused(_) => return Weighed::Bad,
         }
     }
 }

@@ -1,7 +1,10 @@
 // A reference as an item of its own.
 use format::BlockRef;
+use format::EXTENT_DATA_REF;
 use format::Key;
-use inline_refs::Wanted;
+use format::SHARED_DATA_REF;
+use format::TREE_BLOCK_REF;
+use inline_refs::RefName;
 ghost use mathlib.Core.Path.{_≡_};
 ghost use lib.Dec.{T};
 ghost use Rattle.format.specs.Names.{isRefItem};
@@ -9,7 +12,7 @@ ghost use Rattle.balance.specs.Groups.{Naming};
 
 // What it weighs, and under which name; or that it is in no form of its type.
 pub enum Named {
-    Of { weight: u32, wanted: Wanted },
+    Of { weight: u32, wanted: RefName },
     Bad,
 }
 
@@ -20,12 +23,12 @@ fn data_name(key: Key, payload: &[u8]) -> Named
     if payload.len() != 28 {
         return Named::Bad;
     }
-    if inline_refs::place_at(payload, 178, 0) != key.offset {
+    if inline_refs::rank_at(payload, EXTENT_DATA_REF, 0) != key.offset {
         return Named::Bad;
     }
     Named::Of {
         weight: fields::get_u32_le(payload, 24),
-        wanted: Wanted::Data(distinct_triples::triple_at(payload, 0)),
+        wanted: RefName::Data(distinct_triples::triple_at(payload, 0)),
     }
 }
 
@@ -33,29 +36,29 @@ pub fn name_of(key: Key, payload: &[u8]) -> Named
     requires { ⌜ T (isRefItem (record { key = key; bytes = now payload })) ⌝ }
     ensures { λ r. ⌜ Naming (record { key = key; bytes = now (payload .entry) }) r ⌝ }
 {
-    if key.kind == 178 {
+    if key.kind == EXTENT_DATA_REF {
         return data_name(key, payload);
     }
-    if key.kind == 184 {
+    if key.kind == SHARED_DATA_REF {
         if payload.len() != 4 {
             return Named::Bad;
         }
         return Named::Of {
             weight: fields::get_u32_le(payload, 0),
-            wanted: Wanted::SharedData(key.offset),
+            wanted: RefName::SharedData(key.offset),
         };
     }
     if payload.len() != 0 {
         return Named::Bad;
     }
-    if key.kind == 176 {
+    if key.kind == TREE_BLOCK_REF {
         return Named::Of {
             weight: 1,
-            wanted: Wanted::Block(BlockRef { tree: key.offset }),
+            wanted: RefName::Block(BlockRef { tree: key.offset }),
         };
     }
     Named::Of {
         weight: 1,
-        wanted: Wanted::SharedBlock(key.offset),
+        wanted: RefName::SharedBlock(key.offset),
     }
 }

@@ -1,13 +1,13 @@
 // Where the references of one type stand in a record whose references are in order.
 use inline_refs::Cursor;
+use inline_refs::RefStep;
 use inline_refs::Row;
-use inline_refs::Step;
 ghost use mathlib.Core.Path.{_≡_};
 ghost use Prim.Native.Nat.{_+_, _≤_};
 ghost use lib.Dec.{T};
 ghost use lib.ListN.{length};
 ghost use Rattle.format.specs.References.{kinds, known as isKnown, payloadLength, ordered};
-ghost use Rattle.balance.specs.Places.{Readable, refsFrom, Skips, Counts, Spanned};
+ghost use Rattle.balance.specs.Ranks.{Readable, refsFrom, Skips, CountsIn, Spanned};
 
 // The references of a type: where the first of them stands, and how many there are.
 pub struct Span {
@@ -26,7 +26,7 @@ fn skip(rows: &[[u8; 3]; 5], body: &[u8], start: usize, kind: u8) -> usize
     loop {
         let cursor = Cursor { at };
         match cursor.step(rows, body) {
-            Step::Ref {
+            RefStep::Ref {
                 kind: here,
                 start: _,
                 size: _,
@@ -38,8 +38,8 @@ fn skip(rows: &[[u8; 3]; 5], body: &[u8], start: usize, kind: u8) -> usize
                 }
                 at = next.at;
             }
-            Step::End => return at,
-            Step::Refused(_) => return at,
+            RefStep::End => return at,
+            RefStep::Refused(_) => return at,
         }
     }
 }
@@ -48,14 +48,14 @@ fn skip(rows: &[[u8; 3]; 5], body: &[u8], start: usize, kind: u8) -> usize
 fn count(rows: &[[u8; 3]; 5], body: &[u8], from: usize, kind: u8) -> usize
     requires { ⌜ now rows ≡ kinds ⌝ }
     requires { ⌜ Readable (now body) from × (from ≤ length (now body)) ⌝ }
-    ensures { λ r. ⌜ Counts (now (body .entry)) from kind r ⌝ }
+    ensures { λ r. ⌜ CountsIn (now (body .entry)) from kind r ⌝ }
 {
     let mut at = from;
     let mut n: usize = 0;
     loop {
         let cursor = Cursor { at };
         match cursor.step(rows, body) {
-            Step::Ref {
+            RefStep::Ref {
                 kind: here,
                 start: _,
                 size: _,
@@ -68,8 +68,8 @@ fn count(rows: &[[u8; 3]; 5], body: &[u8], from: usize, kind: u8) -> usize
                 n += 1;
                 at = next.at;
             }
-            Step::End => return n,
-            Step::Refused(_) => return n,
+            RefStep::End => return n,
+            RefStep::Refused(_) => return n,
         }
     }
 }

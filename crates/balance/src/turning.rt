@@ -4,13 +4,20 @@ use crate::group::Group;
 use crate::group::Turn;
 use crate::marking;
 use crate::naming;
+use format::EXTENT_DATA_REF;
+use format::EXTENT_ITEM;
 use format::Key;
+use format::METADATA_ITEM;
+use format::SHARED_BLOCK_REF;
+use format::SHARED_DATA_REF;
+use format::TREE_BLOCK_REF;
 ghost use mathlib.Core.Path.{_≡_};
 ghost use Prim.Native.Nat.{_+_, _≤_};
 ghost use lib.ListN.{length};
+ghost use Rattle.format.specs.Constants.{itemHead, mostSheet};
 ghost use Rattle.format.specs.References.{kinds};
 ghost use Rattle.item_list.specs.Steps.{itemAt};
-ghost use Rattle.balance.specs.Groups.{itemOf, empty, Kept, Taking, Turning};
+ghost use Rattle.balance.specs.Groups.{itemOf, empty, GroupKept, Taking, Turning};
 
 // An extent of which no item was read.
 pub fn begin(extent: u64) -> Group
@@ -35,27 +42,27 @@ pub fn begin(extent: u64) -> Group
 // An item of the extent at hand.
 fn take(rows: &[[u8; 3]; 5], s: &[u8], at: usize, next: usize, key: Key, g: Group) -> Turn
     requires { ⌜ now rows ≡ kinds ⌝ }
-    requires { ⌜ (at + 21 ≤ next) × ((next ≤ length (now s)) × ((next ≤ at + 65556) × (next ≤ 262144))) ⌝ }
-    requires { ⌜ Kept (now s) g at ⌝ }
+    requires { ⌜ (at + itemHead ≤ next) × ((next ≤ length (now s)) × ((next ≤ at + 65556) × (next ≤ mostSheet))) ⌝ }
+    requires { ⌜ GroupKept (now s) g at ⌝ }
     ensures { λ r. ⌜ Taking (now (s .entry)) g (itemOf (now (s .entry)) at next key) next r ⌝ }
 {
     let kind = key.kind;
-    if kind == 168 {
+    if kind == EXTENT_ITEM {
         return marking::take_record(rows, s, at, next, key, g);
     }
-    if kind == 169 {
+    if kind == METADATA_ITEM {
         return marking::take_record(rows, s, at, next, key, g);
     }
-    if kind == 176 {
+    if kind == TREE_BLOCK_REF {
         return naming::take_ref(rows, s, at, next, key, g);
     }
-    if kind == 178 {
+    if kind == EXTENT_DATA_REF {
         return naming::take_ref(rows, s, at, next, key, g);
     }
-    if kind == 182 {
+    if kind == SHARED_BLOCK_REF {
         return naming::take_ref(rows, s, at, next, key, g);
     }
-    if kind == 184 {
+    if kind == SHARED_DATA_REF {
         return naming::take_ref(rows, s, at, next, key, g);
     }
     Turn::Next(g)
@@ -64,8 +71,8 @@ fn take(rows: &[[u8; 3]; 5], s: &[u8], at: usize, next: usize, key: Key, g: Grou
 // The item from `at` up to `next`: a new extent begins where the last one is closed.
 pub fn turn(rows: &[[u8; 3]; 5], s: &[u8], at: usize, next: usize, g: Group) -> Turn
     requires { ⌜ now rows ≡ kinds ⌝ }
-    requires { ⌜ (at + 21 ≤ next) × ((next ≤ length (now s)) × ((next ≤ at + 65556) × (next ≤ 262144))) ⌝ }
-    requires { ⌜ (itemAt (now s) at ≡ itemOf (now s) at next (itemAt (now s) at .key)) × Kept (now s) g at ⌝ }
+    requires { ⌜ (at + itemHead ≤ next) × ((next ≤ length (now s)) × ((next ≤ at + 65556) × (next ≤ mostSheet))) ⌝ }
+    requires { ⌜ (itemAt (now s) at ≡ itemOf (now s) at next (itemAt (now s) at .key)) × GroupKept (now s) g at ⌝ }
     ensures { λ r. ⌜ Turning (now (s .entry)) g (itemAt (now (s .entry)) at) next r ⌝ }
 {
     let key = item_list::key_at(s, at);

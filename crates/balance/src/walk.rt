@@ -1,30 +1,30 @@
 // The pass over the items of a sheet.
 use crate::group::Turn;
 use crate::turning;
-use item_list::Step;
+use item_list::ItemStep;
 ghost use mathlib.Core.Path.{_≡_};
 ghost use Rattle.format.specs.Names.{balanced as isBalanced};
-ghost use Rattle.item_list.specs.Steps.{Listed, itemsOf};
+ghost use Rattle.item_list.specs.Steps.{IsList, listItems};
 
 // Whether a sheet that passed questions 1 and 2 is balanced.
 pub fn balanced(sheet: &[u8]) -> bool
-    requires { ⌜ Listed (now sheet) ⌝ }
-    ensures { λ r. ⌜ r ≡ isBalanced (itemsOf (now (sheet .entry))) ⌝ }
+    requires { ⌜ IsList (now sheet) ⌝ }
+    ensures { λ r. ⌜ r ≡ isBalanced (listItems (now (sheet .entry))) ⌝ }
 {
     let rows = inline_refs::rows();
     let mut at: usize = 1;
     let mut g = turning::begin(0);
     loop {
         match item_list::step_at(sheet, at) {
-            Step::Whole { next } => match turning::turn(&rows, sheet, at, next, g) {
+            ItemStep::Whole { next } => match turning::turn(&rows, sheet, at, next, g) {
                 Turn::Next(after) => {
                     g = after;
                     at = next;
                 }
                 Turn::Bad => return false,
             },
-            Step::End => return g.total == g.weight,
-            Step::Broken => return false,
+            ItemStep::End => return g.total == g.weight,
+            ItemStep::Broken => return false,
         }
     }
 }

@@ -7,7 +7,7 @@ use native.Mathlib.Nat.{mod-lt, mod-mod, mod-eq-of-lt, pow-succ', add-suc, lt-of
 use lib.Pow.{pow-pos, pow-add}
 use lib.Bits.{bitXor, xor-zero-r, xor-comm, xor-shr, xor-mod, xor-lt}
 use Rattle.fields.specs.Numbers.{leBytes}
-use Rattle.crc32c.specs.Register.{crc32c, feed, step, steps, byteStep, run}
+use Rattle.crc32c.specs.Register.{crc32c, feed, step, steps, byteStep, crcRun}
 use Rattle.crc32c.proofs.Xor.{xor-assoc}
 use Rattle.crc32c.proofs.Steps.{steps-add, steps-split, byte-by-table}
 
@@ -58,8 +58,8 @@ module _ (p : ℕ) where
       ∙ ap₂ bitXor (sym (xor-shr r x 8)) (ap (steps p 8) (low-byte r x))
       ∙ sym (eight-by-table (bitXor r x))
 
-  pub run-at-once : (n r x : ℕ) → x < 256 ^ n → run p r (leBytes n x) ≡ steps p (8 * n) (bitXor r x)
-  unfolding run steps leBytes
+  pub run-at-once : (n r x : ℕ) → x < 256 ^ n → crcRun p r (leBytes n x) ≡ steps p (8 * n) (bitXor r x)
+  unfolding crcRun steps leBytes
   run-at-once zero r x h =
       let none : x ≡ 0 = omega arith in
       sym (ap (bitXor r) none ∙ xor-zero-r r)
@@ -93,7 +93,7 @@ module _ (p : ℕ) (small : p < 2 ^ 32) where
   steps-lt (suc n) z h = steps-lt n (step p z) (step-lt n z h)
 
 -- 64 steps from a register and eight bytes: the low 32 bits are all there is
-pub eight-bytes : (register x : ℕ) {y : ℕ} → register < 2 ^ 32 → x < 2 ^ 64 → y ≡ steps crc32c 64 (bitXor x register) → y % 4294967296 ≡ run crc32c register (leBytes 8 x)
+pub eight-bytes : (register x : ℕ) {y : ℕ} → register < 2 ^ 32 → x < 2 ^ 64 → y ≡ steps crc32c 64 (bitXor x register) → y % 4294967296 ≡ crcRun crc32c register (leBytes 8 x)
 eight-bytes register x {y} r< x< e =
     let both : bitXor x register < 2 ^ 64 = xor-lt 64 x register x< (omega (arith, r<)) in
     let half : steps crc32c 32 (bitXor x register) < 2 ^ 32 = steps-lt crc32c (omega arith) 32 (bitXor x register) both in

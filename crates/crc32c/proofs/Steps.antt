@@ -9,7 +9,7 @@ use lib.ListN.{length, drop, getD, drop-of-length-le}
 use lib.Seq.{drop-cons}
 use lib.Pow.{pow-pos, split}
 use lib.Bits.{bitXor, xor-zero-r, xor-self, xor-shr, xor-shifted, shifted-half, shifted-even}
-use Rattle.crc32c.specs.Register.{feed, step, steps, byteStep, run}
+use Rattle.crc32c.specs.Register.{feed, step, steps, byteStep, crcRun}
 use Rattle.crc32c.proofs.Xor.{Bit, b0, b1, bit, xor-half, xor-bit, xor-swap}
 
 module _ (p : ℕ) where
@@ -64,17 +64,17 @@ module _ (p : ℕ) where
       ∙ ap (λ (y : ℕ). bitXor y (steps p 8 (bitXor r b % 2 ^ 8)))
       (xor-shr r b 8 ∙ ap (bitXor (r / 2 ^ 8)) (div-eq-of-lt h) ∙ xor-zero-r (r / 2 ^ 8))
 
-  pub run-append : (xs ys : List ℕ) (r : ℕ) → run p r (xs ++ ys) ≡ run p (run p r xs) ys
-  unfolding run
+  pub run-append : (xs ys : List ℕ) (r : ℕ) → crcRun p r (xs ++ ys) ≡ crcRun p (crcRun p r xs) ys
+  unfolding crcRun
   run-append [] ys r = refl
   run-append (x ∷ xs) ys r = run-append xs ys (byteStep p r x)
 
   -- one byte more of a run, and its end
   pub run-more : (r : ℕ) (bs : List ℕ) (i : ℕ) → i < length bs
-      → run p (byteStep p r (getD bs i 0)) (drop (i + 1) bs) ≡ run p r (drop i bs)
-  unfolding run
+      → crcRun p (byteStep p r (getD bs i 0)) (drop (i + 1) bs) ≡ crcRun p r (drop i bs)
+  unfolding crcRun
   run-more r bs i h = rw (add-one, drop-cons bs i 0 h)
 
-  pub run-done : (r : ℕ) (bs : List ℕ) (i : ℕ) → length bs ≤ i → run p r (drop i bs) ≡ r
-  unfolding run
-  run-done r bs i h = ap (run p r) (drop-of-length-le bs h)
+  pub run-done : (r : ℕ) (bs : List ℕ) (i : ℕ) → length bs ≤ i → crcRun p r (drop i bs) ≡ r
+  unfolding crcRun
+  run-done r bs i h = ap (crcRun p r) (drop-of-length-le bs h)

@@ -1,5 +1,5 @@
 -- The CRC32C register of RFC 3720, on natural numbers: a byte that goes in, and a run over bytes, each with the polynomial as a
--- parameter. Its steps, bit by bit, are those of `crc32c_steps`. Document 01, section "The leaves: hash and table", starts it at
+-- parameter. Its steps, bit by bit, are those of `crc32c_tables`. Document 01, section "The leaves: hash and table", starts it at
 -- all ones, leaves it without final inversion, and takes the polynomial 82f63b78, reflected. Assumes nothing.
 use mathlib.Core.List.{List, [], _∷_}
 use Prim.Native.Nat.{ℕ, _-_, _^_}
@@ -12,9 +12,9 @@ unfoldable pub byteStep : ℕ → ℕ → ℕ → ℕ
 byteStep polynomial register byte = steps polynomial 8 (bitXor register byte)
 
 -- a run over bytes, the first byte first
-unfoldable pub run : ℕ → ℕ → List ℕ → ℕ
-run polynomial register [] = register
-run polynomial register (byte ∷ bytes) = run polynomial (byteStep polynomial register byte) bytes
+unfoldable pub crcRun : ℕ → ℕ → List ℕ → ℕ
+crcRun polynomial register [] = register
+crcRun polynomial register (byte ∷ bytes) = crcRun polynomial (byteStep polynomial register byte) bytes
 
 -- the register before the first byte
 abbrev pub allOnes : ℕ

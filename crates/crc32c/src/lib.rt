@@ -4,7 +4,7 @@
 // over numbers takes the entries one by one and makes none.
 ghost use mathlib.Core.Path.{_≡_};
 ghost use mathlib.Core.List.{_++_};
-ghost use Rattle.crc32c.specs.Register.{crc32c, allOnes, tableOf, steps, byteStep, run, inverted};
+ghost use Rattle.crc32c.specs.Register.{crc32c, allOnes, tableOf, steps, byteStep, crcRun, inverted};
 ghost use Rattle.fields.specs.Numbers.{leBytes};
 
 // The register after one more byte, by a lent table.
@@ -27,7 +27,7 @@ pub fn byte_step(register: u32, b: u8) -> u32
 
 // The register after a run over bytes.
 pub fn update(register: u32, bytes: &[u8]) -> u32
-    ensures { λ r. ⌜ r ≡ run crc32c register (now (bytes .entry)) ⌝ }
+    ensures { λ r. ⌜ r ≡ crcRun crc32c register (now (bytes .entry)) ⌝ }
 {
     let t = crc32c_tables::table();
     let mut r = register;
@@ -54,7 +54,7 @@ fn down(y: u64) -> u64
 // The register after a run over the eight bytes of `x`, lowest first. All eight are xored in at once: those that are not yet at
 // the low end move down with the register. A loop, so that `down` too is called in one place alone.
 pub fn u64_in(register: u32, x: u64) -> u32
-    ensures { λ r. ⌜ r ≡ run crc32c register (leBytes 8 x) ⌝ }
+    ensures { λ r. ⌜ r ≡ crcRun crc32c register (leBytes 8 x) ⌝ }
 {
     let mut y = x ^ (register as u64);
     let mut i: u32 = 0;
@@ -67,14 +67,14 @@ pub fn u64_in(register: u32, x: u64) -> u32
 
 // From all ones: the register after a run over the eight bytes of `a`, lowest first.
 pub fn run_one(a: u64) -> u32
-    ensures { λ r. ⌜ r ≡ run crc32c allOnes (leBytes 8 a) ⌝ }
+    ensures { λ r. ⌜ r ≡ crcRun crc32c allOnes (leBytes 8 a) ⌝ }
 {
     u64_in(0xffff_ffff, a)
 }
 
 // The same over `b` and then `c`.
 pub fn run_two(b: u64, c: u64) -> u32
-    ensures { λ r. ⌜ r ≡ run crc32c allOnes (leBytes 8 b ++ leBytes 8 c) ⌝ }
+    ensures { λ r. ⌜ r ≡ crcRun crc32c allOnes (leBytes 8 b ++ leBytes 8 c) ⌝ }
 {
     let first = u64_in(0xffff_ffff, b);
     u64_in(first, c)

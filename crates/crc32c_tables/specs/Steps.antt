@@ -24,10 +24,10 @@ steps polynomial zero register = register
 steps polynomial (suc n) register = steps polynomial n (step polynomial register)
 
 -- `count` entries of a list, from entry `i` on, where entry n is `f n`
-unfoldable pub entries : (ℕ → ℕ) → ℕ → ℕ → List ℕ
-entries f zero i = []
-entries f (suc count) i = f i ∷ entries f count (suc i)
+unfoldable pub tableEntries : (ℕ → ℕ) → ℕ → ℕ → List ℕ
+tableEntries f zero i = []
+tableEntries f (suc count) i = f i ∷ tableEntries f count (suc i)
 
 -- the table of a polynomial: 256 entries, and entry n is n after eight steps
 unfoldable pub tableOf : ℕ → List ℕ
-tableOf polynomial = entries (steps polynomial 8) 256 0
+tableOf polynomial = tableEntries (steps polynomial 8) 256 0

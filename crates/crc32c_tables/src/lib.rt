@@ -1,7 +1,5 @@
-// Tables of the steps of the CRC32C register of RFC 3720: what each byte is after 8 and after 16 of them.
-//
-// The table of eight steps stands here as an array, to be lent, and in after_8.rt entry by entry. The other one is there, with
-// the two of `crc32c_far_tables`, so that four bytes can be taken at once.
+// The steps of the CRC32C register of RFC 3720, and tables of them: what each byte is after 8, 16, 24 and 32 steps, so that four
+// bytes can be taken at once. The table of eight steps stands here as an array, to be lent, and in after_8.rt entry by entry.
 pub mod after_16;
 pub mod after_24;
 pub mod after_32;

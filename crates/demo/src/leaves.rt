@@ -5,7 +5,7 @@ use crate::say;
 use crate::shifts;
 use format::Edited;
 use format::Judged;
-use item_list::Step;
+use item_list::ItemStep;
 
 // Small, so that a leaf is soon full: the interpreter of `rt try` allows ten million steps.
 pub const NODESIZE: u32 = 4096;
@@ -21,7 +21,7 @@ fn fits(list: &[u8]) -> bool {
 fn start_of(list: &[u8], number: usize) -> usize {
     let mut start: u64 = 0;
     let mut size: u64 = 0;
-    let refusal = leaf_edit::item_place(list, number, &mut start, &mut size);
+    let refusal = leaf_edit::item_range(list, number, &mut start, &mut size);
     if refusal != 0 {
         return 1;
     }
@@ -52,7 +52,7 @@ fn maps_from(list: &[u8], first: u32) -> u32 {
     let mut shift = first;
     while shift < 1000 {
         match item_list::step_at(list, at) {
-            Step::Whole { next } => {
+            ItemStep::Whole { next } => {
                 let key = item_list::key_at(list, at);
                 if key.objectid != shifts::map(shift) {
                     return 0;
@@ -60,8 +60,8 @@ fn maps_from(list: &[u8], first: u32) -> u32 {
                 at = next;
                 shift += 1;
             }
-            Step::Broken => return 0,
-            Step::End => return shift,
+            ItemStep::Broken => return 0,
+            ItemStep::End => return shift,
         }
     }
     0

@@ -3,9 +3,9 @@ use crate::card;
 use crate::say;
 use format::Key;
 use inline_refs::Cursor;
+use inline_refs::RefStep;
 use inline_refs::Start;
-use inline_refs::Step as RefStep;
-use item_list::Step;
+use item_list::ItemStep;
 ghost use Prim.Native.Nat.{_+_, _≤_};
 ghost use lib.ListN.{length};
 
@@ -125,12 +125,12 @@ pub fn print(list: &[u8]) {
     let mut at: usize = 1;
     loop {
         match item_list::step_at(list, at) {
-            Step::Whole { next } => {
+            ItemStep::Whole { next } => {
                 item(list, at, next);
                 at = next;
             }
-            Step::Broken => return,
-            Step::End => return,
+            ItemStep::Broken => return,
+            ItemStep::End => return,
         }
     }
 }

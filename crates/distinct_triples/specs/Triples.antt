@@ -10,12 +10,12 @@ use Rattle.fields.specs.Numbers.{words}
 use Rattle.format.specs.References.{kinds}
 
 -- how many bytes a data reference takes: its type byte, and the payload that its row, the third, says
-abbrev pub dataSize : ℕ
-dataSize = 1 + getD (getD kinds 2 []) 1 0
+abbrev pub tripleSize : ℕ
+tripleSize = 1 + getD (getD kinds 2 []) 1 0
 
 -- the triple of number i of the data references from a position on: three numbers behind the type byte
 unfoldable pub tripleOf : List ℕ → ℕ → ℕ → List ℕ
-tripleOf body from i = words 3 (drop (from + dataSize * i + 1) body)
+tripleOf body from i = words 3 (drop (from + tripleSize * i + 1) body)
 
 -- by the first number, then by the next
 unfoldable pub lower : List ℕ → List ℕ → Bool
@@ -31,7 +31,7 @@ pub record Distinct (body : List ℕ) (from n : ℕ) : Type 0 where
   pub differ : (i j : ℕ) → i < j → j < n → same (tripleOf body from i) (tripleOf body from j) ≡ false
 
 -- along an order of n references each triple is below the next
-pub record Rising (body : List ℕ) (from : ℕ) (order : List ℕ) (n : ℕ) : Type 0 where
+pub record RisingTriples (body : List ℕ) (from : ℕ) (order : List ℕ) (n : ℕ) : Type 0 where
   pub step : (k : ℕ) → suc k < n → Below body from (getD order k 0) (getD order (suc k) 0)
 
 -- each of the first m of n references stands in the order where its rank says

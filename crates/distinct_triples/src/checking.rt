@@ -5,12 +5,13 @@ ghost use mathlib.Core.Path.{_≡_};
 ghost use mathlib.Core.Bool.{true};
 ghost use Prim.Native.Nat.{_+_, _*_, _≤_};
 ghost use lib.ListN.{length};
-ghost use Rattle.distinct_triples.specs.Triples.{dataSize, Rising, Covers, Distinct};
+ghost use Rattle.distinct_triples.specs.Triples.{tripleSize, RisingTriples, Covers, Distinct};
+ghost use Rattle.format.specs.Constants.{mostSheet};
 
 // Along it each triple is below the next.
 fn rising(body: &[u8], from: usize, n: usize, order: &[u16]) -> bool
-    requires { ⌜ (from + dataSize * n ≤ length (now body)) × ((length (now body) ≤ 262144) × (n ≤ length (now order))) ⌝ }
-    ensures { λ r. ⌜ (r ≡ true → Rising (now (body .entry)) from (now (order .entry)) n) ⌝ }
+    requires { ⌜ (from + tripleSize * n ≤ length (now body)) × ((length (now body) ≤ mostSheet) × (n ≤ length (now order))) ⌝ }
+    ensures { λ r. ⌜ (r ≡ true → RisingTriples (now (body .entry)) from (now (order .entry)) n) ⌝ }
 {
     let mut k: usize = 1;
     while k < n {
@@ -60,7 +61,7 @@ fn covers(order: &[u16], rank: &[u16], n: usize) -> bool
 
 // Where the answer is `true`, no two of the n data references from `from` on have the same triple.
 fn distinct(body: &[u8], from: usize, n: usize, order: &mut [u16], rank: &mut [u16]) -> bool
-    requires { ⌜ (from + dataSize * n ≤ length (now body)) × ((length (now body) ≤ 262144) × (n ≤ 2259)) ⌝ }
+    requires { ⌜ (from + tripleSize * n ≤ length (now body)) × ((length (now body) ≤ mostSheet) × (n ≤ 2259)) ⌝ }
     requires { ⌜ (n ≤ length (now order)) × (n ≤ length (now rank)) ⌝ }
     ensures { λ r. ⌜ (r ≡ true → Distinct (now (body .entry)) from n) ⌝ }
 {
@@ -74,7 +75,7 @@ fn distinct(body: &[u8], from: usize, n: usize, order: &mut [u16], rank: &mut [u
 
 // The lower of `least` and q, if the triple of number q is that of number p, which stands before it in the order.
 fn earlier(body: &[u8], from: usize, n: usize, p: usize, q: usize, least: usize) -> usize
-    requires { ⌜ (from + dataSize * n ≤ length (now body)) × (length (now body) ≤ 262144) ⌝ }
+    requires { ⌜ (from + tripleSize * n ≤ length (now body)) × (length (now body) ≤ mostSheet) ⌝ }
     ensures { λ r. ⌜ r ≤ least ⌝ }
 {
     if least <= q {
@@ -89,7 +90,7 @@ fn earlier(body: &[u8], from: usize, n: usize, p: usize, q: usize, least: usize)
 // The number of the first reference whose triple stands before it too, as an order along which no triple falls shows it. Which number
 // it is, is left open on purpose, here and in `earlier`: `distinct` is asked again of those before it.
 fn first_repeat(body: &[u8], from: usize, n: usize, order: &[u16]) -> usize
-    requires { ⌜ (from + dataSize * n ≤ length (now body)) × ((length (now body) ≤ 262144) × (n ≤ length (now order))) ⌝ }
+    requires { ⌜ (from + tripleSize * n ≤ length (now body)) × ((length (now body) ≤ mostSheet) × (n ≤ length (now order))) ⌝ }
     ensures { λ r. ⌜ r ≤ n ⌝ }
 {
     let mut least = n;
@@ -112,7 +113,7 @@ fn first_repeat(body: &[u8], from: usize, n: usize, order: &[u16]) -> usize
 // before the first one whose triple stands twice. How far it gets is left open on purpose: the caller compares the others one by
 // one, so a lower number costs time and changes no answer.
 pub fn distinct_front(body: &[u8], from: usize, n: usize) -> usize
-    requires { ⌜ (from + dataSize * n ≤ length (now body)) × ((length (now body) ≤ 262144) × (n ≤ 2259)) ⌝ }
+    requires { ⌜ (from + tripleSize * n ≤ length (now body)) × ((length (now body) ≤ mostSheet) × (n ≤ 2259)) ⌝ }
     ensures { λ r. ⌜ Distinct (now (body .entry)) from r ⌝ }
 {
     let mut order: [u16; 2260] = [0; 2260];

@@ -17,14 +17,14 @@ use Rattle.format.specs.declared.Picked.{Picked}
 
 edited-code : (a : Answer (List ℕ)) → editedCode (editedOf a) ≡ codeOf a
 unfolding editedOf codeOf
-edited-code (refused number) = refl
+edited-code (refused refusal) = refl
 edited-code absent = refl
 edited-code remove = refl
 edited-code (accepted result) = refl
 
 edited-size : (a : Answer (List ℕ)) → editedSize (editedOf a) ≡ length (lentPart a)
 unfolding editedOf lentPart
-edited-size (refused number) = refl
+edited-size (refused refusal) = refl
 edited-size absent = refl
 edited-size remove = refl
 edited-size (accepted result) = refl
@@ -40,21 +40,21 @@ coded {a} h e = record {
 
 taken-code : (a : Answer TakenOut) → takenCode (takenOf a) ≡ codeOf a
 unfolding takenOf codeOf
-taken-code (refused number) = refl
+taken-code (refused refusal) = refl
 taken-code absent = refl
 taken-code remove = refl
 taken-code (accepted out) = refl
 
 taken-size : (a : Answer TakenOut) → takenSize (takenOf a) ≡ length (lentPart (bytesOf a))
 unfolding takenOf lentPart bind
-taken-size (refused number) = refl
+taken-size (refused refusal) = refl
 taken-size absent = refl
 taken-size remove = refl
 taken-size (accepted out) = refl
 
 taken-count : (a : Answer TakenOut) → takenCount (takenOf a) ≡ lentNumber (countIn a)
 unfolding takenOf lentNumber bind
-taken-count (refused number) = refl
+taken-count (refused refusal) = refl
 taken-count absent = refl
 taken-count remove = refl
 taken-count (accepted out) = refl
@@ -71,14 +71,14 @@ coded-taken {a} h e = record {
 
 told-code : (a : Answer ℕ) → toldCode (toldOf a) ≡ codeOf a
 unfolding toldOf codeOf
-told-code (refused number) = refl
+told-code (refused refusal) = refl
 told-code absent = refl
 told-code remove = refl
 told-code (accepted number) = refl
 
 told-number : (a : Answer ℕ) → toldNumber (toldOf a) ≡ lentNumber a
 unfolding toldOf lentNumber
-told-number (refused number) = refl
+told-number (refused refusal) = refl
 told-number absent = refl
 told-number remove = refl
 told-number (accepted number) = refl
@@ -93,17 +93,17 @@ coded-number {a} h e = record {
 
 filed-code : (a : Answer Key) → filedCode (filedOf a) ≡ codeOf a
 unfolding filedOf codeOf
-filed-code (refused number) = refl
+filed-code (refused refusal) = refl
 filed-code absent = refl
 filed-code remove = refl
 filed-code (accepted key) = refl
 
 -- a part of the key, and 0 without one
 filed-part : (part : Filed → ℕ) (field : Key → ℕ) → ((key : Key) → part (filedOf (accepted key)) ≡ field key)
-    → ((number : ℕ) → part (filedOf (refused number)) ≡ 0) → (a : Answer Key)
+    → ((refusal : ℕ) → part (filedOf (refused refusal)) ≡ 0) → (a : Answer Key)
     → part (filedOf a) ≡ lentNumber (bind a (λ key. accepted (field key)))
 unfolding filedOf lentNumber bind
-filed-part part field is without (refused number) = without number
+filed-part part field is without (refused refusal) = without refusal
 filed-part part field is without absent = without 100
 filed-part part field is without remove = without 101
 filed-part part field is without (accepted key) = is key
@@ -121,14 +121,14 @@ coded-key {a} h e = record {
 
 judged-code : (a : Answer Bool) → judgedCode (judgedOf a) ≡ codeOf a
 unfolding judgedOf codeOf
-judged-code (refused number) = refl
+judged-code (refused refusal) = refl
 judged-code absent = refl
 judged-code remove = refl
 judged-code (accepted judgement) = refl
 
 judged-number : (a : Answer Bool) → judgedNumber (judgedOf a) ≡ lentNumber (asNumber a)
 unfolding judgedOf lentNumber bind
-judged-number (refused number) = refl
+judged-number (refused refusal) = refl
 judged-number absent = refl
 judged-number remove = refl
 judged-number (accepted judgement) = refl
@@ -143,7 +143,7 @@ coded-bool {a} h e = record {
 
 picked-code : (a : Answer InlineRef) → pickedCode (pickedOf a) ≡ codeOf a
 unfolding pickedOf codeOf
-picked-code (refused number) = refl
+picked-code (refused refusal) = refl
 picked-code absent = refl
 picked-code remove = refl
 picked-code (accepted r) = refl

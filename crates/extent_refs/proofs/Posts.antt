@@ -20,13 +20,12 @@ use Rattle.format.specs.Ledger.{posted}
 use Rattle.format.specs.History.{answerTo, balancedSheet}
 use Rattle.theorems.specs.Demand.{Wide, Wides, Decided, no, yes}
 use Rattle.theorems.proofs.Decided.{decided}
-use Rattle.theorems.specs.Calls.{nextSheet, postingOf, postingsOf, Demand3}
-use Rattle.theorems.specs.Calls.{Kept as KeptCall, AllKept as AllKeptCalls}
+use Rattle.theorems.specs.Calls.{CallKept, CallsKept, nextSheet, postingOf, postingsOf, CallsDemand3}
 use Rattle.theorems.proofs.Calls.{calls-demand-3}
 use Rattle.extent_refs.specs.Exports.{Coded}
 use Rattle.extent_refs.specs.Postings.{changeOf, postedIf, standIn}
 use Rattle.extent_refs.proofs.Postings.{stands-in}
-use Rattle.extent_refs.specs.Posts.{Post, asked, Kept, isWide, answerBy, callOf, AllKept, callsOf}
+use Rattle.extent_refs.specs.Posts.{PostCall, asked, PostKept, isWide, answerBy, callOf, PostsKept, callsOf}
 
 -- ---- one call
 
@@ -50,14 +49,14 @@ answered answer {code} {size} (yes s e) k =
       output = k .output;
     }
 
-kept : (sheet : List ℕ) (p : Post) → Kept sheet p → KeptCall sheet (callOf p)
+kept : (sheet : List ℕ) (p : PostCall) → PostKept sheet p → CallKept sheet (callOf p)
 unfolding answerTo
 kept sheet p k =
     answered (answerTo sheet (postingOf (callOf p))) (decided sheet (postingOf (callOf p)))
     (subst (λ (x : Answer (List ℕ)). Coded x (p .code) (p .size) (p .old) (p .new))
     (sym (stands-in (p .nodesize) sheet (asked p) (length (p .old)))) k)
 
-wide : (p : Post) → T (isWide p) → Wide (standIn (asked p))
+wide : (p : PostCall) → T (isWide p) → Wide (standIn (asked p))
 unfolding changeOf standIn
 wide p t = go (eqb (p .number) 1) (eqb (p .number) 2) (eqb (p .number) 3) (eqb (p .number) 4) (eqb (p .number) 5) (eqb (p .number) 6)
   where
@@ -95,15 +94,15 @@ wide p t = go (eqb (p .number) 1) (eqb (p .number) 2) (eqb (p .number) 3) (eqb (
 
 -- ---- a list of calls
 
-pub all-kept : (sheet : List ℕ) (posts : List Post) → AllKept sheet posts → AllKeptCalls sheet (callsOf posts)
+pub all-kept : (sheet : List ℕ) (posts : List PostCall) → PostsKept sheet posts → CallsKept sheet (callsOf posts)
 all-kept sheet [] k = tt
 all-kept sheet (p ∷ posts) (k, ks) = (kept sheet p k, all-kept (nextSheet sheet (callOf p .result) (p .new)) posts ks)
 
-wides : (posts : List Post) → T (all isWide posts) → Wides (postingsOf (callsOf posts))
+wides : (posts : List PostCall) → T (all isWide posts) → Wides (postingsOf (callsOf posts))
 wides [] t = tt
 wides (p ∷ posts) t = let h = and-yes (isWide p) (all isWide posts) t in (wide p (h .0), wides posts (h .1))
 
-pub posts-demand-3 : (sheet : List ℕ) (posts : List Post) → T (areBytes sheet) → T (balancedSheet sheet) → T (all isWide posts)
-    → AllKept sheet posts → Demand3 sheet (callsOf posts)
+pub posts-demand-3 : (sheet : List ℕ) (posts : List PostCall) → T (areBytes sheet) → T (balancedSheet sheet) → T (all isWide posts)
+    → PostsKept sheet posts → CallsDemand3 sheet (callsOf posts)
 posts-demand-3 sheet posts bytes balance wide kept =
     calls-demand-3 sheet (callsOf posts) bytes balance (wides posts wide) (all-kept sheet posts kept)

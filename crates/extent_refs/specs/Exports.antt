@@ -82,28 +82,28 @@ abbrev pub editedCode : Edited → ℕ
 editedCode (Written size) = 0
 editedCode Absent = 100
 editedCode Remove = 101
-editedCode (Refused number) = number
+editedCode (Refused refusal) = refusal
 
 abbrev pub editedSize : Edited → ℕ
 editedSize (Written size) = size
 editedSize Absent = 0
 editedSize Remove = 0
-editedSize (Refused number) = 0
+editedSize (Refused refusal) = 0
 
 abbrev pub takenCode : Taken → ℕ
 takenCode (Out size count) = 0
 takenCode NoMatch = 100
-takenCode (Denied number) = number
+takenCode (Denied refusal) = refusal
 
 abbrev pub takenSize : Taken → ℕ
 takenSize (Out size count) = size
 takenSize NoMatch = 0
-takenSize (Denied number) = 0
+takenSize (Denied refusal) = 0
 
 abbrev pub takenCount : Taken → ℕ
 takenCount (Out size count) = count
 takenCount NoMatch = 0
-takenCount (Denied number) = 0
+takenCount (Denied refusal) = 0
 
 abbrev pub toldCode : Told → ℕ
 toldCode (Value number) = 0

@@ -15,7 +15,7 @@ use Rattle.extent_refs.specs.Postings.{changeOf, postedIf, standIn}
 
 -- ---- one call: the numbers that it was given, what the lent output held before and after, the code and the lent length
 
-pub record Post : Type 0 where
+pub record PostCall : Type 0 where
   pub nodesize : ℕ
   pub number : ℕ
   pub extent : ℕ
@@ -28,15 +28,15 @@ pub record Post : Type 0 where
   pub code : ℕ
   pub size : ℕ
 
-abbrev pub asked : Post → Option Change
+abbrev pub asked : PostCall → Option Change
 asked p = changeOf (p .number) (p .extent) (p .a) (p .b) (p .c) (p .amount)
 
 -- the contract of the call
-abbrev pub Kept : List ℕ → Post → Type 0
-Kept sheet p = Coded (postedIf (p .nodesize) sheet (asked p) (length (p .old))) (p .code) (p .size) (p .old) (p .new)
+abbrev pub PostKept : List ℕ → PostCall → Type 0
+PostKept sheet p = Coded (postedIf (p .nodesize) sheet (asked p) (length (p .old))) (p .code) (p .size) (p .old) (p .new)
 
 -- what the types of the numbers give: the fields of a name are 64 bits wide
-abbrev pub isWide : Post → Bool
+abbrev pub isWide : PostCall → Bool
 isWide p = ltb (p .a) (2 ^ 64) && (ltb (p .b) (2 ^ 64) && ltb (p .c) (2 ^ 64))
 
 -- ---- the call of `post` that it is
@@ -46,7 +46,7 @@ abbrev pub answerBy : ℕ → ℕ → Edited
 answerBy code size = cond (eqb code 0) (Written size) (Refused code)
 
 -- a number that is no change's, and a shared kind above 8 bits, are a change that is refused 3
-abbrev pub callOf : Post → Call
+abbrev pub callOf : PostCall → Call
 callOf p =
     record {
       nodesize = p .nodesize;
@@ -58,10 +58,10 @@ callOf p =
 
 -- ---- a list of calls
 
-abbrev pub AllKept : List ℕ → List Post → Type 0
-AllKept sheet [] = Unit {0}
-AllKept sheet (p ∷ posts) = Kept sheet p × AllKept (nextSheet sheet (callOf p .result) (p .new)) posts
+abbrev pub PostsKept : List ℕ → List PostCall → Type 0
+PostsKept sheet [] = Unit {0}
+PostsKept sheet (p ∷ posts) = PostKept sheet p × PostsKept (nextSheet sheet (callOf p .result) (p .new)) posts
 
-abbrev pub callsOf : List Post → List Call
+abbrev pub callsOf : List PostCall → List Call
 callsOf [] = []
 callsOf (p ∷ posts) = callOf p ∷ callsOf posts

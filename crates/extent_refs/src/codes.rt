@@ -25,7 +25,7 @@ pub fn put_edited(answer: Edited, written: &mut u64) -> u32
         }
         Edited::Absent => ABSENT,
         Edited::Remove => REMOVE,
-        Edited::Refused(number) => number,
+        Edited::Refused(refusal) => refusal,
     }
 }
 
@@ -44,7 +44,7 @@ pub fn put_taken(answer: Taken, size: &mut u64, count: &mut u64) -> u32
             ACCEPTED
         }
         Taken::Absent => ABSENT,
-        Taken::Refused(number) => number,
+        Taken::Refused(refusal) => refusal,
     }
 }
 
@@ -57,7 +57,7 @@ pub fn put_told(answer: Told, value: &mut u64) -> u32
             *value = number;
             ACCEPTED
         }
-        Told::Refused(number) => number,
+        Told::Refused(refusal) => refusal,
     }
 }
 
@@ -74,7 +74,7 @@ pub fn put_filed(answer: Filed, objectid: &mut u64, kind: &mut u64, offset: &mut
             *offset = key.offset;
             ACCEPTED
         }
-        Filed::Refused(number) => number,
+        Filed::Refused(refusal) => refusal,
     }
 }
 
@@ -90,7 +90,7 @@ pub fn put_judged(answer: Judged, value: &mut u64) -> u32
             }
             ACCEPTED
         }
-        Judged::Refused(number) => number,
+        Judged::Refused(refusal) => refusal,
     }
 }
 
@@ -115,6 +115,6 @@ pub fn put_picked(
             *len = reference.len as u64;
             ACCEPTED
         }
-        Picked::Refused(number) => number,
+        Picked::Refused(refusal) => refusal,
     }
 }

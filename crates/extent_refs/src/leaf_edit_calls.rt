@@ -1,7 +1,7 @@
 // Item lists: the calls of `leaf_edit.rs`.
 ghost use lib.ListN.{length};
 ghost use Rattle.format.specs.Items.{keyOf, heldSheet};
-ghost use Rattle.format.specs.Sheets.{insert, insertUnbounded, delete, fit, fits as fitsWith, split, splitToFit, heldCuts, item, itemStart};
+ghost use Rattle.format.specs.Sheets.{insert, insertUnbounded, delete, fit, fits as fitsWith, split, splitToFit, heldCuts, itemData, itemStart};
 ghost use Rattle.extent_refs.specs.Exports.{Coded, CodedBool, CodedPart};
 use format::Key;
 
@@ -108,7 +108,7 @@ pub extern "C" fn leaf_edit_split_to_fit(
 // In Rattle `leaf_edit::item` returns the part itself.
 #[no_mangle]
 pub extern "C" fn leaf_edit_item(sheet: &[u8], number: u64, start: &mut u64, len: &mut u64) -> u32
-    ensures { λ r. ⌜ CodedPart (item (now (sheet .entry)) number) (itemStart (now (sheet .entry)) number) r (now (start .exit)) (now (len .exit)) ⌝ }
+    ensures { λ r. ⌜ CodedPart (itemData (now (sheet .entry)) number) (itemStart (now (sheet .entry)) number) r (now (start .exit)) (now (len .exit)) ⌝ }
 {
-    leaf_edit::item_place(sheet, number as usize, start, len)
+    leaf_edit::item_range(sheet, number as usize, start, len)
 }

@@ -1,5 +1,5 @@
 // Document 01's books: one change posted.
-ghost use Rattle.extent_refs.specs.Posts.{Kept};
+ghost use Rattle.extent_refs.specs.Posts.{PostKept};
 
 #[no_mangle]
 pub extern "C" fn ledger_post(
@@ -14,7 +14,7 @@ pub extern "C" fn ledger_post(
     out: &mut [u8],
     len: &mut u64,
 ) -> u32
-    ensures { λ r. ⌜ Kept (now (sheet .entry)) (record { nodesize = nodesize; number = change; extent = extent; a = a; b = b; c = c; amount = amount; old = now (out .entry); new = now (out .exit); code = r; size = now (len .exit) }) ⌝ }
+    ensures { λ r. ⌜ PostKept (now (sheet .entry)) (record { nodesize = nodesize; number = change; extent = extent; a = a; b = b; c = c; amount = amount; old = now (out .entry); new = now (out .exit); code = r; size = now (len .exit) }) ⌝ }
 {
     let posting = crate::change_of(change, extent, a, b, c, amount);
     let answer = ledger::post(sheet, nodesize, posting, out);

@@ -1,5 +1,6 @@
 // Every exported call, for `rt staticlib extent_refs`: an archive holds only the exports of its own crate. An export hands its
-// arguments to the function of its name and the answer back as numbers.
+// arguments to the function of its name and the answer back as numbers (codes.rt); a change of the ledger comes as numbers
+// (changes.rt).
 mod backref_calls;
 mod changes;
 mod codes;

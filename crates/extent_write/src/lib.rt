@@ -1,27 +1,23 @@
 // New extents: the hash that orders data references, and the bodies of a new tree block and a new data extent.
+use format::EXTENT_DATA_REF;
+use format::FLAG_DATA;
+use format::FLAG_TREE_BLOCK;
+use format::METADATA_ITEM;
+use format::MOST_DATA;
+use format::TREE_BLOCK_REF;
 ghost use mathlib.Core.Path.{_≡_};
 ghost use mathlib.Core.List.{[], _∷_};
 ghost use Prim.Native.Nat.{_*_, _^_, _≤_};
 ghost use lib.Bits.{bitXor};
 ghost use lib.Dec.{ltb};
 ghost use lib.ListN.{length};
-ghost use Rattle.crc32c.specs.Register.{crc32c, allOnes, run};
+ghost use Rattle.crc32c.specs.Register.{crc32c, allOnes, crcRun};
 ghost use Rattle.fields.specs.Numbers.{leBytes};
 ghost use Rattle.fields.specs.Parts.{written};
 ghost use Rattle.format.specs.Questions.{Answered, accepted};
 ghost use Rattle.format.specs.Hash.{dataRefHash};
 ghost use Rattle.format.specs.Bodies.{heldBody, dataExtentBody, treeBlockBody, treeBlockKey};
-ghost use Rattle.extent_write.specs.Runs.{Fits};
-
-const METADATA_ITEM: u8 = 169;
-
-const TREE_BLOCK_REF: u8 = 176;
-
-const EXTENT_DATA_REF: u8 = 178;
-
-const FLAG_DATA: u64 = 1;
-
-const FLAG_TREE_BLOCK: u64 = 2;
+ghost use Rattle.extent_write.specs.Runs.{RunFits};
 
 // The refusal of a body that the lent output or the limit does not hold.
 const NO_ROOM: u32 = 21;
@@ -40,7 +36,7 @@ pub struct TreeRun {
 }
 
 pub fn tree_run(tree: u64) -> TreeRun
-    ensures { λ r. ⌜ (r .tree ≡ tree) × Fits r ⌝ }
+    ensures { λ r. ⌜ (r .tree ≡ tree) × RunFits r ⌝ }
 {
     TreeRun {
         tree,
@@ -50,7 +46,7 @@ pub fn tree_run(tree: u64) -> TreeRun
 
 // Tree 0, whose register is known, where no tree is asked for.
 pub fn no_tree_run() -> TreeRun
-    ensures { λ r. ⌜ (r .tree ≡ 0) × Fits r ⌝ }
+    ensures { λ r. ⌜ (r .tree ≡ 0) × RunFits r ⌝ }
 {
     TreeRun {
         tree: 0,
@@ -60,7 +56,7 @@ pub fn no_tree_run() -> TreeRun
 
 // The hash of a data reference of a tree whose register is at hand.
 pub fn hash_with(own: TreeRun, objectid: u64, offset: u64) -> u64
-    requires { ⌜ Fits own ⌝ }
+    requires { ⌜ RunFits own ⌝ }
     ensures { λ r. ⌜ r ≡ dataRefHash (own .tree) objectid offset ⌝ }
 {
     joined(own.register, crc32c::run_two(objectid, offset))
@@ -75,8 +71,8 @@ pub fn data_ref_hash(tree: u64, objectid: u64, offset: u64) -> u64
 
 // The register of a tree, without a run where it is the one at hand.
 fn register_of(tree: u64, own: TreeRun) -> u32
-    requires { ⌜ Fits own ⌝ }
-    ensures { λ r. ⌜ r ≡ run crc32c allOnes (leBytes 8 tree) ⌝ }
+    requires { ⌜ RunFits own ⌝ }
+    ensures { λ r. ⌜ r ≡ crcRun crc32c allOnes (leBytes 8 tree) ⌝ }
 {
     if tree == own.tree {
         return own.register;
@@ -84,19 +80,19 @@ fn register_of(tree: u64, own: TreeRun) -> u32
     crc32c::run_one(tree)
 }
 
-// Whether the hash of a data reference is below a place. Its top 32 bits are those of the first register alone, so the second
+// Whether the hash of a data reference is below a rank. Its top 32 bits are those of the first register alone, so the second
 // run is made only where they are equal.
-pub fn hash_below(tree: u64, objectid: u64, offset: u64, own: TreeRun, place: u64) -> bool
-    requires { ⌜ Fits own ⌝ }
-    ensures { λ r. ⌜ r ≡ ltb (dataRefHash tree objectid offset) place ⌝ }
+pub fn hash_below(tree: u64, objectid: u64, offset: u64, own: TreeRun, rank: u64) -> bool
+    requires { ⌜ RunFits own ⌝ }
+    ensures { λ r. ⌜ r ≡ ltb (dataRefHash tree objectid offset) rank ⌝ }
 {
     let one = register_of(tree, own);
     let top = (one / 2) as u64;
-    let bound = place / 4294967296;
+    let bound = rank / 4294967296;
     if top != bound {
         return top < bound;
     }
-    joined(one, crc32c::run_two(objectid, offset)) < place
+    joined(one, crc32c::run_two(objectid, offset)) < rank
 }
 
 // Bytes that are at hand go to the front of a lent output, or are refused.
@@ -107,7 +103,7 @@ pub fn put_body(bytes: &[u8], out: &mut [u8]) -> format::Edited
     if out.len() < n {
         return format::Edited::Refused(NO_ROOM);
     }
-    if 65535 < n {
+    if MOST_DATA < n {
         return format::Edited::Refused(NO_ROOM);
     }
     fields::copy_at(bytes, 0, n, out, 0);

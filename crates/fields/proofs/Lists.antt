@@ -10,7 +10,7 @@ use native.Mathlib.Decide.{decLe}
 use native.Mathlib.Nat.{lt-of-not-le}
 use lib.Dec.{T, eqb, eqb-refl, eqb→eq}
 use mir.Facts.{and-yes, yes-and}
-use Rattle.fields.specs.Lists.{sum, all, same, Cut, later, cut}
+use Rattle.fields.specs.Lists.{sum, all, same, Cut, later, firstCut}
 
 -- ---- tests
 
@@ -164,10 +164,10 @@ module _ {A : Type 0} (p : A → Bool) (x : A) (list : List A) where
   cut-step-none false b none ih e = rw b (ih refl)
   cut-step-none false b (some d) ih e = no-some (sym e)
 
-pub cut-some : {A : Type 0} (p : A → Bool) (l : List A) {c : Cut A} → cut p l ≡ some c → Found p l c
+pub cut-some : {A : Type 0} (p : A → Bool) (l : List A) {c : Cut A} → firstCut p l ≡ some c → Found p l c
 cut-some p [] e = no-some e
-cut-some p (x ∷ list) e = cut-step p x list (p x) refl (cut p list) (λ c d. cut-some p list d) e
+cut-some p (x ∷ list) e = cut-step p x list (p x) refl (firstCut p list) (λ c d. cut-some p list d) e
 
-pub cut-none : {A : Type 0} (p : A → Bool) (l : List A) → cut p l ≡ none → T (all (λ x. not (p x)) l)
+pub cut-none : {A : Type 0} (p : A → Bool) (l : List A) → firstCut p l ≡ none → T (all (λ x. not (p x)) l)
 cut-none p [] e = tt
-cut-none p (x ∷ list) e = cut-step-none p x list (p x) refl (cut p list) (cut-none p list) e
+cut-none p (x ∷ list) e = cut-step-none p x list (p x) refl (firstCut p list) (cut-none p list) e

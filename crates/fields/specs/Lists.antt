@@ -30,6 +30,6 @@ abbrev pub later : {A : Type 0} → A → Cut A → Cut A
 later x c = record { front = x ∷ c .front; hit = c .hit; back = c .back }
 
 -- at the first element that passes
-abbrev pub cut : {A : Type 0} → (A → Bool) → List A → Option (Cut A)
-cut p [] = none
-cut p (x ∷ list) = cond (p x) (some (record { front = []; hit = x; back = list })) (Option·map (later x) (cut p list))
+abbrev pub firstCut : {A : Type 0} → (A → Bool) → List A → Option (Cut A)
+firstCut p [] = none
+firstCut p (x ∷ list) = cond (p x) (some (record { front = []; hit = x; back = list })) (Option·map (later x) (firstCut p list))

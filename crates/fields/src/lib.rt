@@ -1,5 +1,5 @@
-// Numbers and bytes inside byte slices. What each call does is one `written` (specs/Parts.antt), so that calls in a
-// row compose by one law.
+// Numbers inside byte slices, and copies of lent bytes. What each call does is one `written` (specs/Parts.antt), so that calls in
+// a row compose by one law.
 mod appending;
 mod copy;
 mod get;

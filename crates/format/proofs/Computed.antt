@@ -5,15 +5,15 @@ use Prim.Native.Nat.{ℕ, _+_, _*_, _^_}
 use Rattle.fields.specs.Lists.{same}
 use Rattle.fields.specs.Numbers.{le, leBytes, be, beBytes, words, wordBytes}
 use Rattle.crc32c.specs.Register.{step, steps, byteStep}
-use Rattle.crc32c.specs.Register.{run as crcRun}
+use Rattle.crc32c.specs.Register.{crcRun}
 use Rattle.format.specs.declared.BlockRef.{BlockRef}
 use Rattle.format.specs.declared.DataRef.{DataRef}
 use Rattle.format.specs.declared.SharedRef.{SharedRef}
 use Rattle.format.specs.declared.Change.{Change}
 use Rattle.format.specs.Questions.{ask, bind, needed, found, ifAbsent, also, held, codeOf}
 use Rattle.format.specs.Hash.{dataRefHash}
-use Rattle.format.specs.References.{rowIn, known, payloadLength, countPosition, counted, fieldCount, Ref, ref, weightOf, refAt, readRefs, refBytes, refsBytes, totalOf, flagsOf, startOf, readBody, bodyBytes, placeOf, place, falls, follows}
-use Rattle.format.specs.Bodies.{triple, bodyFits, sharedKind, onBody, onHead, named, raisedBy, loweredByOne, reducedBy, onTotal, raiseTotal, lowerTotal, reduceTotal, less, dropInline, dropInlineTreeRef, dropInlineDataRef, takeInlineShared, keyedCount, dropKeyedDataRef, stops, gapAt, insertPosition, standingOr, spotAnywhere, scanned, spotByScan, isGap, standingWeight, addAt, addInlineTreeRef, addInlineData, addInlineShared, keyedDataRefBody}
+use Rattle.format.specs.References.{rowIn, known, payloadLength, countPosition, counted, fieldCount, Ref, makeRef, weightOf, refAt, readRefs, refBytes, refsBytes, totalOf, flagsOf, startOf, readBody, bodyBytes, rankOf, rank, falls, follows}
+use Rattle.format.specs.Bodies.{triple, bodyFits, sharedKind, onBody, onHead, named, raisedBy, loweredByOne, reducedBy, onTotal, raiseTotal, lowerTotal, reduceTotal, less, dropInline, dropInlineTreeRef, dropInlineDataRef, takeInlineShared, keyedCount, dropKeyedDataRef, stops, gapAt, insertPosition, standingOr, positionAnywhere, scanned, positionByScan, isGap, standingWeight, addAt, addInlineTreeRef, addInlineData, addInlineShared, keyedDataRefBody}
 use Rattle.format.specs.Items.{Item, keyOf, sameKey, keyBelow, itemLength, wholeItem, firstItem, readItems, readSheet, keyBytes, itemBytes, itemsBytes, sheetBytes, nodesizeFits, dataFits, onSheet, sheetHolds, heldSheet}
 use Rattle.format.specs.Sheets.{deleted}
 use Rattle.format.specs.Apply.{inlineLimit, isRecord, onRecord, replaced, keyedBody, applyKeyedAdd, sharedBody, applySharedAdd, flagged, dropTreeRef}
@@ -23,7 +23,7 @@ use Rattle.format.specs.History.{Posting, answerTo, enter, itemsIn}
 
 -- what a posting to a sheet answers, as a code. An `unfolding` line with `computed` on it opens each definition on the line below
 unfoldable pub computed : List ℕ → Posting → ℕ
-unfolding same le leBytes be beBytes words wordBytes step steps byteStep crcRun ask bind needed found ifAbsent also held codeOf dataRefHash rowIn known payloadLength countPosition counted fieldCount weightOf refAt readRefs refBytes refsBytes totalOf flagsOf startOf readBody bodyBytes placeOf place falls follows bodyFits sharedKind onBody onHead named raisedBy loweredByOne reducedBy onTotal raiseTotal lowerTotal reduceTotal less dropInline dropInlineTreeRef dropInlineDataRef takeInlineShared keyedCount dropKeyedDataRef stops gapAt insertPosition standingOr spotAnywhere scanned spotByScan isGap standingWeight addAt addInlineTreeRef addInlineData addInlineShared keyedDataRefBody sameKey keyBelow itemLength wholeItem firstItem readItems readSheet keyBytes itemBytes itemsBytes sheetBytes nodesizeFits dataFits onSheet sheetHolds heldSheet deleted inlineLimit isRecord onRecord replaced keyedBody applyKeyedAdd sharedBody applySharedAdd flagged dropTreeRef sameName isRefItem viewRecord inForm viewRefItem viewOf refEntry refEntries viewEntries itemEntries entries wellFormed viewTotal balanced added droppedAt dropDataRef sharedCount dropSharedRef changed post posted answerTo itemsIn enter
+unfolding same le leBytes be beBytes words wordBytes step steps byteStep crcRun ask bind needed found ifAbsent also held codeOf dataRefHash rowIn known payloadLength countPosition counted fieldCount weightOf refAt readRefs refBytes refsBytes totalOf flagsOf startOf readBody bodyBytes rankOf rank falls follows bodyFits sharedKind onBody onHead named raisedBy loweredByOne reducedBy onTotal raiseTotal lowerTotal reduceTotal less dropInline dropInlineTreeRef dropInlineDataRef takeInlineShared keyedCount dropKeyedDataRef stops gapAt insertPosition standingOr positionAnywhere scanned positionByScan isGap standingWeight addAt addInlineTreeRef addInlineData addInlineShared keyedDataRefBody sameKey keyBelow itemLength wholeItem firstItem readItems readSheet keyBytes itemBytes itemsBytes sheetBytes nodesizeFits dataFits onSheet sheetHolds heldSheet deleted inlineLimit isRecord onRecord replaced keyedBody applyKeyedAdd sharedBody applySharedAdd flagged dropTreeRef sameName isRefItem viewRecord inForm viewRefItem viewOf refEntry refEntries viewEntries itemEntries entries wellFormed viewTotal balanced added droppedAt dropDataRef sharedCount dropSharedRef changed post posted answerTo itemsIn enter
 computed sheet p = codeOf (answerTo sheet p)
 
 -- ---- names
@@ -64,7 +64,7 @@ blockInfoRecord extent total refs =
     item extent 168 4096 (recordBytes 2 total (1 ∷ 2 ∷ 3 ∷ 4 ∷ 5 ∷ 6 ∷ 7 ∷ 8 ∷ 9 ∷ 10 ∷ 11 ∷ 12 ∷ 13 ∷ 14 ∷ 15 ∷ 16 ∷ 17 ∷ 18 ∷ []) refs)
 
 abbrev pub dataRef : ℕ → ℕ → Ref
-dataRef number count = ref 178 (triple (byEntry number)) count
+dataRef number count = makeRef 178 (triple (byEntry number)) count
 
 -- ---- a posting with the code that it answers: 0 where it is accepted, else the number of the refusal
 

@@ -6,14 +6,14 @@ use mathlib.Core.Option.{Option, none, some}
 use Prim.Native.Nat.{ℕ}
 use lib.Dec.{T, leb}
 use lib.ListN.{length, getElem?}
-use Rattle.fields.specs.Lists.{cut}
+use Rattle.fields.specs.Lists.{firstCut}
 use Rattle.format.specs.declared.DataRef.{DataRef}
 use Rattle.format.specs.declared.SharedRef.{SharedRef}
 use Rattle.format.specs.Questions.{Answer, refused, absent, remove, accepted, isRefusal, decides, keeps, ask, bind, needed, found}
 use Rattle.format.specs.References.{readRefs, Body, readBody}
 use Rattle.format.specs.Bodies.{bodyFits, onBody, onHead, named, one, sharedKind, flags, refNumbered, inlineRef, sharedAddKey, holdsInlineDataRef, takeInlineShared, sharedAddInlineSize, keyedDataRefNames, heldOnlyBy}
 use Rattle.format.specs.Items.{Item, readSheet, onSheet, nodesizeFits, dataFits}
-use Rattle.format.specs.Sheets.{fit, fits, item, itemStart}
+use Rattle.format.specs.Sheets.{fit, fits, itemData, itemStart}
 use Rattle.format.specs.Apply.{maxInlineExtentItem, recordOf, onRecord, recordNumber}
 use Rattle.format.proofs.Refs.{Reads, read, strange as strange-ref, cutOff as cut-ref, readRefs-decides}
 use Rattle.format.proofs.Bodies.{ReadsBody, body, short, strange, cutOff, readBody-decides}
@@ -94,7 +94,7 @@ inline-size-decides kind = decides-ask (sharedKind kind) 3 tt _ tt
 pub record-decides : (s : List ℕ) (extent : ℕ) → T (decides (recordNumber s extent))
 unfolding recordNumber onRecord
 record-decides s extent =
-    on-sheet-decides s true _ (λ items. decides-bind (needed 5 (cut (recordOf extent) items)) _ (decides-needed 5 tt _) (λ c. tt))
+    on-sheet-decides s true _ (λ items. decides-bind (needed 5 (firstCut (recordOf extent) items)) _ (decides-needed 5 tt _) (λ c. tt))
 
 -- ---- calls that judge
 
@@ -120,8 +120,8 @@ fits-decides nodesize s bytes = on-sheet-decides s (nodesizeFits nodesize && dat
 
 -- ---- the lookup
 
-pub item-decides : (s : List ℕ) (number : ℕ) → T (decides (item s number))
-unfolding item
+pub item-decides : (s : List ℕ) (number : ℕ) → T (decides (itemData s number))
+unfolding itemData
 item-decides s number =
     on-sheet-decides s true _ (λ items. decides-bind (needed 5 (getElem? items number)) _ (decides-needed 5 tt _) (λ i. tt))
 
@@ -172,4 +172,4 @@ take-keeps type d name =
     keeps-ask (sharedKind (name .kind)) 3 tt _
     (keeps-ask (bodyFits d) 3 tt _
     (keeps-bind (readBody type d) _ (decides-keeps (readBody type d) (body-decides type d))
-    (λ b. keeps-bind (found (cut (named (name .kind) (one (name .parent))) (b .refs))) _ (keeps-found _) (λ c. tt))))
+    (λ b. keeps-bind (found (firstCut (named (name .kind) (one (name .parent))) (b .refs))) _ (keeps-found _) (λ c. tt))))

@@ -2,9 +2,9 @@
 -- Assumes nothing.
 use mathlib.Core.Path.{_≡_, refl}
 use Rattle.fields.specs.Numbers.{leBytes}
-use Rattle.crc32c.specs.Register.{step, steps, byteStep, run}
+use Rattle.crc32c.specs.Register.{step, steps, byteStep, crcRun}
 use Rattle.format.specs.Hash.{dataRefHash}
 
 pub hash-5-257-0 : dataRefHash 5 257 0 ≡ 0x0dfb591fa80d95ea
-unfolding dataRefHash leBytes run byteStep steps step
+unfolding dataRefHash leBytes crcRun byteStep steps step
 hash-5-257-0 = refl

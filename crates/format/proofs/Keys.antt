@@ -9,7 +9,7 @@ use Prim.Native.Nat.{ℕ, _≤_, _<_}
 use native.Mathlib.Omega.{arith}
 use lib.Dec.{T, ltb, eqb, eqb→eq, eqb-refl, ltb→lt, lt→ltb, T-not, not-T}
 use mir.Facts.{and-yes, yes-and, yes-eqb, or-yes}
-use Rattle.fields.specs.Lists.{all, Cut, later, cut}
+use Rattle.fields.specs.Lists.{all, Cut, later, firstCut}
 use Rattle.fields.proofs.Lists.{or-left, or-right, cond-yes, cond-no, lt-or, all-left, all-both, all-mid, all-map, all-two, Found, cut-some, cut-none}
 use Rattle.format.specs.declared.Key.{Key}
 use Rattle.format.specs.Questions.{accepted}
@@ -199,7 +199,7 @@ rising-unique a x b t =
 
 -- a cut stands at an element that passes, if none before it does
 pub cut-here : {A : Type 0} (p : A → Bool) (a : List A) (x : A) (b : List A) → T (all (λ y. not (p y)) a) → T (p x)
-    → cut p (a ++ x ∷ b) ≡ some (record { front = a; hit = x; back = b })
+    → firstCut p (a ++ x ∷ b) ≡ some (record { front = a; hit = x; back = b })
 cut-here p [] x b s t = cond-yes (p x) _ _ t
 cut-here p (w ∷ a) x b s t =
     let h = and-yes (not (p w)) _ s in
@@ -207,13 +207,13 @@ cut-here p (w ∷ a) x b s t =
 
 -- so the cut at a key finds the item that has it
 pub cut-at-key : (a : List Item) (x : Item) (b : List Item) → T (rising (a ++ x ∷ b))
-    → cut (hasKey (x .key)) (a ++ x ∷ b) ≡ some (record { front = a; hit = x; back = b })
+    → firstCut (hasKey (x .key)) (a ++ x ∷ b) ≡ some (record { front = a; hit = x; back = b })
 cut-at-key a x b t =
     cut-here (hasKey (x .key)) a x b (all-left (λ i. not (hasKey (x .key) i)) a b (rising-unique a x b t)) (sameKey-refl (x .key))
 
 -- ---- the place that an inserted item gets
 
-pub record Place (new : Item) (items result : List Item) : Type 0 where
+pub record Between (new : Item) (items result : List Item) : Type 0 where
   pub front : List Item
   pub back : List Item
   pub were : items ≡ front ++ back
@@ -221,11 +221,11 @@ pub record Place (new : Item) (items result : List Item) : Type 0 where
   pub lower : T (all (below (new .key)) front)
   pub higher : T (above new back)
 
-pub inserted-out : (new : Item) (items result : List Item) → inserted new items ≡ accepted result → Place new items result
+pub inserted-out : (new : Item) (items result : List Item) → inserted new items ≡ accepted result → Between new items result
 unfolding inserted putBefore
 inserted-out new items result e =
     let h = ask-ok (all (λ i. not (hasKey (new .key) i)) items) 9 _ e in
-    go (cut (beyond (new .key)) items) refl (h .0) (accepted-inj (h .1))
+    go (firstCut (beyond (new .key)) items) refl (h .0) (accepted-inj (h .1))
   where
     lower-of : (l : List Item) → T (all (λ i. not (hasKey (new .key) i)) l) → T (all (λ i. not (beyond (new .key) i)) l)
         → T (all (below (new .key)) l)
@@ -233,8 +233,8 @@ inserted-out new items result e =
         all-two (λ i. not (hasKey (new .key) i)) (λ i. not (beyond (new .key) i)) (below (new .key))
         (λ i x y. else-below (i .key) (new .key) x y) l s t
 
-    go : (o : Option (Cut Item)) → cut (beyond (new .key)) items ≡ o → T (all (λ i. not (hasKey (new .key) i)) items)
-        → putBefore new items o ≡ result → Place new items result
+    go : (o : Option (Cut Item)) → firstCut (beyond (new .key)) items ≡ o → T (all (λ i. not (hasKey (new .key) i)) items)
+        → putBefore new items o ≡ result → Between new items result
     go none f s q =
         record {
           front = items;
@@ -260,6 +260,6 @@ inserted-out new items result e =
 -- an accepted insert keeps keys rising
 pub rising-inserted : (new : Item) (items result : List Item) → T (rising items) → inserted new items ≡ accepted result → T (rising result)
 rising-inserted new items result t e =
-    let p : Place new items result = inserted-out new items result e in
+    let p : Between new items result = inserted-out new items result e in
     subst (λ (l : List Item). T (rising l)) (sym (p .are))
     (rising-put (p .front) new (p .back) (subst (λ (l : List Item). T (rising l)) (p .were) t) (p .lower) (p .higher))

@@ -7,7 +7,7 @@ use lib.ListN.{take}
 use Rattle.fields.specs.Numbers.{le, leBytes, words, wordBytes}
 use Rattle.format.specs.declared.InlineRef.{InlineRef}
 use Rattle.format.specs.Questions.{Answer, refused, accepted, ask, bind, needed}
-use Rattle.format.specs.References.{rowIn, known, payloadLength, countPosition, counted, fieldCount, ref, weightOf, refAt, readRefs, refBytes, refsBytes, flagsOf, totalOf, startOf, readBody, bodyBytes}
+use Rattle.format.specs.References.{rowIn, known, payloadLength, countPosition, counted, fieldCount, makeRef, weightOf, refAt, readRefs, refBytes, refsBytes, flagsOf, totalOf, startOf, readBody, bodyBytes}
 use Rattle.format.specs.Bodies.{bodyFits, onBody, positions, refNumbered, inlineRef, inlinePayload}
 
 five : List ℕ
@@ -15,7 +15,7 @@ five =
     bodyBytes (record {
       total = 7;
       fixed = leBytes 8 1 ++ leBytes 8 2;
-      refs = ref 172 (9 ∷ []) 0 ∷ ref 176 (300 ∷ []) 1 ∷ ref 178 (5 ∷ 257 ∷ 4096 ∷ []) 2 ∷ ref 182 (65536 ∷ []) 1 ∷ ref 184 (8 ∷ []) 3 ∷ [];
+      refs = makeRef 172 (9 ∷ []) 0 ∷ makeRef 176 (300 ∷ []) 1 ∷ makeRef 178 (5 ∷ 257 ∷ 4096 ∷ []) 2 ∷ makeRef 182 (65536 ∷ []) 1 ∷ makeRef 184 (8 ∷ []) 3 ∷ [];
     })
 
 abbrev stands : ℕ → ℕ → ℕ → ℕ → Answer InlineRef

@@ -9,11 +9,11 @@ use lib.Dec.{T, eqb}
 use Rattle.fields.specs.Numbers.{leBytes}
 use Rattle.format.specs.declared.Change.the-variants.{AddBlock, AddData, AddShared, DropBlock, DropData, DropShared}
 use Rattle.format.specs.Questions.{Answer, codeOf}
-use Rattle.format.specs.References.{ref, weightOf}
+use Rattle.format.specs.References.{makeRef, weightOf}
 use Rattle.format.specs.Bodies.{triple, keyedDataRefBody}
 use Rattle.format.specs.Items.{Item, sheetBytes}
 use Rattle.format.specs.Names.{Name, count}
-use Rattle.format.specs.History.{Posting, answerTo, sheetAfter, isAccepted, run, Seen, seen, Tally, history, historyOf, touched, itemsOf, sheetItems, balancedSheet}
+use Rattle.format.specs.History.{Posting, answerTo, sheetAfter, isAccepted, run, Seen, allSeen, Tally, history, historyOf, touched, itemsOf, sheetItems, balancedSheet}
 use Rattle.format.proofs.Computed.{computed, tree, byEntry, sameHash, parent, item, blockRecord, dataRecord, blockInfoRecord, dataRef, Expected, expectWithin, expect}
 
 -- ---- the sheets
@@ -26,26 +26,26 @@ others =
 unfoldable pub opening : List ℕ
 opening =
     sheetBytes
-    (blockRecord 8192 4 (ref 176 (5 ∷ []) 1 ∷ ref 182 (100 ∷ []) 1 ∷ [])
+    (blockRecord 8192 4 (makeRef 176 (5 ∷ []) 1 ∷ makeRef 182 (100 ∷ []) 1 ∷ [])
     ∷ item 8192 176 9 []
     ∷ item 8192 182 400 []
-    ∷ dataRecord 12288 9 (ref 172 (5 ∷ []) 0 ∷ dataRef 64 2 ∷ ref 184 (50 ∷ []) 3 ∷ [])
+    ∷ dataRecord 12288 9 (makeRef 172 (5 ∷ []) 0 ∷ dataRef 64 2 ∷ makeRef 184 (50 ∷ []) 3 ∷ [])
     ∷ item 12288 178 0x417b1dbc82f63b78 (keyedDataRefBody (byEntry 128) 2)
     ∷ item 12288 184 300 (leBytes 4 2)
-    ∷ blockInfoRecord 16384 1 (ref 176 (5 ∷ []) 1 ∷ [])
-    ∷ blockRecord 20480 1 (ref 182 (100 ∷ []) 1 ∷ [])
+    ∷ blockInfoRecord 16384 1 (makeRef 176 (5 ∷ []) 1 ∷ [])
+    ∷ blockRecord 20480 1 (makeRef 182 (100 ∷ []) 1 ∷ [])
     ∷ others)
 
 -- what the block at 8192 ends with
 abbrev kept : Item
-kept = blockRecord 8192 4 (ref 176 (7 ∷ []) 1 ∷ ref 176 (3 ∷ []) 1 ∷ ref 176 (2 ∷ []) 1 ∷ ref 182 (200 ∷ []) 1 ∷ [])
+kept = blockRecord 8192 4 (makeRef 176 (7 ∷ []) 1 ∷ makeRef 176 (3 ∷ []) 1 ∷ makeRef 176 (2 ∷ []) 1 ∷ makeRef 182 (200 ∷ []) 1 ∷ [])
 
 unfoldable pub closing : List ℕ
 closing =
     sheetBytes
     (kept
-    ∷ dataRecord 12288 12 (ref 172 (5 ∷ []) 0 ∷ dataRef 128 6 ∷ dataRef 64 4 ∷ ref 184 (60 ∷ []) 2 ∷ [])
-    ∷ blockInfoRecord 16384 1 (ref 176 (4 ∷ []) 1 ∷ [])
+    ∷ dataRecord 12288 12 (makeRef 172 (5 ∷ []) 0 ∷ dataRef 128 6 ∷ dataRef 64 4 ∷ makeRef 184 (60 ∷ []) 2 ∷ [])
+    ∷ blockInfoRecord 16384 1 (makeRef 176 (4 ∷ []) 1 ∷ [])
     ∷ blockRecord 20480 0 []
     ∷ others)
 
@@ -151,7 +151,7 @@ last-is : (sheet : List ℕ) (list : List Posting) → run sheet list ≡ outcom
 last-is sheet [] = refl
 last-is sheet (p ∷ more) = last-is (sheetAfter sheet (answerTo sheet p)) more
 
-told-is : (sheet : List ℕ) (list : List Posting) → seen sheet list ≡ outcome sheet list .told
+told-is : (sheet : List ℕ) (list : List Posting) → allSeen sheet list ≡ outcome sheet list .told
 told-is sheet [] = refl
 told-is sheet (p ∷ more) =
     ap (λ (l : List Seen). record { change = p .change; accepted = isAccepted (answerTo sheet p) } ∷ l)
@@ -170,7 +170,7 @@ gives = refl
 pub answers : outcome opening postings .codes ≡ codesOf expected
 answers = ap (λ (o : Outcome). o .codes) gives
 
-pub sees : seen opening postings ≡ seenOf expected
+pub sees : allSeen opening postings ≡ seenOf expected
 sees = told-is opening postings ∙ ap (λ (o : Outcome). o .told) gives
 
 pub closes : run opening postings ≡ closing
@@ -257,7 +257,7 @@ abbrev touchedOf : List Seen → List ℕ → List Bool
 touchedOf list [] = []
 touchedOf list (extent ∷ more) = touched extent list ∷ touchedOf list more
 
-pub touches : touchedOf (seen opening postings) (4096 ∷ 8192 ∷ 12288 ∷ 16384 ∷ 20480 ∷ 24576 ∷ [])
+pub touches : touchedOf (allSeen opening postings) (4096 ∷ 8192 ∷ 12288 ∷ 16384 ∷ 20480 ∷ 24576 ∷ [])
     ≡ false ∷ true ∷ true ∷ true ∷ true ∷ false ∷ []
 unfolding expected
 touches = ap (λ (l : List Seen). touchedOf l (4096 ∷ 8192 ∷ 12288 ∷ 16384 ∷ 20480 ∷ 24576 ∷ [])) sees

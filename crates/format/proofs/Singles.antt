@@ -7,7 +7,7 @@ use Prim.Native.Nat.{ℕ, _+_}
 use lib.ListN.{take}
 use Rattle.fields.specs.Numbers.{leBytes, beBytes}
 use Rattle.format.specs.declared.Change.the-variants.{AddBlock, AddData, AddShared, DropBlock, DropData, DropShared}
-use Rattle.format.specs.References.{Ref, ref}
+use Rattle.format.specs.References.{Ref, makeRef}
 use Rattle.format.specs.Bodies.{triple, keyedDataRefBody}
 use Rattle.format.specs.Items.{Item, sheetBytes}
 use Rattle.format.specs.History.{balancedSheet}
@@ -29,7 +29,7 @@ bytes sheet = record { sheet = sheet; expected = add 1 }
 
 -- a block with one reference, and what is put beside it
 abbrev beside : List Item → ℕ → Single
-beside items code = on (blockRecord 8192 1 (ref 176 (5 ∷ []) 1 ∷ []) ∷ items) (add code)
+beside items code = on (blockRecord 8192 1 (makeRef 176 (5 ∷ []) 1 ∷ []) ∷ items) (add code)
 
 -- a block with these references, of that total
 abbrev of : ℕ → List Ref → ℕ → Single
@@ -50,7 +50,7 @@ singles =
     ∷ bytes (2 ∷ [])
     ∷ bytes (1 ∷ 0 ∷ [])
     ∷ bytes (1 ∷ (beBytes 4 16 ++ beBytes 8 0 ++ beBytes 8 0))
-    ∷ bytes (take 54 (sheetBytes (blockRecord 8192 1 (ref 176 (5 ∷ []) 1 ∷ []) ∷ [])))
+    ∷ bytes (take 54 (sheetBytes (blockRecord 8192 1 (makeRef 176 (5 ∷ []) 1 ∷ []) ∷ [])))
     -- 2: equal keys, and falling ones
     ∷ on (item 8192 169 0 [] ∷ item 8192 169 0 [] ∷ []) (add 2)
     ∷ on (item 8192 169 1 [] ∷ item 8192 169 0 [] ∷ []) (add 2)
@@ -58,11 +58,11 @@ singles =
     -- balanced, with items that name nothing
     ∷ beside [] 0
     ∷ beside (item 8192 172 5 (0 ∷ []) ∷ item 8192 192 4096 [] ∷ []) 0
-    ∷ of 2 (ref 176 (5 ∷ []) 1 ∷ ref 182 (9 ∷ []) 1 ∷ []) 0
+    ∷ of 2 (makeRef 176 (5 ∷ []) 1 ∷ makeRef 182 (9 ∷ []) 1 ∷ []) 0
     -- 4: a total too high, too low
-    ∷ of 2 (ref 176 (5 ∷ []) 1 ∷ []) 4
-    ∷ of 1 (ref 176 (5 ∷ []) 1 ∷ ref 176 (4 ∷ []) 1 ∷ []) 4
-    ∷ of 1 (ref 172 (5 ∷ []) 0 ∷ []) 4
+    ∷ of 2 (makeRef 176 (5 ∷ []) 1 ∷ []) 4
+    ∷ of 1 (makeRef 176 (5 ∷ []) 1 ∷ makeRef 176 (4 ∷ []) 1 ∷ []) 4
+    ∷ of 1 (makeRef 172 (5 ∷ []) 0 ∷ []) 4
     -- two records, a reference item without one
     ∷ on (item 8192 168 4096 (recordBytes 1 0 [] []) ∷ blockRecord 8192 0 [] ∷ []) (add 4)
     ∷ beside (item 9000 182 100 [] ∷ []) 4
@@ -72,21 +72,21 @@ singles =
     ∷ beside (item 9000 169 0 (recordBytes 2 0 [] [] ++ 177 ∷ []) ∷ []) 4
     ∷ beside (item 9000 169 0 (recordBytes 2 0 [] [] ++ 172 ∷ 5 ∷ []) ∷ []) 4
     -- types that fall, first fields that rise, a hash that rises
-    ∷ of 2 (ref 182 (9 ∷ []) 1 ∷ ref 176 (5 ∷ []) 1 ∷ []) 4
-    ∷ of 2 (ref 176 (4 ∷ []) 1 ∷ ref 176 (5 ∷ []) 1 ∷ []) 4
-    ∷ of 2 (ref 182 (4 ∷ []) 1 ∷ ref 182 (5 ∷ []) 1 ∷ []) 4
-    ∷ of 2 (ref 184 (4 ∷ []) 1 ∷ ref 184 (5 ∷ []) 1 ∷ []) 4
+    ∷ of 2 (makeRef 182 (9 ∷ []) 1 ∷ makeRef 176 (5 ∷ []) 1 ∷ []) 4
+    ∷ of 2 (makeRef 176 (4 ∷ []) 1 ∷ makeRef 176 (5 ∷ []) 1 ∷ []) 4
+    ∷ of 2 (makeRef 182 (4 ∷ []) 1 ∷ makeRef 182 (5 ∷ []) 1 ∷ []) 4
+    ∷ of 2 (makeRef 184 (4 ∷ []) 1 ∷ makeRef 184 (5 ∷ []) 1 ∷ []) 4
     ∷ of 2 (dataRef 32 1 ∷ dataRef 64 1 ∷ []) 4
     -- a name twice: inline, and inline and as an item
     ∷ of 2 (dataRef 64 1 ∷ dataRef 64 1 ∷ []) 4
-    ∷ on (blockRecord 8192 2 (ref 176 (5 ∷ []) 1 ∷ []) ∷ item 8192 176 5 [] ∷ []) (add 4)
+    ∷ on (blockRecord 8192 2 (makeRef 176 (5 ∷ []) 1 ∷ []) ∷ item 8192 176 5 [] ∷ []) (add 4)
     -- a count of 0, inline and as an item
-    ∷ of 0 (ref 184 (5 ∷ []) 0 ∷ []) 4
+    ∷ of 0 (makeRef 184 (5 ∷ []) 0 ∷ []) 4
     ∷ beside (item 8192 184 5 (leBytes 4 0) ∷ []) 4
     -- reference items in another form, whether the total counts them or not
-    ∷ on (blockRecord 8192 2 (ref 176 (5 ∷ []) 1 ∷ []) ∷ item 8192 176 6 (0 ∷ []) ∷ []) (add 4)
+    ∷ on (blockRecord 8192 2 (makeRef 176 (5 ∷ []) 1 ∷ []) ∷ item 8192 176 6 (0 ∷ []) ∷ []) (add 4)
     ∷ beside (item 8192 182 6 (0 ∷ []) ∷ []) 4
-    ∷ on (blockRecord 8192 2 (ref 176 (5 ∷ []) 1 ∷ []) ∷ item 8192 184 6 (leBytes 8 1) ∷ []) (add 4)
+    ∷ on (blockRecord 8192 2 (makeRef 176 (5 ∷ []) 1 ∷ []) ∷ item 8192 184 6 (leBytes 8 1) ∷ []) (add 4)
     ∷ byItem 0 hash (take 16 (keyedDataRefBody (byEntry 128) 1)) (add 4)
     ∷ byItem 1 hash (keyedDataRefBody (byEntry 128) 1 ++ 0 ∷ []) (add 4)
     ∷ byItem 1 (hash + 1) (keyedDataRefBody (byEntry 128) 1) (add 4)
@@ -97,11 +97,11 @@ singles =
     ∷ on (blockRecord 8192 2 [] ∷ []) (expect (DropShared 8192 (parent 178 7)) 3)
     ∷ on (blockRecord 8192 2 [] ∷ []) (expect (AddBlock 9000 (tree 7)) 4)
     -- 17: the new body of 42 bytes is within the limit of a nodesize of 1,173, which is 42
-    ∷ on (blockRecord 8192 1 (ref 176 (5 ∷ []) 1 ∷ []) ∷ []) (expectWithin 1173 1000 (AddBlock 8192 (tree 7)) 0)
-    ∷ on (blockRecord 8192 1 (ref 176 (5 ∷ []) 1 ∷ []) ∷ []) (expectWithin 1172 1000 (AddBlock 8192 (tree 7)) 17)
+    ∷ on (blockRecord 8192 1 (makeRef 176 (5 ∷ []) 1 ∷ []) ∷ []) (expectWithin 1173 1000 (AddBlock 8192 (tree 7)) 0)
+    ∷ on (blockRecord 8192 1 (makeRef 176 (5 ∷ []) 1 ∷ []) ∷ []) (expectWithin 1172 1000 (AddBlock 8192 (tree 7)) 17)
     -- two triples of one hash stand inline, the new one behind
     ∷ on (dataRecord 12288 2 (dataRef 64 2 ∷ []) ∷ []) (expect (AddData 12288 (sameHash 64) 1) 0)
-    ∷ of 2 (dataRef 64 1 ∷ ref 178 (triple (sameHash 64)) 1 ∷ []) 0
+    ∷ of 2 (dataRef 64 1 ∷ makeRef 178 (triple (sameHash 64)) 1 ∷ []) 0
     -- 11: the largest count, and one more
     ∷ on (dataRecord 12288 2 (dataRef 64 2 ∷ []) ∷ []) (expect (AddData 12288 (byEntry 64) 4294967293) 0)
     ∷ on (dataRecord 12288 2 (dataRef 64 2 ∷ []) ∷ []) (expect (AddData 12288 (byEntry 64) 4294967294) 11)

@@ -163,13 +163,13 @@ unfolding refsBytes
 refsBytes-one r = append-nil (refBytes r)
 
 -- where a reference starts
-abbrev pub refPlace : Body → List Ref → ℕ
-refPlace b front = 8 + length (b .fixed) + length (refsBytes front)
+abbrev pub refStart : Body → List Ref → ℕ
+refStart b front = 8 + length (b .fixed) + length (refsBytes front)
 
 pub before-refs : (b : Body) (t : ℕ) → length (leBytes 8 t ++ b .fixed) ≡ 8 + length (b .fixed)
 before-refs b t = length-append (leBytes 8 t) (b .fixed) ∙ ap (λ (n : ℕ). n + length (b .fixed)) (length-leBytes 8 t)
 
-pub body-splice : (b : Body) (t : ℕ) (front old new back : List Ref) (p q : ℕ) → refPlace b front ≡ p → p + length (refsBytes old) ≡ q
+pub body-splice : (b : Body) (t : ℕ) (front old new back : List Ref) (p q : ℕ) → refStart b front ≡ p → p + length (refsBytes old) ≡ q
     → bodyBytes (bodyWith b t (front ++ (new ++ back)))
     ≡ spliced p q (refsBytes new) (bodyBytes (bodyWith b t (front ++ (old ++ back))))
 body-splice b t front old new back p q e f =
@@ -180,7 +180,7 @@ body-splice b t front old new back p q e f =
 
 -- the same from the body itself: other references in a place, and another total over the first eight bytes
 pub body-edit : (b : Body) (t : ℕ) (front old new back : List Ref) (p q : ℕ) → b .refs ≡ front ++ (old ++ back)
-    → refPlace b front ≡ p → p + length (refsBytes old) ≡ q
+    → refStart b front ≡ p → p + length (refsBytes old) ≡ q
     → bodyBytes (bodyWith b t (front ++ (new ++ back))) ≡ written 0 (leBytes 8 t) (spliced p q (refsBytes new) (bodyBytes b))
 body-edit b t front old new back p q e at to =
     let kept : Body = bodyWith b (b .total) (front ++ (new ++ back)) in

@@ -5,7 +5,7 @@ use mathlib.Core.List.{List}
 use Prim.Native.Nat.{ℕ, zero, suc, _-_, _/_}
 use lib.Dec.{leb, eqb}
 use lib.ListN.{length}
-use Rattle.fields.specs.Lists.{Cut, cut}
+use Rattle.fields.specs.Lists.{Cut, firstCut}
 use Rattle.format.specs.declared.BlockRef.{BlockRef}
 use Rattle.format.specs.declared.SharedRef.{SharedRef}
 use Rattle.format.specs.declared.Keyed.{Keyed}
@@ -34,14 +34,14 @@ recordOf extent i = isRecord i && eqb (i .key .objectid) extent
 
 -- question 5, then the record and what stands around it
 unfoldable pub onRecord : {A : Type 0} → ℕ → List Item → (Cut Item → Answer A) → Answer A
-onRecord extent items next = bind (needed 5 (cut (recordOf extent) items)) next
+onRecord extent items next = bind (needed 5 (firstCut (recordOf extent) items)) next
 
 unfoldable pub recordNumber : List ℕ → ℕ → Answer ℕ
 recordNumber sheet extent = onSheet sheet true (λ items. onRecord extent items (λ c. accepted (length (c .front))))
 
 -- other data under a key that stands
 unfoldable pub replaced : Key → List ℕ → List Item → Answer (List Item)
-replaced key bytes items = bind (needed 5 (cut (hasKey key) items)) (λ c. accepted (putBack c bytes))
+replaced key bytes items = bind (needed 5 (firstCut (hasKey key) items)) (λ c. accepted (putBack c bytes))
 
 -- ---- apply_keyed_add
 
@@ -105,7 +105,7 @@ dropTreeRef block own items c =
 -- "wants a record of type 169 whose offset is the level"
 unfoldable pub dropKeptTreeRef : ℕ → ℕ → BlockRef → Bool → List Item → Answer (List Item)
 dropKeptTreeRef bytenr level block own items =
-    bind (needed 5 (cut (hasKey (keyOf bytenr 169 level)) items)) (dropTreeRef block own items)
+    bind (needed 5 (firstCut (hasKey (keyOf bytenr 169 level)) items)) (dropTreeRef block own items)
 
 -- ---- the public calls: questions 1 to 3 first. A shared kind is asked with the item flag too
 

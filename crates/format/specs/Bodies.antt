@@ -7,9 +7,10 @@ use Prim.Native.Nat.{ℕ, _+_, _-_, _*_, _^_}
 use lib.Bits.{bitOr}
 use lib.Dec.{leb, ltb, eqb}
 use lib.ListN.{length, getD, getElem?}
-use Rattle.fields.specs.Lists.{sum, all, same, Cut, cut}
+use Rattle.fields.specs.Lists.{sum, all, same, Cut, firstCut}
 use Rattle.fields.specs.Numbers.{le, leBytes, words, wordBytes}
 use Rattle.fields.specs.Parts.{part, written}
+use Rattle.format.specs.Constants.{mostData}
 use Rattle.format.specs.declared.BlockRef.{BlockRef}
 use Rattle.format.specs.declared.DataRef.{DataRef}
 use Rattle.format.specs.declared.SharedRef.{SharedRef}
@@ -18,13 +19,13 @@ use Rattle.format.specs.declared.Keyed.{Keyed}
 use Rattle.format.specs.declared.Keyed.the-variants.{Block, Data}
 use Rattle.format.specs.declared.Key.{Key}
 use Rattle.format.specs.Questions.{Answer, refused, absent, remove, accepted, ask, bind, found, held, TakenOut, needed}
-use Rattle.format.specs.References.{payloadLength, counted, Ref, ref, Body, bodyWith, totalOf, flagsOf, startOf, readBody, bodyBytes, place, placeOf}
+use Rattle.format.specs.References.{payloadLength, counted, Ref, makeRef, Body, bodyWith, totalOf, flagsOf, startOf, readBody, bodyBytes, rank, rankOf}
 
 -- ---- what the calls share
 
 -- question 3 of a body
 unfoldable pub bodyFits : List ℕ → Bool
-bodyFits body = leb (length body) 65535
+bodyFits body = leb (length body) mostData
 
 -- question 21 of a call that makes a body
 unfoldable pub heldBody : ℕ → Answer (List ℕ) → Answer (List ℕ)
@@ -57,7 +58,7 @@ triple d = d .tree ∷ d .objectid ∷ d .offset ∷ []
 
 -- a reference that counts another weight
 abbrev pub weighed : Ref → ℕ → Ref
-weighed r weight = ref (r .kind) (r .fields) weight
+weighed r weight = makeRef (r .kind) (r .fields) weight
 
 -- ---- totals: raise_total, lower_total, reduce_total. The item's type plays no part
 
@@ -122,7 +123,7 @@ isFound none = false
 isFound (some c) = true
 
 unfoldable pub holdsInlineDataRef : ℕ → List ℕ → DataRef → Answer Bool
-holdsInlineDataRef type body d = onBody type body (λ b. accepted (isFound (cut (named 178 (triple d)) (b .refs))))
+holdsInlineDataRef type body d = onBody type body (λ b. accepted (isFound (firstCut (named 178 (triple d)) (b .refs))))
 
 -- ---- drops: drop_inline_tree_ref, drop_inline_data_ref, take_inline_shared, drop_keyed_data_ref
 
@@ -134,7 +135,7 @@ less r amount = cond (ltb amount (r .weight)) (weighed r (r .weight - amount) �
 unfoldable pub dropInline : ℕ → List ℕ → ℕ → List ℕ → Answer (List ℕ)
 dropInline type body kind fields =
     onBody type body (λ b.
-    bind (found (cut (named kind fields) (b .refs))) (λ c.
+    bind (found (firstCut (named kind fields) (b .refs))) (λ c.
     bind (loweredByOne (b .total)) (λ total.
     accepted (bodyBytes (bodyWith b total (c .front ++ (less (c .hit) 1 ++ c .back)))))))
 
@@ -149,7 +150,7 @@ unfoldable pub takeInlineShared : ℕ → List ℕ → SharedRef → Answer Take
 takeInlineShared type body s =
     ask (sharedKind (s .kind)) 3
     (onBody type body (λ b.
-    bind (found (cut (named (s .kind) (one (s .parent))) (b .refs))) (λ c.
+    bind (found (firstCut (named (s .kind) (one (s .parent))) (b .refs))) (λ c.
     accepted (record { bytes = bodyBytes (bodyWith b (b .total) (c .front ++ c .back)); count = c .hit .weight }))))
 
 -- questions 15 and 16 of a data reference's item; "drop_keyed_data_ref at count 1 says remove"
@@ -166,70 +167,70 @@ dropKeyedDataRef item d =
 -- ---- where an added reference goes
 
 -- between two parts, as a new one; or to one that stands
-pub data Spot : Type 0 where
-  gap : List Ref → List Ref → Spot
-  standing : Cut Ref → Spot
+pub data RefPosition : Type 0 where
+  gap : List Ref → List Ref → RefPosition
+  standing : Cut Ref → RefPosition
 
--- a new reference of that type and place goes before this one; "insert_position skips 172"
+-- a new reference of that type and rank goes before this one; "insert_position skips 172"
 unfoldable pub stops : ℕ → ℕ → Ref → Bool
-stops kind at r = not (eqb (r .kind) 172) && (ltb kind (r .kind) || (eqb kind (r .kind) && ltb (place r) at))
+stops kind at r = not (eqb (r .kind) 172) && (ltb kind (r .kind) || (eqb kind (r .kind) && ltb (rank r) at))
 
-unfoldable pub gapAt : List Ref → Option (Cut Ref) → Spot
+unfoldable pub gapAt : List Ref → Option (Cut Ref) → RefPosition
 gapAt refs none = gap refs []
 gapAt refs (some c) = gap (c .front) (c .hit ∷ c .back)
 
-unfoldable pub insertPosition : ℕ → ℕ → List Ref → Spot
-insertPosition kind at refs = gapAt refs (cut (stops kind at) refs)
+unfoldable pub insertPosition : ℕ → ℕ → List Ref → RefPosition
+insertPosition kind at refs = gapAt refs (firstCut (stops kind at) refs)
 
 -- an equal reference anywhere, else the insert position
-unfoldable pub standingOr : Option (Cut Ref) → Spot → Spot
-standingOr none spot = spot
-standingOr (some c) spot = standing c
+unfoldable pub standingOr : Option (Cut Ref) → RefPosition → RefPosition
+standingOr none position = position
+standingOr (some c) position = standing c
 
-unfoldable pub spotAnywhere : ℕ → List ℕ → ℕ → List Ref → Spot
-spotAnywhere kind fields at refs = standingOr (cut (named kind fields) refs) (insertPosition kind at refs)
+unfoldable pub positionAnywhere : ℕ → List ℕ → ℕ → List Ref → RefPosition
+positionAnywhere kind fields at refs = standingOr (firstCut (named kind fields) refs) (insertPosition kind at refs)
 
 -- one scan, up to an equal reference or to the insert position, whichever comes first
-unfoldable pub scanned : ℕ → List ℕ → List Ref → Option (Cut Ref) → Spot
+unfoldable pub scanned : ℕ → List ℕ → List Ref → Option (Cut Ref) → RefPosition
 scanned kind fields refs none = gap refs []
 scanned kind fields refs (some c) = cond (named kind fields (c .hit)) (standing c) (gap (c .front) (c .hit ∷ c .back))
 
-unfoldable pub spotByScan : ℕ → List ℕ → List Ref → Spot
-spotByScan kind fields refs =
-    scanned kind fields refs (cut (λ r. named kind fields r || stops kind (placeOf kind fields) r) refs)
+unfoldable pub positionByScan : ℕ → List ℕ → List Ref → RefPosition
+positionByScan kind fields refs =
+    scanned kind fields refs (firstCut (λ r. named kind fields r || stops kind (rankOf kind fields) r) refs)
 
-unfoldable pub isGap : Spot → Bool
+unfoldable pub isGap : RefPosition → Bool
 isGap (gap front back) = true
 isGap (standing c) = false
 
-unfoldable pub standingWeight : Spot → ℕ
+unfoldable pub standingWeight : RefPosition → ℕ
 standingWeight (gap front back) = 0
 standingWeight (standing c) = c .hit .weight
 
-abbrev pub addedAt : Ref → Spot → List Ref
+abbrev pub addedAt : Ref → RefPosition → List Ref
 addedAt r (gap front back) = front ++ r ∷ back
 addedAt r (standing c) = c .front ++ weighed (c .hit) (c .hit .weight + r .weight) ∷ c .back
 
 -- ---- adds: add_inline_tree_ref, add_inline_data_ref, add_inline_shared, add_inline_keyed
 
 -- 9: a block or shared-block name is absent. 10: amount 1 where the type has no count. 11, 12: count and total hold the sums
-unfoldable pub addAt : Body → Ref → Spot → Answer (List ℕ)
-addAt b r spot =
-    ask (counted (r .kind) || isGap spot) 9
+unfoldable pub addAt : Body → Ref → RefPosition → Answer (List ℕ)
+addAt b r position =
+    ask (counted (r .kind) || isGap position) 9
     (ask (counted (r .kind) || eqb (r .weight) 1) 10
-    (ask (ltb (standingWeight spot + r .weight) (2 ^ 32)) 11
+    (ask (ltb (standingWeight position + r .weight) (2 ^ 32)) 11
     (bind (raisedBy (r .weight) (b .total)) (λ total.
-    accepted (bodyBytes (bodyWith b total (addedAt r spot)))))))
+    accepted (bodyBytes (bodyWith b total (addedAt r position)))))))
 
 unfoldable pub addInlineTreeRef : ℕ → List ℕ → BlockRef → Answer (List ℕ)
 addInlineTreeRef type body block =
     onBody type body (λ b.
-    addAt b (ref 176 (one (block .tree)) 1) (spotAnywhere 176 (one (block .tree)) (block .tree) (b .refs)))
+    addAt b (makeRef 176 (one (block .tree)) 1) (positionAnywhere 176 (one (block .tree)) (block .tree) (b .refs)))
 
 -- add_inline_data_ref so many times: the count is added at one name
 unfoldable pub addInlineData : ℕ → List ℕ → DataRef → ℕ → Answer (List ℕ)
 addInlineData type body d amount =
-    onBody type body (λ b. addAt b (ref 178 (triple d) amount) (spotByScan 178 (triple d) (b .refs)))
+    onBody type body (λ b. addAt b (makeRef 178 (triple d) amount) (positionByScan 178 (triple d) (b .refs)))
 
 unfoldable pub addInlineDataRef : ℕ → List ℕ → DataRef → Answer (List ℕ)
 addInlineDataRef type body d = addInlineData type body d 1
@@ -238,23 +239,23 @@ unfoldable pub addInlineShared : ℕ → List ℕ → SharedRef → ℕ → Answ
 addInlineShared type body s amount =
     ask (sharedKind (s .kind)) 3
     (onBody type body (λ b.
-    addAt b (ref (s .kind) (one (s .parent)) amount) (spotAnywhere (s .kind) (one (s .parent)) (s .parent) (b .refs))))
+    addAt b (makeRef (s .kind) (one (s .parent)) amount) (positionAnywhere (s .kind) (one (s .parent)) (s .parent) (b .refs))))
 
 -- the total stays. 10: "no other data reference unless an equal triple stands"
-unfoldable pub keyedAt : Body → Ref → Spot → Answer (List ℕ)
-keyedAt b r spot =
-    ask (counted (r .kind) || isGap spot) 9
-    (ask (not (counted (r .kind)) || not (isGap spot) || all (λ s. not (eqb (s .kind) (r .kind))) (b .refs)) 10
-    (ask (ltb (standingWeight spot + r .weight) (2 ^ 32)) 11
-    (accepted (bodyBytes (bodyWith b (b .total) (addedAt r spot))))))
+unfoldable pub keyedAt : Body → Ref → RefPosition → Answer (List ℕ)
+keyedAt b r position =
+    ask (counted (r .kind) || isGap position) 9
+    (ask (not (counted (r .kind)) || not (isGap position) || all (λ s. not (eqb (s .kind) (r .kind))) (b .refs)) 10
+    (ask (ltb (standingWeight position + r .weight) (2 ^ 32)) 11
+    (accepted (bodyBytes (bodyWith b (b .total) (addedAt r position))))))
 
 -- a block reference ignores the count; a data reference that is the only one goes before the first higher type
 unfoldable pub addInlineKeyed : ℕ → List ℕ → Keyed → ℕ → Answer (List ℕ)
 addInlineKeyed type body (Block block) count =
     onBody type body (λ b.
-    keyedAt b (ref 176 (one (block .tree)) 1) (spotAnywhere 176 (one (block .tree)) (block .tree) (b .refs)))
+    keyedAt b (makeRef 176 (one (block .tree)) 1) (positionAnywhere 176 (one (block .tree)) (block .tree) (b .refs)))
 addInlineKeyed type body (Data d) count =
-    onBody type body (λ b. keyedAt b (ref 178 (triple d) count) (spotAnywhere 178 (triple d) 0 (b .refs)))
+    onBody type body (λ b. keyedAt b (makeRef 178 (triple d) count) (positionAnywhere 178 (triple d) 0 (b .refs)))
 
 -- ---- bodies and items made new: keyed_data_ref_body, data_extent_body, TreeBlockAllocation, SharedAdd
 
@@ -264,12 +265,12 @@ keyedDataRefBody d count = wordBytes (triple d) ++ leBytes 4 count
 -- total 1, the generation, flags 1 (data), and one inline data reference that counts 1
 unfoldable pub dataExtentBody : ℕ → DataRef → List ℕ
 dataExtentBody generation d =
-    bodyBytes (record { total = 1; fixed = leBytes 8 generation ++ leBytes 8 1; refs = ref 178 (triple d) 1 ∷ [] })
+    bodyBytes (record { total = 1; fixed = leBytes 8 generation ++ leBytes 8 1; refs = makeRef 178 (triple d) 1 ∷ [] })
 
 -- total 1, the generation, flags 2 (tree block), and one inline block reference
 unfoldable pub treeBlockBody : ℕ → BlockRef → List ℕ
 treeBlockBody generation block =
-    bodyBytes (record { total = 1; fixed = leBytes 8 generation ++ leBytes 8 2; refs = ref 176 (one (block .tree)) 1 ∷ [] })
+    bodyBytes (record { total = 1; fixed = leBytes 8 generation ++ leBytes 8 2; refs = makeRef 176 (one (block .tree)) 1 ∷ [] })
 
 unfoldable pub treeBlockKey : ℕ → ℕ → Key
 treeBlockKey bytenr level = record { objectid = bytenr; kind = 169; offset = level }

@@ -41,10 +41,10 @@ pub record Seen : Type 0 where
   pub change : Change
   pub accepted : Bool
 
-abbrev pub seen : List ℕ → List Posting → List Seen
-seen sheet [] = []
-seen sheet (p ∷ postings) =
-    record { change = p .change; accepted = isAccepted (answerTo sheet p) } ∷ seen (sheetAfter sheet (answerTo sheet p)) postings
+abbrev pub allSeen : List ℕ → List Posting → List Seen
+allSeen sheet [] = []
+allSeen sheet (p ∷ postings) =
+    record { change = p .change; accepted = isAccepted (answerTo sheet p) } ∷ allSeen (sheetAfter sheet (answerTo sheet p)) postings
 
 -- ---- the tally of one name: "opening, .. and given and taken, which start at 0, all without limit or floor"
 
@@ -72,12 +72,12 @@ enter (DropData extent name) t = took t 1
 enter (DropShared extent name) t = tookAll t
 
 -- "A refused one moves nothing. Accepted, under the change's name"
-abbrev pub tally : Name → Tally → List Seen → Tally
-tally n t [] = t
-tally n t (s ∷ more) = tally n (cond (s .accepted && sameName n (nameOf (s .change))) (enter (s .change) t) t) more
+abbrev pub tallyFrom : Name → Tally → List Seen → Tally
+tallyFrom n t [] = t
+tallyFrom n t (s ∷ more) = tallyFrom n (cond (s .accepted && sameName n (nameOf (s .change))) (enter (s .change) t) t) more
 
 abbrev pub history : Name → ℕ → List Seen → Tally
-history n opening list = tally n (record { opening = opening; given = 0; taken = 0 }) list
+history n opening list = tallyFrom n (record { opening = opening; given = 0; taken = 0 }) list
 
 -- ---- what demand 3 speaks of
 
@@ -93,7 +93,7 @@ sheetItems sheet = itemsIn (readSheet sheet)
 
 -- the history of a name over a list of postings from an opening sheet
 abbrev pub historyOf : Name → List ℕ → List Posting → Tally
-historyOf n sheet postings = history n (count n (sheetItems sheet)) (seen sheet postings)
+historyOf n sheet postings = history n (count n (sheetItems sheet)) (allSeen sheet postings)
 
 -- an accepted change named the extent
 abbrev pub touched : ℕ → List Seen → Bool

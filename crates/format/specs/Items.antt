@@ -8,6 +8,7 @@ use lib.ListN.{length, drop, getD}
 use Rattle.fields.specs.Lists.{all, Cut}
 use Rattle.fields.specs.Numbers.{be, beBytes}
 use Rattle.fields.specs.Parts.{part}
+use Rattle.format.specs.Constants.{itemHead, mostData, mostSheet, mostItems}
 use Rattle.format.specs.declared.Key.{Key}
 use Rattle.format.specs.Questions.{Answer, refused, accepted, ask, bind, held}
 
@@ -53,7 +54,7 @@ unfoldable pub firstItem : List ℕ → Item
 firstItem bytes =
     record {
       key = keyOf (be (part 4 8 bytes)) (getD bytes 12 0) (be (part 13 8 bytes));
-      bytes = part 21 (itemLength bytes - 17) bytes;
+      bytes = part itemHead (itemLength bytes - 17) bytes;
     }
 
 -- the items to the end of the bytes, at most so many
@@ -69,8 +70,8 @@ readItems (suc most) (b ∷ bytes) =
 unfoldable pub readSheet : List ℕ → Answer (List Item)
 readSheet [] = refused 1
 readSheet (version ∷ bytes) =
-    ask (eqb version 1 && leb (1 + length bytes) 262144) 1
-    (bind (readItems 4096 bytes) (λ items. ask (rising items) 2 (accepted items)))
+    ask (eqb version 1 && leb (1 + length bytes) mostSheet) 1
+    (bind (readItems mostItems bytes) (λ items. ask (rising items) 2 (accepted items)))
 
 -- ---- an item list written: "version byte 1, then items to the end"
 
@@ -94,7 +95,7 @@ nodesizeFits nodesize = leb 501 nodesize && leb nodesize 65536
 
 -- a new item's data
 unfoldable pub dataFits : List ℕ → Bool
-dataFits bytes = leb (length bytes) 65535
+dataFits bytes = leb (length bytes) mostData
 
 -- questions 1 to 3 of a call on a sheet, then its items
 unfoldable pub onSheet : {A : Type 0} → List ℕ → Bool → (List Item → Answer A) → Answer A
@@ -103,7 +104,7 @@ onSheet sheet three next = bind (readSheet sheet) (λ items. ask three 3 (next i
 -- "the lent output and the limits of questions 1 and 3 hold the result"
 unfoldable pub sheetHolds : ℕ → List Item → Bool
 sheetHolds room items =
-    leb (length (sheetBytes items)) room && leb (length (sheetBytes items)) 262144 && leb (length items) 4096
+    leb (length (sheetBytes items)) room && leb (length (sheetBytes items)) mostSheet && leb (length items) mostItems
     && all (λ i. dataFits (i .bytes)) items
 
 unfoldable pub heldSheet : ℕ → Answer (List Item) → Answer (List ℕ)

@@ -5,7 +5,7 @@ use mathlib.Core.List.{List}
 use mathlib.Core.Option.{none}
 use Prim.Native.Nat.{ℕ}
 use lib.Dec.{leb, eqb}
-use Rattle.fields.specs.Lists.{sum, all, Cut, cut}
+use Rattle.fields.specs.Lists.{sum, all, Cut, firstCut}
 use Rattle.fields.specs.Numbers.{le}
 use Rattle.format.specs.declared.DataRef.{DataRef}
 use Rattle.format.specs.declared.SharedRef.{SharedRef}
@@ -13,7 +13,7 @@ use Rattle.format.specs.declared.Keyed.the-variants.{Block, Data}
 use Rattle.format.specs.declared.Change.{Change}
 use Rattle.format.specs.declared.Change.the-variants.{AddBlock, AddData, AddShared, DropBlock, DropData, DropShared}
 use Rattle.format.specs.Questions.{Answer, refused, absent, remove, accepted, ask, bind, needed, ifAbsent, also}
-use Rattle.format.specs.References.{placeOf}
+use Rattle.format.specs.References.{rankOf}
 use Rattle.format.specs.Bodies.{one, triple, sharedKind, lowerTotal, reduceTotal, dropInlineDataRef, dropKeyedDataRef, takeInlineShared}
 use Rattle.format.specs.Items.{Item, keyOf, onSheet, nodesizeFits, putBack, without, heldSheet}
 use Rattle.format.specs.Sheets.{hasKey}
@@ -64,7 +64,7 @@ unfoldable pub dropDataRef : DataRef → List Item → Cut Item → Answer (List
 dropDataRef d items c =
     ifAbsent
     (bind (dropInlineDataRef (c .hit .key .kind) (c .hit .bytes) d) (λ body. accepted (putBack c body)))
-    (bind (needed 5 (cut (hasKey (keyOf (c .hit .key .objectid) 178 (placeOf 178 (triple d)))) items)) (λ k.
+    (bind (needed 5 (firstCut (hasKey (keyOf (c .hit .key .objectid) 178 (rankOf 178 (triple d)))) items)) (λ k.
     bind (lowerTotal (c .hit .bytes)) (λ body.
     bind (droppedAt k (dropKeyedDataRef (k .hit .bytes) d)) (λ others. replaced (c .hit .key) body others))))
 
@@ -78,7 +78,7 @@ dropSharedRef s items c =
     ifAbsent
     (bind (takeInlineShared (c .hit .key .kind) (c .hit .bytes) s) (λ out.
     bind (reduceTotal (out .bytes) (out .count)) (λ body. accepted (putBack c body))))
-    (bind (needed 5 (cut (hasKey (keyOf (c .hit .key .objectid) (s .kind) (s .parent))) items)) (λ k.
+    (bind (needed 5 (firstCut (hasKey (keyOf (c .hit .key .objectid) (s .kind) (s .parent))) items)) (λ k.
     bind (reduceTotal (c .hit .bytes) (sharedCount (k .hit))) (λ body. replaced (c .hit .key) body (without k))))
 
 -- ---- the six changes

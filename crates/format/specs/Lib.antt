@@ -1,3 +1,4 @@
+pub mod Constants
 pub mod Questions
 pub mod Hash
 pub mod References

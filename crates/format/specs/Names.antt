@@ -7,7 +7,7 @@ use lib.ListN.{length}
 use Rattle.fields.specs.Lists.{sum, all, same}
 use Rattle.fields.specs.Numbers.{le}
 use Rattle.format.specs.Questions.{Answer, refused, absent, remove, accepted}
-use Rattle.format.specs.References.{known, Ref, ref, refAt, Body, readBody, place, ordered}
+use Rattle.format.specs.References.{known, Ref, makeRef, refAt, Body, readBody, rank, ordered}
 use Rattle.format.specs.Bodies.{one}
 use Rattle.format.specs.Items.{Item}
 use Rattle.format.specs.Apply.{isRecord, recordOf}
@@ -53,10 +53,10 @@ inForm form r = cond form (reference r) malformed
 unfoldable pub viewRefItem : Item → View
 viewRefItem i =
     cond (eqb (i .key .kind) 178)
-    (inForm (eqb (length (i .bytes)) 28 && eqb (i .key .offset) (place (refAt 178 (i .bytes)))) (refAt 178 (i .bytes)))
+    (inForm (eqb (length (i .bytes)) 28 && eqb (i .key .offset) (rank (refAt 178 (i .bytes)))) (refAt 178 (i .bytes)))
     (cond (eqb (i .key .kind) 184)
-    (inForm (eqb (length (i .bytes)) 4) (ref 184 (one (i .key .offset)) (le (i .bytes))))
-    (inForm (eqb (length (i .bytes)) 0) (ref (i .key .kind) (one (i .key .offset)) 1)))
+    (inForm (eqb (length (i .bytes)) 4) (makeRef 184 (one (i .key .offset)) (le (i .bytes))))
+    (inForm (eqb (length (i .bytes)) 0) (makeRef (i .key .kind) (one (i .key .offset)) 1)))
 
 unfoldable pub viewOf : Item → View
 viewOf i = cond (isRecord i) (viewRecord (readBody (i .key .kind) (i .bytes))) (cond (isRefItem i) (viewRefItem i) unrelated)

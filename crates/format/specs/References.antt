@@ -45,8 +45,8 @@ pub record Ref : Type 0 where
   pub fields : List ℕ
   pub weight : ℕ
 
-abbrev pub ref : ℕ → List ℕ → ℕ → Ref
-ref kind fields weight = record { kind = kind; fields = fields; weight = weight }
+abbrev pub makeRef : ℕ → List ℕ → ℕ → Ref
+makeRef kind fields weight = record { kind = kind; fields = fields; weight = weight }
 
 -- "Weights: 172 is 0, 176 and 182 are 1, 178 and 184 are their count"
 unfoldable pub weightOf : ℕ → ℕ → ℕ
@@ -54,7 +54,7 @@ weightOf kind count = cond (counted kind) count (cond (eqb kind 172) 0 1)
 
 -- the reference of that type whose payload begins these bytes
 unfoldable pub refAt : ℕ → List ℕ → Ref
-refAt kind bytes = ref kind (words (fieldCount kind) bytes) (weightOf kind (le (part (countPosition kind) 4 bytes)))
+refAt kind bytes = makeRef kind (words (fieldCount kind) bytes) (weightOf kind (le (part (countPosition kind) 4 bytes)))
 
 -- questions 7 and 8, a type byte and a payload at a time; the number of bytes bounds the number of references
 unfoldable pub readRefs : ℕ → List ℕ → Answer (List Ref)
@@ -107,12 +107,12 @@ bodyBytes b = leBytes 8 (b .total) ++ (b .fixed ++ refsBytes (b .refs))
 -- ---- order
 
 -- what references of one type are ordered by, and where an item of that name stands: the hash of a triple, else the first field
-unfoldable pub placeOf : ℕ → List ℕ → ℕ
-placeOf kind fields =
+unfoldable pub rankOf : ℕ → List ℕ → ℕ
+rankOf kind fields =
     cond (eqb kind 178) (dataRefHash (getD fields 0 0) (getD fields 1 0) (getD fields 2 0)) (getD fields 0 0)
 
-unfoldable pub place : Ref → ℕ
-place r = placeOf (r .kind) (r .fields)
+unfoldable pub rank : Ref → ℕ
+rank r = rankOf (r .kind) (r .fields)
 
 -- "within 176, 182 and 184 the first field falls; within 178 the hash never rises"
 unfoldable pub falls : ℕ → ℕ → ℕ → Bool
@@ -120,7 +120,7 @@ falls kind first second = cond (eqb kind 172) true (cond (eqb kind 178) (leb sec
 
 -- the second may stand right after the first: "inline types never fall"
 unfoldable pub follows : Ref → Ref → Bool
-follows r s = ltb (r .kind) (s .kind) || (eqb (r .kind) (s .kind) && falls (r .kind) (place r) (place s))
+follows r s = ltb (r .kind) (s .kind) || (eqb (r .kind) (s .kind) && falls (r .kind) (rank r) (rank s))
 
 abbrev pub leads : Ref → List Ref → Bool
 leads r [] = true

@@ -6,7 +6,8 @@ use mathlib.Core.Option.{Option, none, some}
 use Prim.Native.Nat.{ℕ, zero, suc, _+_, _-_, _/_}
 use lib.Dec.{leb, ltb}
 use lib.ListN.{length, take, drop, getElem?}
-use Rattle.fields.specs.Lists.{sum, all, Cut, cut}
+use Rattle.fields.specs.Lists.{sum, all, Cut, firstCut}
+use Rattle.format.specs.Constants.{itemHead}
 use Rattle.format.specs.declared.Key.{Key}
 use Rattle.format.specs.Questions.{Answer, accepted, ask, bind, needed, held}
 use Rattle.format.specs.Items.{Item, sameKey, keyBelow, onSheet, nodesizeFits, dataFits, without}
@@ -32,7 +33,7 @@ putBefore new items (some c) = c .front ++ new ∷ c .hit ∷ c .back
 unfoldable pub inserted : Item → List Item → Answer (List Item)
 inserted new items =
     ask (all (λ i. not (hasKey (new .key) i)) items) 9
-    (accepted (putBefore new items (cut (λ i. keyBelow (new .key) (i .key)) items)))
+    (accepted (putBefore new items (firstCut (λ i. keyBelow (new .key) (i .key)) items)))
 
 unfoldable pub insert : ℕ → List ℕ → Item → Answer (List Item)
 insert nodesize sheet new =
@@ -44,7 +45,7 @@ insertUnbounded sheet new = onSheet sheet (dataFits (new .bytes)) (inserted new)
 
 -- question 5
 unfoldable pub deleted : Key → List Item → Answer (List Item)
-deleted key items = bind (needed 5 (cut (hasKey key) items)) (λ c. accepted (without c))
+deleted key items = bind (needed 5 (firstCut (hasKey key) items)) (λ c. accepted (without c))
 
 unfoldable pub delete : List ℕ → Key → Answer (List Item)
 delete sheet key = onSheet sheet true (deleted key)
@@ -117,12 +118,12 @@ heldCuts room answer = held (λ numbers. leb (length numbers) room) answer
 
 -- ---- lookup by item number, from 0: "the part of the sheet that is its data"
 
-unfoldable pub item : List ℕ → ℕ → Answer (List ℕ)
-item sheet number = onSheet sheet true (λ items. bind (needed 5 (getElem? items number)) (λ i. accepted (i .bytes)))
+unfoldable pub itemData : List ℕ → ℕ → Answer (List ℕ)
+itemData sheet number = onSheet sheet true (λ items. bind (needed 5 (getElem? items number)) (λ i. accepted (i .bytes)))
 
 -- where that part starts: after the version byte, the items before it and 21 bytes of its own
 unfoldable pub itemStart : List ℕ → ℕ → Answer ℕ
 itemStart sheet number =
     onSheet sheet true (λ items.
     bind (needed 5 (getElem? items number)) (λ i.
-    accepted (1 + sum (λ j. 21 + length (j .bytes)) (take number items) + 21)))
+    accepted (1 + sum (λ j. itemHead + length (j .bytes)) (take number items) + itemHead)))

@@ -1,6 +1,43 @@
 // The declared types that the definitions in specs/ and the functions of the crates above share: keys, the names of
 // references, changes, and what calls answer.
 
+// Types of items and of inline references (btrfs's key types).
+pub const EXTENT_ITEM: u8 = 168;
+
+pub const METADATA_ITEM: u8 = 169;
+
+pub const EXTENT_OWNER_REF: u8 = 172;
+
+pub const TREE_BLOCK_REF: u8 = 176;
+
+pub const EXTENT_DATA_REF: u8 = 178;
+
+pub const SHARED_BLOCK_REF: u8 = 182;
+
+pub const SHARED_DATA_REF: u8 = 184;
+
+// Flags of an extent.
+pub const FLAG_DATA: u64 = 1;
+
+pub const FLAG_TREE_BLOCK: u64 = 2;
+
+pub const FLAG_FULL_BACKREF: u64 = 256;
+
+// What stands before an item's data (its length and key), and before a body's references (total, generation, flags).
+pub const ITEM_HEAD: usize = 21;
+
+pub const BODY_HEAD: usize = 24;
+
+// The longest body, the longest item list (document 01's sheet) and the most items in it.
+pub const MOST_DATA: usize = 65535;
+
+pub const MOST_SHEET: usize = 262144;
+
+pub const MOST_ITEMS: usize = 4096;
+
+// The most offsets that `held_only_by` takes.
+pub const MOST_OFFSETS: usize = 4096;
+
 // The key of an item. Keys compare by objectid, kind, offset; `kind` is document 01's type.
 pub struct Key {
     pub objectid: u64,

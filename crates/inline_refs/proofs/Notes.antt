@@ -13,13 +13,13 @@ use Rattle.fields.proofs.Lists.{by-test}
 use Rattle.fields.specs.Numbers.{le}
 use Rattle.fields.specs.Parts.{part}
 use Rattle.format.specs.Questions.{Answer, refused, absent, remove, accepted, ask, bind}
-use Rattle.format.specs.References.{payloadLength, Ref, refAt, readRefs, flagsOf, startOf, placeOf, Body, readBody}
+use Rattle.format.specs.References.{payloadLength, Ref, refAt, readRefs, flagsOf, startOf, rankOf, Body, readBody}
 use Rattle.format.specs.Bodies.{onBody, bodyFits, stops}
 use Rattle.format.proofs.Refs.{readRefs-enough}
-use Rattle.inline_refs.specs.declared.wanted.Wanted.{Wanted}
-use Rattle.inline_refs.specs.declared.wanted.Placed.{Placed}
-use Rattle.inline_refs.specs.declared.wanted.OwnPlace.{OwnPlace}
-use Rattle.inline_refs.specs.declared.wanted.OwnPlace.the-variants.{Known}
+use Rattle.inline_refs.specs.declared.ref_name.RefName.{RefName}
+use Rattle.inline_refs.specs.declared.ref_name.Ranked.{Ranked}
+use Rattle.inline_refs.specs.declared.ref_name.OwnRank.{OwnRank}
+use Rattle.inline_refs.specs.declared.ref_name.OwnRank.the-variants.{Known}
 use Rattle.inline_refs.specs.declared.scan.Seen.{Seen}
 use Rattle.inline_refs.specs.declared.scan.Seen.the-variants.{Open, Gap, Hit, Late}
 use Rattle.inline_refs.specs.declared.scan.Scan.{Scan}
@@ -29,79 +29,79 @@ use Rattle.inline_refs.specs.declared.scan.Rest.the-variants.{Clean, Fau
 use Rattle.inline_refs.specs.declared.start.Start.{Start}
 use Rattle.inline_refs.specs.declared.start.Start.the-variants.{From, Refused as Shut}
 use Rattle.inline_refs.specs.Steps.{readFrom, openOf}
-use Rattle.inline_refs.specs.Scans.{kindOf, fieldsOf, PlacedFor, KnownFor, isWanted, sizeOf, noted, walk, scanOf, restOf, refsIn}
+use Rattle.inline_refs.specs.Scans.{kindOf, fieldsOf, RankedFor, KnownFor, isWanted, refSizeOf, noted, walk, scanOf, restOf, refsIn}
 use Rattle.inline_refs.proofs.Steps.{At}
 
 -- ---- what is noted
 
-module _ (w : Wanted) (place at next : ℕ) (r : Ref) (others b : Bool) (n : b ≡ isWanted w r) where
-  pub note-hit : (x : ℕ) → b ≡ true → x ≡ r .weight → Hit at next x ≡ noted w place at next r (Open others)
+module _ (w : RefName) (rank at next : ℕ) (r : Ref) (others b : Bool) (n : b ≡ isWanted w r) where
+  pub note-hit : (x : ℕ) → b ≡ true → x ≡ r .weight → Hit at next x ≡ noted w rank at next r (Open others)
   unfolding noted
   note-hit x t q = simp (sym n ∙ t, q)
 
-  module _ (f : b ≡ false) (k d : Bool) (q : k ≡ others || eqb (r .kind) (kindOf w)) (s : d ≡ stops (kindOf w) place r) where
-    pub note-gap : d ≡ true → Gap at k ≡ noted w place at next r (Open others)
+  module _ (f : b ≡ false) (k d : Bool) (q : k ≡ others || eqb (r .kind) (kindOf w)) (s : d ≡ stops (kindOf w) rank r) where
+    pub note-gap : d ≡ true → Gap at k ≡ noted w rank at next r (Open others)
     unfolding noted
     note-gap t = simp (sym n ∙ f, sym s ∙ t, q)
 
-    pub note-open : d ≡ false → Open k ≡ noted w place at next r (Open others)
+    pub note-open : d ≡ false → Open k ≡ noted w rank at next r (Open others)
     unfolding noted
     note-open t = simp (sym n ∙ f, sym s ∙ t, q)
 
   module _ (gap : ℕ) where
-    pub note-late : (x : ℕ) → b ≡ true → x ≡ r .weight → Late gap at next x ≡ noted w place at next r (Gap gap others)
+    pub note-late : (x : ℕ) → b ≡ true → x ≡ r .weight → Late gap at next x ≡ noted w rank at next r (Gap gap others)
     unfolding noted
     note-late x t q = simp (sym n ∙ t, q)
 
-    pub note-still : (k : Bool) → b ≡ false → k ≡ others || eqb (r .kind) (kindOf w) → Gap gap k ≡ noted w place at next r (Gap gap others)
+    pub note-still : (k : Bool) → b ≡ false → k ≡ others || eqb (r .kind) (kindOf w) → Gap gap k ≡ noted w rank at next r (Gap gap others)
     unfolding noted
     note-still k f q = simp (sym n ∙ f, q)
 
 -- ---- a step of the walk
 
-scan-cons : (w : Wanted) (place at : ℕ) (seen : Seen) (r : Ref) (x : Answer (List Ref))
-    → scanOf w place (at + sizeOf r) (noted w place at (at + sizeOf r) r seen) x ≡ scanOf w place at seen (bind x (λ refs. accepted (r ∷ refs)))
+scan-cons : (w : RefName) (rank at : ℕ) (seen : Seen) (r : Ref) (x : Answer (List Ref))
+    → scanOf w rank (at + refSizeOf r) (noted w rank at (at + refSizeOf r) r seen) x ≡ scanOf w rank at seen (bind x (λ refs. accepted (r ∷ refs)))
 unfolding scanOf bind walk
-scan-cons w place at seen r (refused number) = refl
-scan-cons w place at seen r absent = refl
-scan-cons w place at seen r remove = refl
-scan-cons w place at seen r (accepted refs) = refl
+scan-cons w rank at seen r (refused refusal) = refl
+scan-cons w rank at seen r absent = refl
+scan-cons w rank at seen r remove = refl
+scan-cons w rank at seen r (accepted refs) = refl
 
-pub scan-step : (w : Wanted) (place at k p n q next : ℕ) (s : List ℕ) (seen after : Seen) → At s at k p n q next
-    → after ≡ noted w place at next (refAt k (drop p s)) seen
-    → scanOf w place next after (readFrom s next) ≡ scanOf w place at seen (readFrom s at)
-unfolding sizeOf refAt
-scan-step w place at k p n q next s seen after h e =
+pub scan-step : (w : RefName) (rank at k p n q next : ℕ) (s : List ℕ) (seen after : Seen) → At s at k p n q next
+    → after ≡ noted w rank at next (refAt k (drop p s)) seen
+    → scanOf w rank next after (readFrom s next) ≡ scanOf w rank at seen (readFrom s at)
+unfolding refSizeOf refAt
+scan-step w rank at k p n q next s seen after h e =
     let r : Ref = refAt k (drop p s) in
     let z : at + (1 + payloadLength k) ≡ next = omega (arith, h .further, h .long) in
-    ap (λ (x : Seen). scanOf w place next x (readFrom s next)) e
-    ∙ ap (λ (m : ℕ). scanOf w place m (noted w place at m r seen) (readFrom s next)) (sym z)
-    ∙ scan-cons w place at seen r (readFrom s next)
-    ∙ ap (scanOf w place at seen) (sym (h .reads))
+    ap (λ (x : Seen). scanOf w rank next x (readFrom s next)) e
+    ∙ ap (λ (m : ℕ). scanOf w rank m (noted w rank at m r seen) (readFrom s next)) (sym z)
+    ∙ scan-cons w rank at seen r (readFrom s next)
+    ∙ ap (scanOf w rank at seen) (sym (h .reads))
 
-pub scan-end : (w : Wanted) (place at : ℕ) (seen : Seen) (x : Answer (List Ref)) → x ≡ accepted [] → Read seen ≡ scanOf w place at seen x
+pub scan-end : (w : RefName) (rank at : ℕ) (seen : Seen) (x : Answer (List Ref)) → x ≡ accepted [] → Read seen ≡ scanOf w rank at seen x
 unfolding scanOf walk
-scan-end w place at seen x e = rw e refl
+scan-end w rank at seen x e = rw e refl
 
-pub scan-fault : (w : Wanted) (place at n : ℕ) (seen : Seen) (x : Answer (List Ref)) → x ≡ refused n → Fault n ≡ scanOf w place at seen x
+pub scan-fault : (w : RefName) (rank at n : ℕ) (seen : Seen) (x : Answer (List Ref)) → x ≡ refused n → Fault n ≡ scanOf w rank at seen x
 unfolding scanOf
-scan-fault w place at n seen x e = rw e refl
+scan-fault w rank at n seen x e = rw e refl
 
 -- ---- behind the wanted one
 
-pub hit-stays : (w : Wanted) (place start p q x : ℕ) (refs : List Ref) → walk w place start (Hit p q x) refs ≡ Hit p q x
+pub hit-stays : (w : RefName) (rank start p q x : ℕ) (refs : List Ref) → walk w rank start (Hit p q x) refs ≡ Hit p q x
 unfolding walk noted
-hit-stays w place start p q x [] = refl
-hit-stays w place start p q x (r ∷ refs) = hit-stays w place (start + sizeOf r) p q x refs
+hit-stays w rank start p q x [] = refl
+hit-stays w rank start p q x (r ∷ refs) = hit-stays w rank (start + refSizeOf r) p q x refs
 
-pub late-stays : (w : Wanted) (place start g p q x : ℕ) (refs : List Ref) → walk w place start (Late g p q x) refs ≡ Late g p q x
+pub late-stays : (w : RefName) (rank start g p q x : ℕ) (refs : List Ref) → walk w rank start (Late g p q x) refs ≡ Late g p q x
 unfolding walk noted
-late-stays w place start g p q x [] = refl
-late-stays w place start g p q x (r ∷ refs) = late-stays w place (start + sizeOf r) g p q x refs
+late-stays w rank start g p q x [] = refl
+late-stays w rank start g p q x (r ∷ refs) = late-stays w rank (start + refSizeOf r) g p q x refs
 
 rest-cons : (r : Ref) (x : Answer (List Ref)) → restOf x ≡ restOf (bind x (λ refs. accepted (r ∷ refs)))
 unfolding restOf bind
-rest-cons r (refused number) = refl
+rest-cons r (refused refusal) = refl
 rest-cons r absent = refl
 rest-cons r remove = refl
 rest-cons r (accepted refs) = refl
@@ -120,21 +120,21 @@ rest-fault n x e = rw e refl
 -- what is noted stays, so the rest decides
 abbrev Settled : Seen → Rest → Scan
 Settled seen Clean = Read seen
-Settled seen (Faulty number) = Fault number
+Settled seen (Faulty refusal) = Fault refusal
 
-settled : (w : Wanted) (place at : ℕ) (seen : Seen) → ((refs : List Ref) → walk w place at seen refs ≡ seen)
-    → (x : Answer (List Ref)) → Settled seen (restOf x) ≡ scanOf w place at seen x
+settled : (w : RefName) (rank at : ℕ) (seen : Seen) → ((refs : List Ref) → walk w rank at seen refs ≡ seen)
+    → (x : Answer (List Ref)) → Settled seen (restOf x) ≡ scanOf w rank at seen x
 unfolding restOf scanOf
-settled w place at seen stays (refused number) = refl
-settled w place at seen stays absent = refl
-settled w place at seen stays remove = refl
-settled w place at seen stays (accepted refs) = ap Read (sym (stays refs))
+settled w rank at seen stays (refused refusal) = refl
+settled w rank at seen stays absent = refl
+settled w rank at seen stays remove = refl
+settled w rank at seen stays (accepted refs) = ap Read (sym (stays refs))
 
-pub rest-hit : (w : Wanted) (place at p q y : ℕ) (r : Rest) (x : Answer (List Ref)) → r ≡ restOf x → Settled (Hit p q y) r ≡ scanOf w place at (Hit p q y) x
-rest-hit w place at p q y r x e = ap (Settled (Hit p q y)) e ∙ settled w place at (Hit p q y) (hit-stays w place at p q y) x
+pub rest-hit : (w : RefName) (rank at p q y : ℕ) (r : Rest) (x : Answer (List Ref)) → r ≡ restOf x → Settled (Hit p q y) r ≡ scanOf w rank at (Hit p q y) x
+rest-hit w rank at p q y r x e = ap (Settled (Hit p q y)) e ∙ settled w rank at (Hit p q y) (hit-stays w rank at p q y) x
 
-pub rest-late : (w : Wanted) (place at g p q y : ℕ) (r : Rest) (x : Answer (List Ref)) → r ≡ restOf x → Settled (Late g p q y) r ≡ scanOf w place at (Late g p q y) x
-rest-late w place at g p q y r x e = ap (Settled (Late g p q y)) e ∙ settled w place at (Late g p q y) (late-stays w place at g p q y) x
+pub rest-late : (w : RefName) (rank at g p q y : ℕ) (r : Rest) (x : Answer (List Ref)) → r ≡ restOf x → Settled (Late g p q y) r ≡ scanOf w rank at (Late g p q y) x
+rest-late w rank at g p q y r x e = ap (Settled (Late g p q y)) e ∙ settled w rank at (Late g p q y) (late-stays w rank at g p q y) x
 
 -- ---- where the references start
 
@@ -179,7 +179,7 @@ on-refs {A} type s f = go (bodyFits s) (readBody type s)
   where
     go : (t : Bool) (x : Answer Body) → ask t 3 (bind x (λ b. f (b .refs))) ≡ bind (ask t 3 (bind x (λ b. accepted (b .refs)))) f
     go false x = refl
-    go true (refused number) = refl
+    go true (refused refusal) = refl
     go true absent = refl
     go true remove = refl
     go true (accepted b) = refl
@@ -193,7 +193,7 @@ pub record Opens (type : ℕ) (s : List ℕ) (start : ℕ) : Type 0 where
 
 abbrev pub Opened : ℕ → List ℕ → Start → Type 0
 Opened type s (From start) = Opens type s start
-Opened type s (Shut number) = refsIn type s ≡ refused number
+Opened type s (Shut refusal) = refsIn type s ≡ refused refusal
 
 abbrev made : ℕ → List ℕ → List Ref → Body
 made total fixed refs = record { total = total; fixed = fixed; refs = refs }
@@ -201,7 +201,7 @@ made total fixed refs = record { total = total; fixed = fixed; refs = refs }
 refs-again : (x : Answer (List Ref)) (total : ℕ) (fixed : List ℕ)
     → bind (bind x (λ refs. accepted (made total fixed refs))) (λ b. accepted (b .refs)) ≡ x
 unfolding bind
-refs-again (refused number) total fixed = refl
+refs-again (refused refusal) total fixed = refl
 refs-again absent total fixed = refl
 refs-again remove total fixed = refl
 refs-again (accepted refs) total fixed = refl
@@ -233,22 +233,22 @@ pub opens : (type : ℕ) (s : List ℕ) (r : Start) → r ≡ openOf type s → 
 opens type s r e = subst (Opened type s) (sym e) (opened type s)
 
 -- a scan from where the references start is the scan of the body
-module _ (type : ℕ) (s : List ℕ) (w : Wanted) (place : ℕ) where
-  pub scan-opened : (start : ℕ) {scan : Scan} → From start ≡ openOf type s → scan ≡ scanOf w place start (Open false) (readFrom s start)
-      → scan ≡ scanOf w place (startOf type s) (Open false) (refsIn type s)
+module _ (type : ℕ) (s : List ℕ) (w : RefName) (rank : ℕ) where
+  pub scan-opened : (start : ℕ) {scan : Scan} → From start ≡ openOf type s → scan ≡ scanOf w rank start (Open false) (readFrom s start)
+      → scan ≡ scanOf w rank (startOf type s) (Open false) (refsIn type s)
   scan-opened start o e =
       let w₁ = opens type s _ o in
-      e ∙ ap₂ (λ (at : ℕ) (x : Answer (List Ref)). scanOf w place at (Open false) x) (w₁ .at) (sym (w₁ .reads))
+      e ∙ ap₂ (λ (at : ℕ) (x : Answer (List Ref)). scanOf w rank at (Open false) x) (w₁ .at) (sym (w₁ .reads))
 
-  pub scan-shut : (n : ℕ) → Shut n ≡ openOf type s → Fault n ≡ scanOf w place (startOf type s) (Open false) (refsIn type s)
-  scan-shut n o = scan-fault w place _ n _ _ (opens type s _ o)
+  pub scan-shut : (n : ℕ) → Shut n ≡ openOf type s → Fault n ≡ scanOf w rank (startOf type s) (Open false) (refsIn type s)
+  scan-shut n o = scan-fault w rank _ n _ _ (opens type s _ o)
 
 -- ---- a name's own place
 
 -- a scan by a place that is the name's own
-pub by-place : (w : Wanted) (placed : Placed) (start : ℕ) (x : Answer (List Ref)) {scan : Scan} → PlacedFor w placed
-    → scan ≡ scanOf w (placed .place) start (Open false) x → scan ≡ scanOf w (placeOf (kindOf w) (fieldsOf w)) start (Open false) x
-by-place w placed start x h e = e ∙ ap (λ (place : ℕ). scanOf w place start (Open false) x) (h .0)
+pub by-rank : (w : RefName) (ranked : Ranked) (start : ℕ) (x : Answer (List Ref)) {scan : Scan} → RankedFor w ranked
+    → scan ≡ scanOf w (ranked .rank) start (Open false) x → scan ≡ scanOf w (rankOf (kindOf w) (fieldsOf w)) start (Open false) x
+by-rank w ranked start x h e = e ∙ ap (λ (rank : ℕ). scanOf w rank start (Open false) x) (h .0)
 
-pub known-placed : (w : Wanted) {known : OwnPlace} {placed : Placed} → KnownFor w known → known ≡ Known placed → PlacedFor w placed
-known-placed w h e = subst (KnownFor w) e h
+pub known-ranked : (w : RefName) {known : OwnRank} {ranked : Ranked} → KnownFor w known → known ≡ Known ranked → RankedFor w ranked
+known-ranked w h e = subst (KnownFor w) e h

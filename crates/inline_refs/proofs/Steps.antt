@@ -14,9 +14,9 @@ use Rattle.format.specs.Questions.{refused, accepted, ask, bind}
 use Rattle.format.specs.References.{kinds, rowIn, known, payloadLength, countPosition, refAt, readRefs}
 use Rattle.format.proofs.Refs.{readRefs-nil, readRefs-cons}
 use Rattle.inline_refs.specs.declared.kinds.Row.the-variants.{Known}
-use Rattle.inline_refs.specs.declared.step.Step.{Step}
-use Rattle.inline_refs.specs.declared.step.Step.the-variants.{Ref as Whole, End, Refused}
-use Rattle.inline_refs.specs.Steps.{rowFrom, stepRow, stepAt, readFrom}
+use Rattle.inline_refs.specs.declared.step.RefStep.{RefStep}
+use Rattle.inline_refs.specs.declared.step.RefStep.the-variants.{Ref as Whole, End, Refused}
+use Rattle.inline_refs.specs.Steps.{rowFrom, stepRow, refStepAt, readFrom}
 
 -- ---- a search of the table
 
@@ -60,14 +60,14 @@ pub record At (s : List ℕ) (at k p n q next : ℕ) : Type 0 where
   pub within : next ≤ length s
   pub kindKnown : T (known k)
   pub long : n ≡ payloadLength k
-  pub place : q ≡ countPosition k
+  pub count-at : q ≡ countPosition k
   pub reads : readFrom s at ≡ bind (readFrom s next) (λ refs. accepted (refAt k (drop p s) ∷ refs))
 
 -- a reference that was stepped over ends within the body
 pub ends-within : (s : List ℕ) (at k p n q next : ℕ) → At s at k p n q next → p + payloadLength k ≤ length s
 ends-within s at k p n q next h = omega (arith, h .start, h .further, h .within, h .long)
 
-abbrev pub View : List ℕ → ℕ → Step → Type 0
+abbrev pub View : List ℕ → ℕ → RefStep → Type 0
 View s at (Whole k p n q c) = At s at k p n q (c .at)
 View s at End = readFrom s at ≡ accepted []
 View s at (Refused e) = readFrom s at ≡ refused e
@@ -98,7 +98,7 @@ view-row s at h (kind ∷ row) e =
     let some : 1 ≤ length (kind ∷ row) = omega arith in
     let yes : known k ≡ true = rw (← e) (le-leb _ _ some) in
     let long : payloadLength k ≡ getD row 0 0 = rw (← e) in
-    let place : countPosition k ≡ getD row 1 0 = rw (← e) in
+    let count-at : countPosition k ≡ getD row 1 0 = rw (← e) in
     by-test (ltb (length s - (at + 1)) (getD row 0 0))
     (λ y. rw y
     let less : length s - (at + 1) < getD row 0 0 = ltb-true _ _ y in
@@ -112,17 +112,17 @@ view-row s at h (kind ∷ row) e =
       within = omega arith;
       kindKnown = rw yes tt;
       long = sym long;
-      place = sym place;
+      count-at = sym count-at;
       reads = reads-at s at h ∙ simp (yes, long, le-leb _ _ fits);
     })
 
-pub view : (s : List ℕ) (at : ℕ) → View s at (stepAt s at)
-unfolding stepAt readFrom
+pub view : (s : List ℕ) (at : ℕ) → View s at (refStepAt s at)
+unfolding refStepAt readFrom
 view s at =
     by-test (ltb at (length s))
     (λ y. rw y (view-row s at (ltb-true _ _ y) (rowIn kinds (getD s at 0)) refl))
     (λ y. rw y (ap (λ (l : List ℕ). readRefs (length l) l) (drop-of-length-le s (ltb-false _ _ y)) ∙ readRefs-nil 0))
 
 -- what a step found, by its case
-pub seen : (s : List ℕ) (at : ℕ) (r : Step) → r ≡ stepAt s at → View s at r
+pub seen : (s : List ℕ) (at : ℕ) (r : RefStep) → r ≡ refStepAt s at → View s at r
 seen s at r e = subst (View s at) (sym e) (view s at)

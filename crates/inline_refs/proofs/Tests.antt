@@ -15,11 +15,11 @@ use Rattle.fields.specs.Parts.{part}
 use Rattle.fields.proofs.Lists.{eqb-same, cond-yes}
 use Rattle.fields.proofs.Numbers.{words-at}
 use Rattle.format.specs.Hash.{dataRefHash}
-use Rattle.format.specs.References.{rowIn, known, payloadLength, countPosition, counted, fieldCount, weightOf, refAt, place, placeOf}
+use Rattle.format.specs.References.{rowIn, known, payloadLength, countPosition, counted, fieldCount, weightOf, refAt, rank, rankOf}
 use Rattle.format.specs.Bodies.{named, one, stops}
 use Rattle.format.proofs.Rows.{payload-fields, count-after-fields, some-field}
-use Rattle.inline_refs.specs.declared.wanted.Wanted.{Wanted}
-use Rattle.inline_refs.specs.declared.wanted.Wanted.the-variants.{Block, Data, SharedBlock, SharedData}
+use Rattle.inline_refs.specs.declared.ref_name.RefName.{RefName}
+use Rattle.inline_refs.specs.declared.ref_name.RefName.the-variants.{Block, Data, SharedBlock, SharedData}
 use Rattle.inline_refs.specs.Scans.{kindOf, fieldsOf, isWanted}
 
 and-true : (b : Bool) → b && true ≡ b
@@ -44,14 +44,14 @@ count-inside k n t e h =
 
 -- ---- names
 
-pub wanted-fields : (w : Wanted) → length (fieldsOf w) ≡ fieldCount (kindOf w)
+pub wanted-fields : (w : RefName) → length (fieldsOf w) ≡ fieldCount (kindOf w)
 unfolding kindOf fieldsOf fieldCount counted countPosition payloadLength rowIn
 wanted-fields (Block name) = refl
 wanted-fields (Data name) = refl
 wanted-fields (SharedBlock parent) = refl
 wanted-fields (SharedData parent) = refl
 
-module _ (w : Wanted) (k : ℕ) (l : List ℕ) where
+module _ (w : RefName) (k : ℕ) (l : List ℕ) where
   pub named-other : (kindOf w ≡ k → ⊥) → false ≡ isWanted w (refAt k l)
   unfolding named refAt
   named-other h = simp (ne-eqb k (kindOf w) (λ e. h (sym e)))
@@ -88,16 +88,16 @@ module _ (p : ℕ) (s : List ℕ) where
     unfolding same
     triple-third y z e₂ e₃ h₁ h₂ = rw triple-words (simp (← e, ← e₂, ← e₃, eq-eqb _ _ h₁, eq-eqb _ _ h₂, and-true))
 
--- ---- places
+-- ---- ranks
 
-pub place-field : (k p x : ℕ) (s : List ℕ) → T (known k) → (k ≡ 178 → ⊥) → x ≡ le (part p 8 s) → x ≡ place (refAt k (drop p s))
-unfolding place placeOf refAt
-place-field k p x s t h e = e ∙ sym (words-at (fieldCount k) 0 (drop p s) (some-field k t)) ∙ simp (ne-eqb _ _ h)
+pub rank-field : (k p x : ℕ) (s : List ℕ) → T (known k) → (k ≡ 178 → ⊥) → x ≡ le (part p 8 s) → x ≡ rank (refAt k (drop p s))
+unfolding rank rankOf refAt
+rank-field k p x s t h e = e ∙ sym (words-at (fieldCount k) 0 (drop p s) (some-field k t)) ∙ simp (ne-eqb _ _ h)
 
-pub place-hash : (k p x a b c : ℕ) (s : List ℕ) → k ≡ 178 → a ≡ le (part p 8 s) → b ≡ le (part (p + 8) 8 s) → c ≡ le (part (p + 16) 8 s)
-    → x ≡ dataRefHash a b c → x ≡ place (refAt k (drop p s))
-unfolding place placeOf refAt fieldCount counted countPosition rowIn
-place-hash k p x a b c s h e₁ e₂ e₃ q =
+pub rank-hash : (k p x a b c : ℕ) (s : List ℕ) → k ≡ 178 → a ≡ le (part p 8 s) → b ≡ le (part (p + 8) 8 s) → c ≡ le (part (p + 16) 8 s)
+    → x ≡ dataRefHash a b c → x ≡ rank (refAt k (drop p s))
+unfolding rank rankOf refAt fieldCount counted countPosition rowIn
+rank-hash k p x a b c s h e₁ e₂ e₃ q =
     q ∙ rw h (ap (λ (l : List ℕ). dataRefHash (getD l 0 0) (getD l 1 0) (getD l 2 0))
     ((λ i. e₁ i ∷ e₂ i ∷ e₃ i ∷ []) ∙ sym (triple-words p s)))
 
@@ -115,7 +115,7 @@ module _ (w at k : ℕ) (l : List ℕ) where
     unfolding stops refAt
     stops-lower e n = simp (ne-eqb _ _ h, le-ltb _ _ e, ne-eqb _ _ n)
 
-    pub stops-same : (x : ℕ) → w ≡ k → x ≡ place (refAt k l) → ltb x at ≡ stops w at (refAt k l)
+    pub stops-same : (x : ℕ) → w ≡ k → x ≡ rank (refAt k l) → ltb x at ≡ stops w at (refAt k l)
     unfolding stops refAt
     stops-same x e q =
         let z : k ≤ w = omega arith in
@@ -123,8 +123,8 @@ module _ (w at k : ℕ) (l : List ℕ) where
 
     pub stops-zero : w ≡ k → at ≡ 0 → false ≡ stops w at (refAt k l)
     stops-zero e q =
-        let z : at ≤ place (refAt k l) = omega arith in
-        sym (le-ltb (place (refAt k l)) at z) ∙ stops-same (place (refAt k l)) e refl
+        let z : at ≤ rank (refAt k l) = omega arith in
+        sym (le-ltb (rank (refAt k l)) at z) ∙ stops-same (rank (refAt k l)) e refl
 
 -- ---- weights
 

@@ -6,8 +6,8 @@ use Rattle.format.specs.References.{Ref}
 use Rattle.inline_refs.specs.declared.count.Counted.{Counted}
 use Rattle.inline_refs.specs.declared.count.Counted.the-variants.{Count, Refused}
 
-unfoldable pub countOf : Answer (List Ref) → Counted
-countOf (refused number) = Refused number
-countOf absent = Refused 100
-countOf remove = Refused 101
-countOf (accepted refs) = Count (length refs)
+unfoldable pub refCountOf : Answer (List Ref) → Counted
+refCountOf (refused refusal) = Refused refusal
+refCountOf absent = Refused 100
+refCountOf remove = Refused 101
+refCountOf (accepted refs) = Count (length refs)

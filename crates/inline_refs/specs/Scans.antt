@@ -5,14 +5,14 @@ use mathlib.Core.List.{List, [], _∷_}
 use Prim.Native.Nat.{ℕ, _+_}
 use lib.Dec.{eqb}
 use Rattle.format.specs.Questions.{Answer, refused, absent, remove, accepted}
-use Rattle.extent_write.specs.Runs.{Fits}
-use Rattle.format.specs.References.{payloadLength, placeOf, Ref}
+use Rattle.extent_write.specs.Runs.{RunFits}
+use Rattle.format.specs.References.{payloadLength, rankOf, Ref}
 use Rattle.format.specs.Bodies.{onBody, named, one, triple, stops}
-use Rattle.inline_refs.specs.declared.wanted.Wanted.{Wanted}
-use Rattle.inline_refs.specs.declared.wanted.Wanted.the-variants.{Block, Data, SharedBlock, SharedData}
-use Rattle.inline_refs.specs.declared.wanted.Placed.{Placed}
-use Rattle.inline_refs.specs.declared.wanted.OwnPlace.{OwnPlace}
-use Rattle.inline_refs.specs.declared.wanted.OwnPlace.the-variants.{Known, Unknown}
+use Rattle.inline_refs.specs.declared.ref_name.RefName.{RefName}
+use Rattle.inline_refs.specs.declared.ref_name.RefName.the-variants.{Block, Data, SharedBlock, SharedData}
+use Rattle.inline_refs.specs.declared.ref_name.Ranked.{Ranked}
+use Rattle.inline_refs.specs.declared.ref_name.OwnRank.{OwnRank}
+use Rattle.inline_refs.specs.declared.ref_name.OwnRank.the-variants.{Known, Unknown}
 use Rattle.inline_refs.specs.declared.scan.Seen.{Seen}
 use Rattle.inline_refs.specs.declared.scan.Seen.the-variants.{Open, Gap, Hit, Late}
 use Rattle.inline_refs.specs.declared.scan.Scan.{Scan}
@@ -20,69 +20,69 @@ use Rattle.inline_refs.specs.declared.scan.Scan.the-variants.{Fault, Rea
 use Rattle.inline_refs.specs.declared.scan.Rest.{Rest}
 use Rattle.inline_refs.specs.declared.scan.Rest.the-variants.{Clean, Fault as Faulty}
 
-unfoldable pub kindOf : Wanted → ℕ
+unfoldable pub kindOf : RefName → ℕ
 kindOf (Block name) = 176
 kindOf (Data name) = 178
 kindOf (SharedBlock parent) = 182
 kindOf (SharedData parent) = 184
 
-unfoldable pub fieldsOf : Wanted → List ℕ
+unfoldable pub fieldsOf : RefName → List ℕ
 fieldsOf (Block name) = one (name .tree)
 fieldsOf (Data name) = triple name
 fieldsOf (SharedBlock parent) = one parent
 fieldsOf (SharedData parent) = one parent
 
--- the tree whose register a data reference's place is made of; 0 for a place that is no hash
-unfoldable pub treeOf : Wanted → ℕ
+-- the tree whose register a data reference's rank is made of; 0 for a rank that is no hash
+unfoldable pub treeOf : RefName → ℕ
 treeOf (Block name) = 0
 treeOf (Data name) = name .tree
 treeOf (SharedBlock parent) = 0
 treeOf (SharedData parent) = 0
 
--- a name's own place, with a run over a tree
-abbrev pub PlacedFor : Wanted → Placed → Type 0
-PlacedFor wanted placed = (placed .place ≡ placeOf (kindOf wanted) (fieldsOf wanted)) × Fits (placed .own)
+-- a name's own rank, with a run over a tree
+abbrev pub RankedFor : RefName → Ranked → Type 0
+RankedFor wanted ranked = (ranked .rank ≡ rankOf (kindOf wanted) (fieldsOf wanted)) × RunFits (ranked .own)
 
-abbrev pub KnownFor : Wanted → OwnPlace → Type 0
-KnownFor wanted (Known placed) = PlacedFor wanted placed
+abbrev pub KnownFor : RefName → OwnRank → Type 0
+KnownFor wanted (Known ranked) = RankedFor wanted ranked
 KnownFor wanted Unknown = Unit {0}
 
 -- the wanted reference
-abbrev pub isWanted : Wanted → Ref → Bool
+abbrev pub isWanted : RefName → Ref → Bool
 isWanted wanted r = named (kindOf wanted) (fieldsOf wanted) r
 
 -- how many bytes a reference takes
-unfoldable pub sizeOf : Ref → ℕ
-sizeOf r = 1 + payloadLength (r .kind)
+unfoldable pub refSizeOf : Ref → ℕ
+refSizeOf r = 1 + payloadLength (r .kind)
 
 -- what is noted at a reference that stands at `at`: the first wanted one; and, while there is none, the first one that a new
 -- reference goes before, and whether any of the wanted kind stands
-unfoldable pub noted : Wanted → ℕ → ℕ → ℕ → Ref → Seen → Seen
-noted wanted place at next r (Open others) =
+unfoldable pub noted : RefName → ℕ → ℕ → ℕ → Ref → Seen → Seen
+noted wanted rank at next r (Open others) =
     cond (isWanted wanted r) (Hit at next (r .weight))
-    (cond (stops (kindOf wanted) place r) (Gap at (others || eqb (r .kind) (kindOf wanted))) (Open (others || eqb (r .kind) (kindOf wanted))))
-noted wanted place at next r (Gap gap others) =
+    (cond (stops (kindOf wanted) rank r) (Gap at (others || eqb (r .kind) (kindOf wanted))) (Open (others || eqb (r .kind) (kindOf wanted))))
+noted wanted rank at next r (Gap gap others) =
     cond (isWanted wanted r) (Late gap at next (r .weight)) (Gap gap (others || eqb (r .kind) (kindOf wanted)))
-noted wanted place at next r (Hit first after weight) = Hit first after weight
-noted wanted place at next r (Late gap first after weight) = Late gap first after weight
+noted wanted rank at next r (Hit first after weight) = Hit first after weight
+noted wanted rank at next r (Late gap first after weight) = Late gap first after weight
 
 -- from a reference that stands at `at` to the last
-unfoldable pub walk : Wanted → ℕ → ℕ → Seen → List Ref → Seen
-walk wanted place at seen [] = seen
-walk wanted place at seen (r ∷ refs) =
-    walk wanted place (at + sizeOf r) (noted wanted place at (at + sizeOf r) r seen) refs
+unfoldable pub walk : RefName → ℕ → ℕ → Seen → List Ref → Seen
+walk wanted rank at seen [] = seen
+walk wanted rank at seen (r ∷ refs) =
+    walk wanted rank (at + refSizeOf r) (noted wanted rank at (at + refSizeOf r) r seen) refs
 
 -- what is noted of the references that were read. Their reader decides (format/proofs/Decisions, `refs-decide`), so 100 and 101 do
 -- not come
-unfoldable pub scanOf : Wanted → ℕ → ℕ → Seen → Answer (List Ref) → Scan
-scanOf wanted place at seen (refused number) = Fault number
-scanOf wanted place at seen absent = Fault 100
-scanOf wanted place at seen remove = Fault 101
-scanOf wanted place at seen (accepted refs) = Read (walk wanted place at seen refs)
+unfoldable pub scanOf : RefName → ℕ → ℕ → Seen → Answer (List Ref) → Scan
+scanOf wanted rank at seen (refused refusal) = Fault refusal
+scanOf wanted rank at seen absent = Fault 100
+scanOf wanted rank at seen remove = Fault 101
+scanOf wanted rank at seen (accepted refs) = Read (walk wanted rank at seen refs)
 
 -- where nothing is noted any more. As above 100 and 101 do not come
 unfoldable pub restOf : Answer (List Ref) → Rest
-restOf (refused number) = Faulty number
+restOf (refused refusal) = Faulty refusal
 restOf absent = Faulty 100
 restOf remove = Faulty 101
 restOf (accepted refs) = Clean

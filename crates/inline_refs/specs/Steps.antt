@@ -11,21 +11,21 @@ use Rattle.inline_refs.specs.declared.kinds.Row.{Row}
 use Rattle.inline_refs.specs.declared.kinds.Row.the-variants.{Known, Unknown}
 use Rattle.inline_refs.specs.declared.start.Start.{Start}
 use Rattle.inline_refs.specs.declared.start.Start.the-variants.{From, Refused as Shut}
-use Rattle.inline_refs.specs.declared.step.Step.{Step}
-use Rattle.inline_refs.specs.declared.step.Step.the-variants.{Ref as Whole, End, Refused}
+use Rattle.inline_refs.specs.declared.step.RefStep.{RefStep}
+use Rattle.inline_refs.specs.declared.step.RefStep.the-variants.{Ref as Whole, End, Refused}
 
 -- a row of the table, or none
 unfoldable pub rowFrom : List ℕ → Row
 rowFrom [] = Unknown
 rowFrom (kind ∷ row) = Known (getD row 0 0) (getD row 1 0)
 
-unfoldable pub stepRow : Row → List ℕ → ℕ → Step
+unfoldable pub stepRow : Row → List ℕ → ℕ → RefStep
 stepRow (Known size count) s at =
     cond (ltb (length s - (at + 1)) size) (Refused 8) (Whole (getD s at 0) (at + 1) size count (record { at = at + 1 + size }))
 stepRow Unknown s at = Refused 7
 
-unfoldable pub stepAt : List ℕ → ℕ → Step
-stepAt s at = cond (ltb at (length s)) (stepRow (rowFrom (rowIn kinds (getD s at 0))) s at) End
+unfoldable pub refStepAt : List ℕ → ℕ → RefStep
+refStepAt s at = cond (ltb at (length s)) (stepRow (rowFrom (rowIn kinds (getD s at 0))) s at) End
 
 -- the references from a position on
 unfoldable pub readFrom : List ℕ → ℕ → Answer (List Ref)

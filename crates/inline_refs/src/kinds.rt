@@ -1,16 +1,21 @@
 // The table of the five kinds of inline reference. A constant array is copied to the stack where it is used, so a public call
 // makes one copy and lends it down.
+use format::EXTENT_DATA_REF;
+use format::EXTENT_OWNER_REF;
+use format::SHARED_BLOCK_REF;
+use format::SHARED_DATA_REF;
+use format::TREE_BLOCK_REF;
 ghost use mathlib.Core.Path.{_≡_};
 ghost use Rattle.format.specs.References.{kinds, rowIn};
 ghost use Rattle.inline_refs.specs.Steps.{rowFrom};
 
 // Type, payload length, and where in the payload the count stands (0: no count).
 const KINDS: [[u8; 3]; 5] = [
-    [172, 8, 0],
-    [176, 8, 0],
-    [178, 28, 24],
-    [182, 8, 0],
-    [184, 12, 8],
+    [EXTENT_OWNER_REF, 8, 0],
+    [TREE_BLOCK_REF, 8, 0],
+    [EXTENT_DATA_REF, 28, 24],
+    [SHARED_BLOCK_REF, 8, 0],
+    [SHARED_DATA_REF, 12, 8],
 ];
 
 // A copy of the table.

@@ -5,10 +5,10 @@
 // hand, and the work is left to `step_at`, which it covers. Every other caller goes through `step_from`, whose parameters are
 // plain, and needs no such proof. The table of the kinds and the body are lent for one lifetime.
 use crate::step::Cursor;
-use crate::step::Step;
+use crate::step::RefStep;
 ghost use mathlib.Core.Path.{_≡_};
 ghost use Rattle.format.specs.References.{kinds};
-ghost use Rattle.inline_refs.specs.Steps.{stepAt};
+ghost use Rattle.inline_refs.specs.Steps.{refStepAt};
 ghost use Rattle.inline_refs.specs.Moves.{moved};
 
 pub struct Reader<'a> {
@@ -18,19 +18,19 @@ pub struct Reader<'a> {
 
 // What stands at a position, and where a reader goes from there.
 pub struct Stepped {
-    pub step: Step,
+    pub step: RefStep,
     pub at: usize,
 }
 
 // The work of a step, on the reader's two fields.
 fn step_at<'a>(table: &'a [[u8; 3]; 5], body: &'a [u8], at: usize) -> Stepped
     requires { ⌜ now table ≡ kinds ⌝ }
-    ensures { λ r. ⌜ (r .step ≡ stepAt (now (body .entry)) at) × (r .at ≡ moved (stepAt (now (body .entry)) at) at) ⌝ }
+    ensures { λ r. ⌜ (r .step ≡ refStepAt (now (body .entry)) at) × (r .at ≡ moved (refStepAt (now (body .entry)) at) at) ⌝ }
 {
     let cursor = Cursor { at };
     let step = cursor.step(table, body);
     match step {
-        Step::Ref {
+        RefStep::Ref {
             kind: _,
             start: _,
             size: _,
@@ -40,8 +40,8 @@ fn step_at<'a>(table: &'a [[u8; 3]; 5], body: &'a [u8], at: usize) -> Stepped
             let after = next.at;
             Stepped { step, at: after }
         }
-        Step::End => Stepped { step, at },
-        Step::Refused(_) => Stepped { step, at },
+        RefStep::End => Stepped { step, at },
+        RefStep::Refused(_) => Stepped { step, at },
     }
 }
 
@@ -53,9 +53,9 @@ impl<'a> Reader<'a> {
     }
 
     // The body stays; the position is behind a whole reference, and as it was at the end and at a fault.
-    pub fn step(&mut self, table: &'a [[u8; 3]; 5]) -> Step
+    pub fn step(&mut self, table: &'a [[u8; 3]; 5]) -> RefStep
         requires { ⌜ now table ≡ kinds ⌝ }
-        ensures { λ r. ⌜ (r ≡ stepAt (now (now (self .entry) .body)) (now (self .entry) .at)) × (now (self .exit) .body ≡ now (self .entry) .body) × (now (self .exit) .at ≡ moved (stepAt (now (now (self .entry) .body)) (now (self .entry) .at)) (now (self .entry) .at)) ⌝ }
+        ensures { λ r. ⌜ (r ≡ refStepAt (now (now (self .entry) .body)) (now (self .entry) .at)) × (now (self .exit) .body ≡ now (self .entry) .body) × (now (self .exit) .at ≡ moved (refStepAt (now (now (self .entry) .body)) (now (self .entry) .at)) (now (self .entry) .at)) ⌝ }
     {
         let stepped = step_at(table, self.body, self.at);
         self.at = stepped.at;
@@ -66,7 +66,7 @@ impl<'a> Reader<'a> {
 // One step of a reader that stands at `at`: what it says, and where it then stands.
 pub fn step_from<'a>(table: &'a [[u8; 3]; 5], body: &'a [u8], at: usize) -> Stepped
     requires { ⌜ now table ≡ kinds ⌝ }
-    ensures { λ r. ⌜ (r .step ≡ stepAt (now (body .entry)) at) × (r .at ≡ moved (stepAt (now (body .entry)) at) at) ⌝ }
+    ensures { λ r. ⌜ (r .step ≡ refStepAt (now (body .entry)) at) × (r .at ≡ moved (refStepAt (now (body .entry)) at) at) ⌝ }
 {
     let mut reader = Reader::new(body, at);
     let step = reader.step(table);

@@ -1,17 +1,18 @@
 // The one scan over the references of a body.
+use crate::ref_name::OwnRank;
+use crate::ref_name::RefName;
 use crate::start::Start;
 use crate::step::Cursor;
-use crate::step::Step;
-use crate::wanted::OwnPlace;
-use crate::wanted::Wanted;
+use crate::step::RefStep;
 use extent_write::TreeRun;
+use format::EXTENT_OWNER_REF;
 ghost use mathlib.Core.Path.{_≡_};
 ghost use mathlib.Core.Bool.{false};
 ghost use Prim.Native.Nat.{ℕ, _+_, _≤_};
 ghost use lib.Dec.{T};
 ghost use lib.ListN.{length, drop};
-ghost use Rattle.extent_write.specs.Runs.{Fits};
-ghost use Rattle.format.specs.References.{kinds, known, payloadLength, countPosition, refAt, startOf, placeOf};
+ghost use Rattle.extent_write.specs.Runs.{RunFits};
+ghost use Rattle.format.specs.References.{kinds, known, payloadLength, countPosition, refAt, startOf, rankOf};
 ghost use Rattle.inline_refs.specs.Steps.{readFrom};
 ghost use Rattle.inline_refs.specs.Scans.{kindOf, fieldsOf, KnownFor, scanOf, restOf, refsIn};
 
@@ -55,7 +56,7 @@ pub fn weight_at(body: &[u8], kind: u8, start: usize, count: usize) -> u32
     if 0 < count {
         return fields::get_u32_le(body, start + count);
     }
-    if kind == 172 {
+    if kind == EXTENT_OWNER_REF {
         return 0;
     }
     1
@@ -77,15 +78,15 @@ fn rest_of(rows: &[[u8; 3]; 5], body: &[u8], start: usize) -> Rest
     loop {
         let cursor = Cursor { at };
         match cursor.step(rows, body) {
-            Step::Ref {
+            RefStep::Ref {
                 kind: _,
                 start: _,
                 size: _,
                 count: _,
                 next,
             } => at = next.at,
-            Step::End => return Rest::Clean,
-            Step::Refused(number) => return Rest::Fault(number),
+            RefStep::End => return Rest::Clean,
+            RefStep::Refused(refusal) => return Rest::Fault(refusal),
         }
     }
 }
@@ -93,11 +94,11 @@ fn rest_of(rows: &[[u8; 3]; 5], body: &[u8], start: usize) -> Rest
 // What is left of a scan behind the wanted reference, which stands at `at`.
 fn scan_hit(rows: &[[u8; 3]; 5], body: &[u8], at: usize, next: usize, weight: u32) -> Scan
     requires { ⌜ now rows ≡ kinds ⌝ }
-    ensures { λ r. ⌜ ((wanted : Wanted) (place : ℕ) → r ≡ scanOf wanted place next (Seen.Hit at next weight) (readFrom (now (body .entry)) next)) ⌝ }
+    ensures { λ r. ⌜ ((wanted : RefName) (rank : ℕ) → r ≡ scanOf wanted rank next (Seen.Hit at next weight) (readFrom (now (body .entry)) next)) ⌝ }
 {
     match rest_of(rows, body, next) {
         Rest::Clean => Scan::Read(Seen::Hit { at, next, weight }),
-        Rest::Fault(number) => Scan::Fault(number),
+        Rest::Fault(refusal) => Scan::Fault(refusal),
     }
 }
 
@@ -111,7 +112,7 @@ fn scan_late(
     weight: u32,
 ) -> Scan
     requires { ⌜ now rows ≡ kinds ⌝ }
-    ensures { λ r. ⌜ ((wanted : Wanted) (place : ℕ) → r ≡ scanOf wanted place next (Seen.Late gap at next weight) (readFrom (now (body .entry)) next)) ⌝ }
+    ensures { λ r. ⌜ ((wanted : RefName) (rank : ℕ) → r ≡ scanOf wanted rank next (Seen.Late gap at next weight) (readFrom (now (body .entry)) next)) ⌝ }
 {
     match rest_of(rows, body, next) {
         Rest::Clean => Scan::Read(Seen::Late {
@@ -120,7 +121,7 @@ fn scan_late(
             next,
             weight,
         }),
-        Rest::Fault(number) => Scan::Fault(number),
+        Rest::Fault(refusal) => Scan::Fault(refusal),
     }
 }
 
@@ -129,34 +130,34 @@ fn scan_gap(
     rows: &[[u8; 3]; 5],
     body: &[u8],
     start: usize,
-    wanted: Wanted,
+    wanted: RefName,
     gap: usize,
     stood: bool,
 ) -> Scan
     requires { ⌜ now rows ≡ kinds ⌝ }
-    ensures { λ r. ⌜ ((place : ℕ) → r ≡ scanOf wanted place start (Seen.Gap gap stood) (readFrom (now (body .entry)) start)) ⌝ }
+    ensures { λ r. ⌜ ((rank : ℕ) → r ≡ scanOf wanted rank start (Seen.Gap gap stood) (readFrom (now (body .entry)) start)) ⌝ }
 {
     let mut at = start;
     let mut others = stood;
     loop {
         let cursor = Cursor { at };
         match cursor.step(rows, body) {
-            Step::Ref {
+            RefStep::Ref {
                 kind,
                 start: payload,
                 size: _,
                 count,
                 next,
             } => {
-                if crate::wanted::names(wanted, body, kind, payload) {
+                if crate::ref_name::names(wanted, body, kind, payload) {
                     let weight = weight_at(body, kind, payload, count);
                     return scan_late(rows, body, gap, at, next.at, weight);
                 }
-                others = crate::wanted::any_of_kind(others, wanted, kind);
+                others = crate::ref_name::any_of_kind(others, wanted, kind);
                 at = next.at;
             }
-            Step::End => return Scan::Read(Seen::Gap { at: gap, others }),
-            Step::Refused(number) => return Scan::Fault(number),
+            RefStep::End => return Scan::Read(Seen::Gap { at: gap, others }),
+            RefStep::Refused(refusal) => return Scan::Fault(refusal),
         }
     }
 }
@@ -166,106 +167,113 @@ fn scan_from(
     rows: &[[u8; 3]; 5],
     body: &[u8],
     start: usize,
-    wanted: Wanted,
-    place: u64,
+    wanted: RefName,
+    rank: u64,
     own: TreeRun,
 ) -> Scan
-    requires { ⌜ (now rows ≡ kinds) × Fits own ⌝ }
-    ensures { λ r. ⌜ r ≡ scanOf wanted place start (Seen.Open false) (readFrom (now (body .entry)) start) ⌝ }
+    requires { ⌜ (now rows ≡ kinds) × RunFits own ⌝ }
+    ensures { λ r. ⌜ r ≡ scanOf wanted rank start (Seen.Open false) (readFrom (now (body .entry)) start) ⌝ }
 {
-    let sought = crate::wanted::kind_of(wanted);
+    let sought = crate::ref_name::kind_of(wanted);
     let mut at = start;
     let mut others = false;
     loop {
         let cursor = Cursor { at };
         match cursor.step(rows, body) {
-            Step::Ref {
+            RefStep::Ref {
                 kind,
                 start: payload,
                 size: _,
                 count,
                 next,
             } => {
-                if crate::wanted::names(wanted, body, kind, payload) {
+                if crate::ref_name::names(wanted, body, kind, payload) {
                     let weight = weight_at(body, kind, payload, count);
                     return scan_hit(rows, body, at, next.at, weight);
                 }
-                others = crate::wanted::any_of_kind(others, wanted, kind);
-                if crate::wanted::stops_at(sought, place, own, body, kind, payload) {
+                others = crate::ref_name::any_of_kind(others, wanted, kind);
+                if crate::ref_name::stops_at(sought, rank, own, body, kind, payload) {
                     return scan_gap(rows, body, next.at, wanted, at, others);
                 }
                 at = next.at;
             }
-            Step::End => return Scan::Read(Seen::Open { others }),
-            Step::Refused(number) => return Scan::Fault(number),
+            RefStep::End => return Scan::Read(Seen::Open { others }),
+            RefStep::Refused(refusal) => return Scan::Fault(refusal),
         }
     }
 }
 
-// From `start` to the end of the body, by the wanted one's own place.
-fn scan_placed(rows: &[[u8; 3]; 5], body: &[u8], start: usize, wanted: Wanted) -> Scan
-    requires { ⌜ now rows ≡ kinds ⌝ }
-    ensures { λ r. ⌜ r ≡ scanOf wanted (placeOf (kindOf wanted) (fieldsOf wanted)) start (Seen.Open false) (readFrom (now (body .entry)) start) ⌝ }
+// From `start` to the end of the body, by the wanted one's own rank.
+fn scan_ranked(
+    rows: &[[u8; 3]; 5],
+    body: &[u8],
+    start: usize,
+    wanted: RefName,
+    known: OwnRank,
+) -> Scan
+    requires { ⌜ (now rows ≡ kinds) × KnownFor wanted known ⌝ }
+    ensures { λ r. ⌜ r ≡ scanOf wanted (rankOf (kindOf wanted) (fieldsOf wanted)) start (Seen.Open false) (readFrom (now (body .entry)) start) ⌝ }
 {
-    let placed = crate::wanted::place_of(wanted);
-    scan_from(rows, body, start, wanted, placed.place, placed.own)
+    let ranked = crate::ref_name::rank_by(wanted, known);
+    scan_from(rows, body, start, wanted, ranked.rank, ranked.own)
 }
 
-// The same. The first reference is looked at before a place is asked for, which may cost a hash: where a count is raised again,
-// it is often the wanted one, and no place is needed.
-fn scan_first(rows: &[[u8; 3]; 5], body: &[u8], start: usize, wanted: Wanted) -> Scan
-    requires { ⌜ now rows ≡ kinds ⌝ }
-    ensures { λ r. ⌜ r ≡ scanOf wanted (placeOf (kindOf wanted) (fieldsOf wanted)) start (Seen.Open false) (readFrom (now (body .entry)) start) ⌝ }
+// The same. The first reference is looked at before a rank is asked for, which may cost a hash: where a count is raised again,
+// it is often the wanted one, and no rank is needed.
+fn scan_first(
+    rows: &[[u8; 3]; 5],
+    body: &[u8],
+    start: usize,
+    wanted: RefName,
+    known: OwnRank,
+) -> Scan
+    requires { ⌜ (now rows ≡ kinds) × KnownFor wanted known ⌝ }
+    ensures { λ r. ⌜ r ≡ scanOf wanted (rankOf (kindOf wanted) (fieldsOf wanted)) start (Seen.Open false) (readFrom (now (body .entry)) start) ⌝ }
 {
     let cursor = Cursor { at: start };
     match cursor.step(rows, body) {
-        Step::Ref {
+        RefStep::Ref {
             kind,
             start: payload,
             size: _,
             count,
             next,
         } => {
-            if !crate::wanted::names(wanted, body, kind, payload) {
-                return scan_placed(rows, body, start, wanted);
+            if !crate::ref_name::names(wanted, body, kind, payload) {
+                return scan_ranked(rows, body, start, wanted, known);
             }
             let weight = weight_at(body, kind, payload, count);
             scan_hit(rows, body, start, next.at, weight)
         }
-        Step::End => Scan::Read(Seen::Open { others: false }),
-        Step::Refused(number) => Scan::Fault(number),
+        RefStep::End => Scan::Read(Seen::Open { others: false }),
+        RefStep::Refused(refusal) => Scan::Fault(refusal),
     }
 }
 
-// Questions 3 and 6 to 8, and the scan of a body's references. No caller has a data reference's place, so no tree's run is made.
-pub fn scan_body(item_type: u8, body: &[u8], wanted: Wanted, place: u64) -> Scan
-    ensures { λ r. ⌜ r ≡ scanOf wanted place (startOf «item_type» (now (body .entry))) (Seen.Open false) (refsIn «item_type» (now (body .entry))) ⌝ }
+// Questions 3 and 6 to 8, and the scan of a body's references. No caller asks by a data reference's rank, so no tree's run is made.
+pub fn scan_body(item_type: u8, body: &[u8], wanted: RefName, rank: u64) -> Scan
+    ensures { λ r. ⌜ r ≡ scanOf wanted rank (startOf «item_type» (now (body .entry))) (Seen.Open false) (refsIn «item_type» (now (body .entry))) ⌝ }
 {
     match crate::start::open_body(item_type, body) {
         Start::From(start) => {
             let rows = crate::kinds::rows();
             let own = extent_write::no_tree_run();
-            scan_from(&rows, body, start, wanted, place, own)
+            scan_from(&rows, body, start, wanted, rank, own)
         }
-        Start::Refused(number) => Scan::Fault(number),
+        Start::Refused(refusal) => Scan::Fault(refusal),
     }
 }
 
-// The same for a reference that is to be added, by its own place.
-pub fn scan_to_add(item_type: u8, body: &[u8], wanted: Wanted, known: OwnPlace) -> Scan
+// The same for a reference that is to be added, by its own rank, which the caller may have.
+pub fn scan_to_add(item_type: u8, body: &[u8], wanted: RefName, known: OwnRank) -> Scan
     requires { ⌜ KnownFor wanted known ⌝ }
-    ensures { λ r. ⌜ r ≡ scanOf wanted (placeOf (kindOf wanted) (fieldsOf wanted)) (startOf «item_type» (now (body .entry))) (Seen.Open false) (refsIn «item_type» (now (body .entry))) ⌝ }
+    ensures { λ r. ⌜ r ≡ scanOf wanted (rankOf (kindOf wanted) (fieldsOf wanted)) (startOf «item_type» (now (body .entry))) (Seen.Open false) (refsIn «item_type» (now (body .entry))) ⌝ }
 {
     match crate::start::open_body(item_type, body) {
         Start::From(start) => {
             let rows = crate::kinds::rows();
-            match known {
-                OwnPlace::Known(placed) => {
-                    scan_from(&rows, body, start, wanted, placed.place, placed.own)
-                }
-                OwnPlace::Unknown => scan_first(&rows, body, start, wanted),
-            }
+            scan_first(&rows, body, start, wanted, known)
         }
-        Start::Refused(number) => Scan::Fault(number),
+        Start::Refused(refusal) => Scan::Fault(refusal),
     }
 }

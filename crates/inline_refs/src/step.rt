@@ -2,14 +2,14 @@
 use crate::kinds::Row;
 ghost use mathlib.Core.Path.{_≡_};
 ghost use Rattle.format.specs.References.{kinds};
-ghost use Rattle.inline_refs.specs.Steps.{stepAt};
+ghost use Rattle.inline_refs.specs.Steps.{refStepAt};
 
 pub struct Cursor {
     pub at: usize,
 }
 
 // What stands at a cursor.
-pub enum Step {
+pub enum RefStep {
     // A whole reference: where its payload starts, how long it is, where in it the count stands, and the next cursor.
     Ref {
         kind: u8,
@@ -25,22 +25,22 @@ pub enum Step {
 }
 
 impl Cursor {
-    pub fn step(self, table: &[[u8; 3]; 5], body: &[u8]) -> Step
+    pub fn step(self, table: &[[u8; 3]; 5], body: &[u8]) -> RefStep
         requires { ⌜ now table ≡ kinds ⌝ }
-        ensures { λ r. ⌜ r ≡ stepAt (now (body .entry)) (self .at) ⌝ }
+        ensures { λ r. ⌜ r ≡ refStepAt (now (body .entry)) (self .at) ⌝ }
     {
         let at = self.at;
         if body.len() <= at {
-            return Step::End;
+            return RefStep::End;
         }
         let kind = body[at];
         let start = at + 1;
         match crate::kinds::row_of(table, kind) {
             Row::Known { size, count } => {
                 if body.len() - start < size {
-                    return Step::Refused(8);
+                    return RefStep::Refused(8);
                 }
-                Step::Ref {
+                RefStep::Ref {
                     kind,
                     start,
                     size,
@@ -48,7 +48,7 @@ impl Cursor {
                     next: Cursor { at: start + size },
                 }
             }
-            Row::Unknown => Step::Refused(7),
+            Row::Unknown => RefStep::Refused(7),
         }
     }
 }

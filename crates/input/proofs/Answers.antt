@@ -8,7 +8,7 @@ use lib.IntN.{ℤ, pos, negsuc}
 use lib.Signed.{ltZ}
 use borrow.Author.Tests.{ltb-true}
 use Rattle.io.specs.Counts.{clamped}
-use Rattle.input.specs.Reads.{answerOf, Within}
+use Rattle.input.specs.Reads.{answerOf, ReadWithin}
 use Rattle.input.specs.declared.Input.{Input}
 use Rattle.input.specs.declared.Input.the-variants.{Bytes, Failed}
 
@@ -31,11 +31,11 @@ module _ (y z : ℤ) (back : y ≡ z) (room : ℕ) where
   is-count n h e =
       other z room n (subst (λ (x : ℤ). ltZ x (pos 0) ≡ false) back h) (e ∙ ap (λ (x : ℤ). clamped x room) back)
 
-within-room : (z : ℤ) (room : ℕ) → Within (answerOf z room) room
+within-room : (z : ℤ) (room : ℕ) → ReadWithin (answerOf z room) room
 unfolding answerOf
 within-room (pos k) room = min-le-right k room
 within-room (negsuc k) room = tt
 
-pub answer-within : (r : Input) (z : ℤ) (long room : ℕ) → r ≡ answerOf z long → long ≡ room → Within r room
+pub answer-within : (r : Input) (z : ℤ) (long room : ℕ) → r ≡ answerOf z long → long ≡ room → ReadWithin r room
 answer-within r z long room e same =
-    subst (Within r) same (subst (λ (x : Input). Within x long) (sym e) (within-room z long))
+    subst (ReadWithin r) same (subst (λ (x : Input). ReadWithin x long) (sym e) (within-room z long))

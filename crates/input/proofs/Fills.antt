@@ -7,12 +7,12 @@ use lib.ListN.{length, take, drop, length-append}
 use lib.Seq.{length-take-le, take-at, drop-at, drop-drop}
 use Rattle.fields.specs.Parts.{part, written}
 use Rattle.fields.proofs.Parts.{length-part, length-written}
-use Rattle.input.specs.Reads.{Within, Filled, Put, Read}
+use Rattle.input.specs.Reads.{ReadWithin, FilledTo, PutAt, Read}
 use Rattle.input.specs.declared.Input.{Input}
 use Rattle.input.specs.declared.Input.the-variants.{Bytes}
 
-pub within : (r : Input) (n room : ℕ) → r ≡ Bytes n → Within r room → n ≤ room
-within r n room e h = subst (λ (x : Input). Within x room) e h
+pub within : (r : Input) (n room : ℕ) → r ≡ Bytes n → ReadWithin r room → n ≤ room
+within r n room e h = subst (λ (x : Input). ReadWithin x room) e h
 
 behind : (at n : ℕ) (bytes old : List ℕ) → length bytes ≡ n → at + n ≤ length old → drop (at + n) (written at bytes old) ≡ drop (at + n) old
 behind at n bytes old e h =
@@ -27,7 +27,7 @@ before at n bytes old h =
     ∙ take-at (take at old) (bytes ++ drop (at + length bytes) old) at front
 
 pub copied-in : (at n : ℕ) (src old new : List ℕ) → n ≤ length src → at + n ≤ length old → new ≡ written at (part 0 n src) old
-    → Put at (Bytes n) old new
+    → PutAt at (Bytes n) old new
 copied-in at n src old new h room e =
     let z : 0 + n ≤ length src = omega arith in
     let long : length (part 0 n src) ≡ n = length-part n 0 src z in
@@ -38,11 +38,11 @@ copied-in at n src old new h room e =
       ap (take at) e ∙ before at n (part 0 n src) old room,
     )
 
-pub filled-none : (old : List ℕ) → Filled 0 old old
+pub filled-none : (old : List ℕ) → FilledTo 0 old old
 filled-none old = (omega arith, refl, refl)
 
 -- the next bytes
-pub filled-next : (at n : ℕ) (old mid new : List ℕ) → Filled at old mid → Filled (at + n) mid new → Filled (at + n) old new
+pub filled-next : (at n : ℕ) (old mid new : List ℕ) → FilledTo at old mid → FilledTo (at + n) mid new → FilledTo (at + n) old new
 filled-next at n old mid new f g = (
   g .0,
   g .1,
@@ -50,13 +50,13 @@ filled-next at n old mid new f g = (
 )
 
 -- the same by what the read answered
-module _ (at : ℕ) (r : Input) (old mid new : List ℕ) (h : Put at r mid new) where
-  pub read-next : (n : ℕ) → r ≡ Bytes n → Filled at old mid → Filled (at + n) old new
-  read-next n e f = filled-next at n old mid new f (subst (λ (x : Input). Put at x mid new) e h .0)
+module _ (at : ℕ) (r : Input) (old mid new : List ℕ) (h : PutAt at r mid new) where
+  pub read-next : (n : ℕ) → r ≡ Bytes n → FilledTo at old mid → FilledTo (at + n) old new
+  read-next n e f = filled-next at n old mid new f (subst (λ (x : Input). PutAt at x mid new) e h .0)
 
-  pub read-last : (n : ℕ) → r ≡ Bytes n → n ≡ 0 → Filled at old mid → Filled at old new
-  read-last n e z f = let q : at + n ≡ at = omega arith in subst (λ (k : ℕ). Filled k old new) q (read-next n e f)
+  pub read-last : (n : ℕ) → r ≡ Bytes n → n ≡ 0 → FilledTo at old mid → FilledTo at old new
+  read-last n e z f = let q : at + n ≡ at = omega arith in subst (λ (k : ℕ). FilledTo k old new) q (read-next n e f)
 
 -- what a caller is told of the bytes
-pub all-read : (r : Input) (n : ℕ) (old new : List ℕ) → r ≡ Bytes n → Read r old new → Filled n old new
+pub all-read : (r : Input) (n : ℕ) (old new : List ℕ) → r ≡ Bytes n → Read r old new → FilledTo n old new
 all-read r n old new e h = subst (λ (x : Input). Read x old new) e h

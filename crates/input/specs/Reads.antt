@@ -15,20 +15,20 @@ answerOf (pos k) room = Bytes (clamped (pos k) room)
 answerOf (negsuc k) room = Failed
 
 -- no more bytes than there is room for
-abbrev pub Within : Input → ℕ → Type 0
-Within (Bytes n) room = n ≤ room
-Within Failed room = Unit {0}
+abbrev pub ReadWithin : Input → ℕ → Type 0
+ReadWithin (Bytes n) room = n ≤ room
+ReadWithin Failed room = Unit {0}
 
 -- n bytes stand read at the start. The second part is what a caller needs that takes them
-abbrev pub Filled : ℕ → List ℕ → List ℕ → Type 0
-Filled n old new = (n ≤ length new) × (n ≡ length (take n new)) × (drop n new ≡ drop n old)
+abbrev pub FilledTo : ℕ → List ℕ → List ℕ → Type 0
+FilledTo n old new = (n ≤ length new) × (n ≡ length (take n new)) × (drop n new ≡ drop n old)
 
--- by one read to the place `at`, which keeps those before it; a read that failed changes nothing
-abbrev pub Put : ℕ → Input → List ℕ → List ℕ → Type 0
-Put at (Bytes n) old new = Filled (at + n) old new × (take at new ≡ take at old)
-Put at Failed old new = new ≡ old
+-- by one read to the position `at`, which keeps those before it; a read that failed changes nothing
+abbrev pub PutAt : ℕ → Input → List ℕ → List ℕ → Type 0
+PutAt at (Bytes n) old new = FilledTo (at + n) old new × (take at new ≡ take at old)
+PutAt at Failed old new = new ≡ old
 
 -- by all of them. Where one failed, the bytes that were read before are left open: the caller has no use for them
 abbrev pub Read : Input → List ℕ → List ℕ → Type 0
-Read (Bytes n) old new = Filled n old new
+Read (Bytes n) old new = FilledTo n old new
 Read Failed old new = length new ≡ length old

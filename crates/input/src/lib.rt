@@ -8,7 +8,7 @@ ghost use mathlib.Core.Bool.{cond};
 ghost use Prim.Native.Nat.{_+_, _≤_};
 ghost use lib.Dec.{ltb};
 ghost use lib.ListN.{length};
-ghost use Rattle.input.specs.Reads.{answerOf, Within, Put, Read};
+ghost use Rattle.input.specs.Reads.{answerOf, ReadWithin, PutAt, Read};
 
 pub enum Input {
     // So many bytes were read, up to the end of the input, or as many as the buffer holds.
@@ -29,16 +29,16 @@ fn answer_of(got: isize, buf: &[u8]) -> Input
 
 // One read into the buffer.
 fn read_once(fd: i32, buf: &mut [u8]) -> Input
-    ensures { λ r. ⌜ Within r (length (now (buf .entry))) ⌝ }
+    ensures { λ r. ⌜ ReadWithin r (length (now (buf .entry))) ⌝ }
 {
     let got = libc::read(fd, buf);
     answer_of(got, buf)
 }
 
-// One read into `chunk`, whose bytes go to the place `at` of the buffer.
+// One read into `chunk`, whose bytes go to the position `at` of the buffer.
 fn read_by(fd: i32, chunk: &mut [u8], buf: &mut [u8], at: usize) -> Input
     requires { ⌜ at + length (now chunk) ≤ length (now buf) ⌝ }
-    ensures { λ r. ⌜ Put at r (now (buf .entry)) (now (buf .exit)) ⌝ }
+    ensures { λ r. ⌜ PutAt at r (now (buf .entry)) (now (buf .exit)) ⌝ }
 {
     match read_once(fd, chunk) {
         Input::Failed => Input::Failed,
@@ -49,10 +49,10 @@ fn read_by(fd: i32, chunk: &mut [u8], buf: &mut [u8], at: usize) -> Input
     }
 }
 
-// One read of at most 4,096 bytes to the place `at` of the buffer: no bytes are the end of the input.
+// One read of at most 4,096 bytes to the position `at` of the buffer: no bytes are the end of the input.
 fn read_some(fd: i32, buf: &mut [u8], at: usize) -> Input
     requires { ⌜ at ≤ length (now buf) ⌝ }
-    ensures { λ r. ⌜ Put at r (now (buf .entry)) (now (buf .exit)) ⌝ }
+    ensures { λ r. ⌜ PutAt at r (now (buf .entry)) (now (buf .exit)) ⌝ }
 {
     let mut chunk = io::buffer();
     let most = least(buf.len() - at, 4096);

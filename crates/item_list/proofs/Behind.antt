@@ -16,13 +16,13 @@ use Rattle.format.proofs.Items.{sane, length-itemBytes, length-sheetBytes, item
 use Rattle.format.proofs.Keys.{below, below-trans, rising-before}
 use Rattle.format.proofs.Splices.{sheet-from, sheet-join}
 use Rattle.item_list.specs.declared.Sought.the-variants.{Present}
-use Rattle.item_list.specs.Steps.{itemsIn, itemsOf, itemsFrom, ListedFrom}
-use Rattle.item_list.specs.Seeks.{sizeOf, seekIn}
+use Rattle.item_list.specs.Steps.{itemsIn, listItems, listItemsFrom, ListedFrom}
+use Rattle.item_list.specs.Seeks.{itemSizeOf, seekIn}
 use Rattle.item_list.proofs.Reading.{Counted}
-use Rattle.item_list.proofs.Places.{Sits, sits}
+use Rattle.item_list.proofs.Positions.{Sits, sits}
 
-further : (at : ℕ) (i : Item) (front : List Item) → at + sizeOf i + length (itemsBytes front) ≡ at + length (itemsBytes (i ∷ front))
-unfolding sizeOf itemsBytes
+further : (at : ℕ) (i : Item) (front : List Item) → at + itemSizeOf i + length (itemsBytes front) ≡ at + length (itemsBytes (i ∷ front))
+unfolding itemSizeOf itemsBytes
 further at i front = omega (arith, length-append (itemBytes i) (itemsBytes front), length-itemBytes i)
 
 bytes-long : (i : Item) (more : List Item) → length (itemsBytes (i ∷ more)) ≡ 21 + length (i .bytes) + length (itemsBytes more)
@@ -37,9 +37,9 @@ seek-over key at [] back t = ap (λ (n : ℕ). seekIn key n back) (omega arith)
 seek-over key at (i ∷ front) back t =
     let h = and-yes (keyBelow (i .key) key) _ t in
     rw (T-eq (keyBelow (i .key) key) (h .0))
-    (seek-over key (at + sizeOf i) front back (h .1) ∙ ap (λ (n : ℕ). seekIn key n back) (further at i front))
+    (seek-over key (at + itemSizeOf i) front back (h .1) ∙ ap (λ (n : ℕ). seekIn key n back) (further at i front))
 
-module _ {s : List ℕ} {n : ℕ} (list : Counted s n) (front : List Item) (hit : Item) (back : List Item) (same : itemsOf s ≡ front ++ hit ∷ back)
+module _ {s : List ℕ} {n : ℕ} (list : Counted s n) (front : List Item) (hit : Item) (back : List Item) (same : listItems s ≡ front ++ hit ∷ back)
     (end : ℕ) (ends : length (sheetBytes front) + (21 + length (hit .bytes)) ≡ end) where
   bytes-from : drop end s ≡ itemsBytes back
   unfolding itemsBytes
@@ -61,7 +61,7 @@ module _ {s : List ℕ} {n : ℕ} (list : Counted s n) (front : List Item) (hit 
       let short : length back ≤ 4096 = omega arith in
       ap (readItems 4096) bytes-from ∙ read-itemsBytes 4096 back (and-yes (sane hit) _ (all-right sane front (hit ∷ back) sanes) .1) short
 
-  pub behind-are : itemsFrom s end ≡ back
+  pub behind-are : listItemsFrom s end ≡ back
   unfolding itemsIn
   behind-are = ap itemsIn behind-reads
 
@@ -69,7 +69,7 @@ module _ {s : List ℕ} {n : ℕ} (list : Counted s n) (front : List Item) (hit 
   behind-listed = record { reads = behind-reads ∙ ap accepted (sym behind-are) }
 
   -- what is found from there on stands behind the item
-  pub found-behind : (key : Key) (from to : ℕ) → seekIn key end (itemsFrom s end) ≡ Present from to → (end ≤ from) × (from + 21 ≤ to) × (to ≤ length s)
+  pub found-behind : (key : Key) (from to : ℕ) → seekIn key end (listItemsFrom s end) ≡ Present from to → (end ≤ from) × (from + 21 ≤ to) × (to ≤ length s)
   found-behind key from to e =
       let k : Sits key back end from to = sits key end back from to (ap (seekIn key end) (sym behind-are) ∙ e) in
       let c : Cut Item = k .at-cut in
@@ -83,16 +83,16 @@ module _ {s : List ℕ} {n : ℕ} (list : Counted s n) (front : List Item) (hit 
       let l₄ = bytes-long (c .hit) (c .back) in
       (omega arith, omega arith, omega arith)
 
-  next : 1 + length (itemsBytes front) + sizeOf hit ≡ end
-  unfolding sizeOf
+  next : 1 + length (itemsBytes front) + itemSizeOf hit ≡ end
+  unfolding itemSizeOf
   next = omega (arith, length-sheetBytes front, ends)
 
-  over : (key : Key) (at : ℕ) → T (keyBelow (hit .key) key) → seekIn key at (hit ∷ back) ≡ seekIn key (at + sizeOf hit) back
+  over : (key : Key) (at : ℕ) → T (keyBelow (hit .key) key) → seekIn key at (hit ∷ back) ≡ seekIn key (at + itemSizeOf hit) back
   unfolding seekIn
   over key at h = rw (T-eq (keyBelow (hit .key) key) h)
 
   -- in rising keys, a key above the item's is found behind it where it is found in the whole list
-  pub seek-behind : (key : Key) → T (keyBelow (hit .key) key) → seekIn key end (itemsFrom s end) ≡ seekIn key 1 (itemsOf s)
+  pub seek-behind : (key : Key) → T (keyBelow (hit .key) key) → seekIn key end (listItemsFrom s end) ≡ seekIn key 1 (listItems s)
   seek-behind key high =
       let rise : T (rising (front ++ hit ∷ back)) = subst (λ (l : List Item). T (rising l)) same (list .rises) in
       let low : T (all (below key) front) =

@@ -2,6 +2,6 @@ pub mod ItemWrites
 pub mod Steps
 pub mod Walks
 pub mod Reading
-pub mod Places
+pub mod Positions
 pub mod Behind
 pub mod Spaces

@@ -9,7 +9,7 @@ use Rattle.fields.proofs.Lists.{sum-append}
 use Rattle.format.specs.Items.{Item, sheetBytes}
 use Rattle.format.specs.Sheets.{itemSpace, spaceOf}
 use Rattle.format.proofs.Items.{length-itemsBytes, length-sheetBytes}
-use Rattle.item_list.specs.Steps.{itemsOf}
+use Rattle.item_list.specs.Steps.{listItems}
 use Rattle.item_list.proofs.Reading.{Counted}
 
 sums : (items : List Item) → sum itemSpace items ≡ sum (λ i. 21 + length (i .bytes)) items + 4 * length items
@@ -22,9 +22,9 @@ unfolding spaceOf
 space-is items = omega (arith, sums items, length-itemsBytes items, length-sheetBytes items)
 
 -- of an item list with so many items
-pub space-sheet : (s : List ℕ) (n : ℕ) → Counted s n → spaceOf (itemsOf s) ≡ 100 + length s + 4 * n
+pub space-sheet : (s : List ℕ) (n : ℕ) → Counted s n → spaceOf (listItems s) ≡ 100 + length s + 4 * n
 space-sheet s n c =
-    space-is (itemsOf s)
+    space-is (listItems s)
     ∙ (λ j. 100 + length (c .bytes-are j) + 4 * c .count j)
 
 -- of two runs of items

@@ -15,8 +15,8 @@ use Rattle.format.specs.Questions.{refused, accepted, ask, bind}
 use Rattle.format.specs.declared.Key.{Key}
 use Rattle.format.specs.Items.{keyOf, keyBelow, itemLength, wholeItem, firstItem, readItems}
 use Rattle.format.proofs.Items.{readItems-nil, readItems-full, readItems-more, wholeItem-out}
-use Rattle.item_list.specs.declared.Step.the-variants.{Whole, Broken, End}
-use Rattle.item_list.specs.Steps.{itemAt, nextAt, stepAt}
+use Rattle.item_list.specs.declared.ItemStep.the-variants.{Whole, Broken, End}
+use Rattle.item_list.specs.Steps.{itemAt, nextAt, itemStepAt}
 
 or-false : (a : Bool) → (a || false) ≡ a
 or-false true = refl
@@ -65,30 +65,30 @@ pub length-at : (s : List ℕ) (at : ℕ) → be (part at 4 s) ≡ itemLength (d
 unfolding itemLength
 length-at s at = refl
 
-pub step-end : (s : List ℕ) (at : ℕ) → length s ≤ at → stepAt s at ≡ End
-unfolding stepAt
+pub step-end : (s : List ℕ) (at : ℕ) → length s ≤ at → itemStepAt s at ≡ End
+unfolding itemStepAt
 step-end s at h = rw (le-leb (length s) at h)
 
 module _ (s : List ℕ) (at : ℕ) (h : at < length s) where
-  broken : wholeItem (drop at s) ≡ false → stepAt s at ≡ Broken
-  unfolding stepAt
+  broken : wholeItem (drop at s) ≡ false → itemStepAt s at ≡ Broken
+  unfolding itemStepAt
   broken w = rw (lt-leb (length s) at h, w)
 
-  pub broken-short : length s - at < 4 → stepAt s at ≡ Broken
+  pub broken-short : length s - at < 4 → itemStepAt s at ≡ Broken
   broken-short k = broken (not-long (drop at s) (simp length-drop (omega arith)))
 
-  pub broken-low : itemLength (drop at s) < 17 → stepAt s at ≡ Broken
+  pub broken-low : itemLength (drop at s) < 17 → itemStepAt s at ≡ Broken
   broken-low k = broken (not-low (drop at s) k)
 
-  pub broken-high : 65552 < itemLength (drop at s) → stepAt s at ≡ Broken
+  pub broken-high : 65552 < itemLength (drop at s) → itemStepAt s at ≡ Broken
   broken-high k = broken (not-high (drop at s) k)
 
-  pub broken-long : length s - at < 4 + itemLength (drop at s) → stepAt s at ≡ Broken
+  pub broken-long : length s - at < 4 + itemLength (drop at s) → itemStepAt s at ≡ Broken
   broken-long k = broken (not-long (drop at s) (simp length-drop (omega arith)))
 
   pub step-item : 17 ≤ itemLength (drop at s) → itemLength (drop at s) ≤ 65552 → 4 + itemLength (drop at s) ≤ length s - at
-      → stepAt s at ≡ Whole (at + 4 + itemLength (drop at s))
-  unfolding stepAt nextAt
+      → itemStepAt s at ≡ Whole (at + 4 + itemLength (drop at s))
+  unfolding itemStepAt nextAt
   step-item a b c =
       let w : wholeItem (drop at s) ≡ true = is-whole (drop at s) a b (simp length-drop (omega arith)) in
       rw (lt-leb (length s) at h, w)
@@ -117,8 +117,8 @@ broken-tests true w n e = let z : _≡_ {A = ℕ} 0 1 = cc in absurd (omega arit
 broken-tests false true n e = let z : _≡_ {A = ℕ} 0 1 = cc in absurd (omega arith)
 broken-tests false false n e = (refl, refl)
 
-pub whole-at : (s : List ℕ) (at next : ℕ) → stepAt s at ≡ Whole next → WholeAt s at next
-unfolding stepAt nextAt
+pub whole-at : (s : List ℕ) (at next : ℕ) → itemStepAt s at ≡ Whole next → WholeAt s at next
+unfolding itemStepAt nextAt
 whole-at s at next e =
     let t = step-tests (leb (length s) at) (wholeItem (drop at s)) (nextAt s at) next e in
     let w = wholeItem-out (drop at s) (subst T (sym (t .1)) tt) in
@@ -129,8 +129,8 @@ whole-at s at next e =
     let size : next ≡ at + 4 + itemLength (drop at s) = sym (t .2) in
     record { before = before; size = size; low = low; high = high; within = omega arith }
 
-pub ended : (s : List ℕ) (at : ℕ) → stepAt s at ≡ End → length s ≤ at
-unfolding stepAt
+pub ended : (s : List ℕ) (at : ℕ) → itemStepAt s at ≡ End → length s ≤ at
+unfolding itemStepAt
 ended s at e = leb-true (length s) at (end-tests (leb (length s) at) (wholeItem (drop at s)) (nextAt s at) e)
 
 -- ---- from a step to the items
@@ -138,14 +138,14 @@ ended s at e = leb-true (length s) at (end-tests (leb (length s) at) (wholeItem 
 some-left : (s : List ℕ) (at : ℕ) → at < length s → 0 < length (drop at s)
 some-left s at h = simp length-drop (omega arith)
 
-pub items-end : (n : ℕ) (s : List ℕ) (at : ℕ) → stepAt s at ≡ End → readItems n (drop at s) ≡ accepted []
+pub items-end : (n : ℕ) (s : List ℕ) (at : ℕ) → itemStepAt s at ≡ End → readItems n (drop at s) ≡ accepted []
 items-end n s at e = ap (readItems n) (drop-of-length-le s (ended s at e)) ∙ readItems-nil n
 
 pub items-over : (s : List ℕ) (at : ℕ) → at < length s → readItems zero (drop at s) ≡ refused 1
 items-over s at h = readItems-full (drop at s) (some-left s at h)
 
-pub items-broken : (n : ℕ) (s : List ℕ) (at : ℕ) → stepAt s at ≡ Broken → readItems n (drop at s) ≡ refused 1
-unfolding stepAt ask
+pub items-broken : (n : ℕ) (s : List ℕ) (at : ℕ) → itemStepAt s at ≡ Broken → readItems n (drop at s) ≡ refused 1
+unfolding itemStepAt ask
 items-broken zero s at e =
     let t = broken-tests (leb (length s) at) (wholeItem (drop at s)) (nextAt s at) e in
     items-over s at (leb-false (length s) at (t .0))
@@ -154,9 +154,9 @@ items-broken (suc n) s at e =
     readItems-more n (drop at s) (some-left s at (leb-false (length s) at (t .0)))
     ∙ ap (λ (b : Bool). ask b 1 (bind (readItems n (drop (4 + itemLength (drop at s)) (drop at s))) (λ items. accepted (firstItem (drop at s) ∷ items)))) (t .1)
 
-pub items-item : (n : ℕ) (s : List ℕ) (at next : ℕ) → stepAt s at ≡ Whole next
+pub items-item : (n : ℕ) (s : List ℕ) (at next : ℕ) → itemStepAt s at ≡ Whole next
     → readItems (suc n) (drop at s) ≡ bind (readItems n (drop next s)) (λ items. accepted (itemAt s at ∷ items))
-unfolding stepAt ask itemAt
+unfolding itemStepAt ask itemAt
 items-item n s at next e =
     let t = step-tests (leb (length s) at) (wholeItem (drop at s)) (nextAt s at) next e in
     let w : WholeAt s at next = whole-at s at next e in

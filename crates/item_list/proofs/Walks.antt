@@ -13,11 +13,11 @@ use Rattle.format.specs.Items.{Item, keyBelow, readItems}
 use Rattle.format.specs.Apply.{isRecord, recordOf}
 use Rattle.format.proofs.Answers.{refused-not, accepted-inj, bind-ok}
 use Rattle.format.proofs.Items.{sheet-out}
-use Rattle.item_list.specs.declared.Step.{Step}
-use Rattle.item_list.specs.declared.Step.the-variants.{Whole, Broken, End}
+use Rattle.item_list.specs.declared.ItemStep.{ItemStep}
+use Rattle.item_list.specs.declared.ItemStep.the-variants.{Whole, Broken, End}
 use Rattle.item_list.specs.declared.Sought.the-variants.{Present, Absent}
-use Rattle.item_list.specs.Steps.{itemAt, stepAt, itemsOf, Listed}
-use Rattle.item_list.specs.Seeks.{sizeOf, seekIn}
+use Rattle.item_list.specs.Steps.{itemAt, itemStepAt, listItems, IsList}
+use Rattle.item_list.specs.Seeks.{itemSizeOf, seekIn}
 use Rattle.item_list.proofs.Steps.{WholeAt, whole-at, data-long, items-end, items-broken, items-over, items-item}
 
 -- from a position on, the bytes are these items
@@ -25,15 +25,15 @@ pub record Rest (s : List ℕ) (at : ℕ) (items : List Item) : Type 0 where
   pub most : ℕ
   pub reads : readItems most (drop at s) ≡ accepted items
 
-pub rest-all : (s : List ℕ) → Listed s → Rest s 1 (itemsOf s)
+pub rest-all : (s : List ℕ) → IsList s → Rest s 1 (listItems s)
 rest-all s l =
-    let h = sheet-out s (itemsOf s) (l .reads) in
+    let h = sheet-out s (listItems s) (l .reads) in
     record { most = 4096; reads = ap (λ (x : List ℕ). readItems 4096 (drop 1 x)) (h .1) ∙ h .2 }
 
-pub rest-end : (s : List ℕ) (at : ℕ) (items : List Item) → Rest s at items → stepAt s at ≡ End → items ≡ []
+pub rest-end : (s : List ℕ) (at : ℕ) (items : List Item) → Rest s at items → itemStepAt s at ≡ End → items ≡ []
 rest-end s at items r e = accepted-inj (sym (r .reads) ∙ items-end (r .most) s at e)
 
-pub rest-broken : (s : List ℕ) (at : ℕ) (items : List Item) → Rest s at items → stepAt s at ≡ Broken → ⊥
+pub rest-broken : (s : List ℕ) (at : ℕ) (items : List Item) → Rest s at items → itemStepAt s at ≡ Broken → ⊥
 rest-broken s at items r e = refused-not (sym (items-broken (r .most) s at e) ∙ r .reads)
 
 -- an item at the position: it is the first, and the others follow at its end
@@ -43,7 +43,7 @@ pub record More (s : List ℕ) (at next : ℕ) (items : List Item) : Type 0 wher
   pub rest : Rest s next others
   pub whole : WholeAt s at next
 
-pub rest-item : (s : List ℕ) (at next : ℕ) (items : List Item) → Rest s at items → stepAt s at ≡ Whole next → More s at next items
+pub rest-item : (s : List ℕ) (at next : ℕ) (items : List Item) → Rest s at items → itemStepAt s at ≡ Whole next → More s at next items
 rest-item s at next items r e = go (r .most) (r .reads)
   where
     w : WholeAt s at next
@@ -56,16 +56,16 @@ rest-item s at next items r e = go (r .most) (r .reads)
         record { others = t .0; is = sym (accepted-inj (t .2)); rest = record { most = n; reads = t .1 }; whole = w }
 
 -- where an item ends
-pub ends : (s : List ℕ) (at next : ℕ) → WholeAt s at next → at + sizeOf (itemAt s at) ≡ next
-unfolding sizeOf
+pub ends : (s : List ℕ) (at next : ℕ) → WholeAt s at next → at + itemSizeOf (itemAt s at) ≡ next
+unfolding itemSizeOf
 ends s at next w = data-long s at next w
 
 -- an item that was read stands at the position
 pub rest-cons : (s : List ℕ) (at : ℕ) (i : Item) (items : List Item) → Rest s at (i ∷ items)
-    → (i ≡ itemAt s at) × WholeAt s at (at + sizeOf i) × Rest s (at + sizeOf i) items
-rest-cons s at i items r = go (stepAt s at) refl
+    → (i ≡ itemAt s at) × WholeAt s at (at + itemSizeOf i) × Rest s (at + itemSizeOf i) items
+rest-cons s at i items r = go (itemStepAt s at) refl
   where
-    go : (step : Step) → stepAt s at ≡ step → (i ≡ itemAt s at) × WholeAt s at (at + sizeOf i) × Rest s (at + sizeOf i) items
+    go : (step : ItemStep) → itemStepAt s at ≡ step → (i ≡ itemAt s at) × WholeAt s at (at + itemSizeOf i) × Rest s (at + itemSizeOf i) items
     go End e = let z : _≡_ {A = ℕ} 1 0 = let h = ap length (rest-end s at (i ∷ items) r e) in omega (arith, h) in absurd (omega arith)
     go Broken e = absurd (rest-broken s at (i ∷ items) r e)
     go (Whole next) e =
@@ -73,7 +73,7 @@ rest-cons s at i items r = go (stepAt s at) refl
         let same : i ∷ items ≡ itemAt s at ∷ m .others = m .is in
         let first : i ≡ itemAt s at = cc in
         let others : items ≡ m .others = cc in
-        let to : next ≡ at + sizeOf i = sym (ends s at next (m .whole)) ∙ ap (λ (j : Item). at + sizeOf j) (sym first) in
+        let to : next ≡ at + itemSizeOf i = sym (ends s at next (m .whole)) ∙ ap (λ (j : Item). at + itemSizeOf j) (sym first) in
         (first, subst (λ (k : ℕ). WholeAt s at k) to (m .whole), subst (λ (k : ℕ). Rest s k items) to (subst (λ (l : List Item). Rest s next l) (sym others) (m .rest)))
 
 -- the state of a walk: what is left, and what holds of it

@@ -9,8 +9,8 @@ use Rattle.format.specs.declared.Key.{Key}
 use Rattle.format.specs.Questions.{Answer, refused, absent, remove, accepted}
 use Rattle.format.specs.Items.{Item, keyBelow, itemLength, wholeItem, firstItem, readItems, readSheet}
 unfoldable pub use Rattle.format.specs.History.{itemsIn}
-use Rattle.item_list.specs.declared.Step.{Step}
-use Rattle.item_list.specs.declared.Step.the-variants.{Whole, Broken, End}
+use Rattle.item_list.specs.declared.ItemStep.{ItemStep}
+use Rattle.item_list.specs.declared.ItemStep.the-variants.{Whole, Broken, End}
 use Rattle.item_list.specs.declared.Checked.{Checked}
 use Rattle.item_list.specs.declared.Checked.the-variants.{Count, Refused}
 
@@ -24,8 +24,8 @@ itemAt s at = firstItem (drop at s)
 unfoldable pub nextAt : List ℕ → ℕ → ℕ
 nextAt s at = at + 4 + itemLength (drop at s)
 
-unfoldable pub stepAt : List ℕ → ℕ → Step
-stepAt s at = cond (leb (length s) at) End (cond (wholeItem (drop at s)) (Whole (nextAt s at)) Broken)
+unfoldable pub itemStepAt : List ℕ → ℕ → ItemStep
+itemStepAt s at = cond (leb (length s) at) End (cond (wholeItem (drop at s)) (Whole (nextAt s at)) Broken)
 
 -- ---- questions 1 and 2
 
@@ -41,23 +41,23 @@ following (suc n) last key = keyBelow last key
 
 -- the number of items. The reader decides (format/proofs/Decisions, `sheet-decides`), so 100 and 101 do not come
 unfoldable pub checkedOf : Answer (List Item) → Checked
-checkedOf (refused number) = Refused number
+checkedOf (refused refusal) = Refused refusal
 checkedOf absent = Refused 100
 checkedOf remove = Refused 101
 checkedOf (accepted items) = Count (length items)
 
 -- the items of an accepted list
-abbrev pub itemsOf : List ℕ → List Item
-itemsOf s = itemsIn (readSheet s)
+abbrev pub listItems : List ℕ → List Item
+listItems s = itemsIn (readSheet s)
 
 -- what `check` has shown: the bytes are an item list
-pub record Listed (s : List ℕ) : Type 0 where
-  pub reads : readSheet s ≡ accepted (itemsOf s)
+pub record IsList (s : List ℕ) : Type 0 where
+  pub reads : readSheet s ≡ accepted (listItems s)
 
 -- the items from a position on
-abbrev pub itemsFrom : List ℕ → ℕ → List Item
-itemsFrom s at = itemsIn (readItems 4096 (drop at s))
+abbrev pub listItemsFrom : List ℕ → ℕ → List Item
+listItemsFrom s at = itemsIn (readItems 4096 (drop at s))
 
 -- from that position on, the bytes are items
 pub record ListedFrom (s : List ℕ) (at : ℕ) : Type 0 where
-  pub reads : readItems 4096 (drop at s) ≡ accepted (itemsFrom s at)
+  pub reads : readItems 4096 (drop at s) ≡ accepted (listItemsFrom s at)

@@ -1,20 +1,22 @@
 // Questions 1 and 2 alone, and question 3.
 ghost use mathlib.Core.Path.{_≡_};
 ghost use lib.ListN.{drop};
+ghost use Rattle.format.specs.Constants.{mostItems};
 ghost use Rattle.format.specs.Questions.{bind, ask, accepted};
 ghost use Rattle.format.specs.Items.{readItems, readSheet, rising, nodesizeFits};
-ghost use Rattle.item_list.specs.declared.Place.the-variants.{Missing};
+ghost use Rattle.item_list.specs.declared.ItemPosition.the-variants.{Missing};
 ghost use Rattle.item_list.specs.Steps.{checkedOf};
-ghost use Rattle.item_list.specs.Listings.{countOf, verdictOf};
+ghost use Rattle.item_list.specs.Listings.{itemCountOf, verdictOf};
 use super::Checked;
-use super::Step;
+use super::ItemStep;
 use super::finding;
 use super::stepping;
 use format::Key;
+use format::MOST_ITEMS;
 
 // The answer after `n` items.
 fn verdict(ordered: bool, n: usize) -> Checked
-    ensures { λ r. ⌜ r ≡ countOf (verdictOf ordered n Missing) ⌝ }
+    ensures { λ r. ⌜ r ≡ itemCountOf (verdictOf ordered n Missing) ⌝ }
 {
     if ordered {
         return Checked::Count(n);
@@ -24,7 +26,7 @@ fn verdict(ordered: bool, n: usize) -> Checked
 
 // The pass of `find` with no search in it: what a search carries along would take a quarter more time on a list of two items.
 fn walk(s: &[u8]) -> Checked
-    ensures { λ r. ⌜ r ≡ checkedOf (bind (readItems 4096 (drop 1 (now (s .entry)))) (λ items. ask (rising items) 2 (accepted items))) ⌝ }
+    ensures { λ r. ⌜ r ≡ checkedOf (bind (readItems mostItems (drop 1 (now (s .entry)))) (λ items. ask (rising items) 2 (accepted items))) ⌝ }
 {
     let mut at: usize = 1;
     let mut n: usize = 0;
@@ -34,12 +36,12 @@ fn walk(s: &[u8]) -> Checked
         kind: 0,
         offset: 0,
     };
-    while n < 4096 {
+    while n < MOST_ITEMS {
         let step = stepping::step_at(s, at);
         match step {
-            Step::End => return verdict(ordered, n),
-            Step::Broken => return Checked::Refused(1),
-            Step::Whole { next } => {
+            ItemStep::End => return verdict(ordered, n),
+            ItemStep::Broken => return Checked::Refused(1),
+            ItemStep::Whole { next } => {
                 let key = stepping::key_at(s, at);
                 ordered = finding::follows(ordered, n, last, key);
                 last = key;

@@ -1,5 +1,5 @@
-// The reader of an item list (document 01's sheet): one step over items at a position, one pass that answers questions 1 and 2 and
-// finds an item, and a further search in a list that passed them.
+// The reader and the writer of an item list (document 01's sheet): one step over items at a position, one pass that answers
+// questions 1 and 2 and finds an item, a further search in a list that passed them, and one splice.
 mod checking;
 mod finding;
 mod search;
@@ -21,7 +21,7 @@ pub use stepping::key_at;
 pub use stepping::step_at;
 
 // What stands at a position.
-pub enum Step {
+pub enum ItemStep {
     // A whole item, and the position past it.
     Whole { next: usize },
     // Something that is no whole item.
@@ -37,9 +37,9 @@ pub enum Checked {
 }
 
 // Which item is wanted.
-pub enum Wanted {
+pub enum ItemQuery {
     // The item of a number.
-    Number(usize),
+    Index(usize),
     // The record of an extent.
     Record(u64),
     // The first item whose key is this one or a higher one.
@@ -52,7 +52,7 @@ pub enum Listing {
     // The number of items, then the number, the first byte and the position past the wanted one.
     Found {
         count: usize,
-        number: usize,
+        index: usize,
         start: usize,
         end: usize,
     },
@@ -62,9 +62,9 @@ pub enum Listing {
 }
 
 // Where an item stands: its number, its first byte and the position past it.
-pub enum Place {
+pub enum ItemPosition {
     At {
-        number: usize,
+        index: usize,
         start: usize,
         end: usize,
     },

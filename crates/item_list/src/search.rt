@@ -1,24 +1,24 @@
 // A further search in an item list that passed questions 1 and 2.
 ghost use mathlib.Core.Path.{_≡_};
-ghost use Rattle.item_list.specs.Steps.{ListedFrom, itemsFrom};
+ghost use Rattle.item_list.specs.Steps.{ListedFrom, listItemsFrom};
 ghost use Rattle.item_list.specs.Seeks.{seekIn};
+use super::ItemStep;
 use super::Sought;
-use super::Step;
 use super::stepping;
 use format::Key;
 
 // Where a key stands among the items from `from` on, or where an item with it belongs.
 pub fn seek(s: &[u8], from: usize, key: Key) -> Sought
     requires { ⌜ ListedFrom (now s) from ⌝ }
-    ensures { λ r. ⌜ r ≡ seekIn key from (itemsFrom (now (s .entry)) from) ⌝ }
+    ensures { λ r. ⌜ r ≡ seekIn key from (listItemsFrom (now (s .entry)) from) ⌝ }
 {
     let mut at = from;
     loop {
         let step = stepping::step_at(s, at);
         match step {
-            Step::End => return Sought::Absent { at },
-            Step::Broken => return Sought::Absent { at },
-            Step::Whole { next } => {
+            ItemStep::End => return Sought::Absent { at },
+            ItemStep::Broken => return Sought::Absent { at },
+            ItemStep::Whole { next } => {
                 let here = stepping::key_at(s, at);
                 if stepping::below(here, key) {
                     at = next;

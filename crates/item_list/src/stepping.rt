@@ -2,38 +2,39 @@
 ghost use mathlib.Core.Path.{_≡_};
 ghost use Prim.Native.Nat.{_+_, _≤_};
 ghost use lib.ListN.{length};
+ghost use Rattle.format.specs.Constants.{itemHead};
 ghost use Rattle.format.specs.Items.{keyBelow};
-ghost use Rattle.item_list.specs.Steps.{itemAt, stepAt};
-use super::Step;
+ghost use Rattle.item_list.specs.Steps.{itemAt, itemStepAt};
+use super::ItemStep;
 use format::Key;
 
-pub fn step_at(s: &[u8], at: usize) -> Step
-    ensures { λ r. ⌜ r ≡ stepAt (now (s .entry)) at ⌝ }
+pub fn step_at(s: &[u8], at: usize) -> ItemStep
+    ensures { λ r. ⌜ r ≡ itemStepAt (now (s .entry)) at ⌝ }
 {
     if s.len() <= at {
-        return Step::End;
+        return ItemStep::End;
     }
     if s.len() - at < 4 {
-        return Step::Broken;
+        return ItemStep::Broken;
     }
     let size = fields::get_u32_be(s, at) as usize;
     if size < 17 {
-        return Step::Broken;
+        return ItemStep::Broken;
     }
     if 65552 < size {
-        return Step::Broken;
+        return ItemStep::Broken;
     }
     if s.len() - at < 4 + size {
-        return Step::Broken;
+        return ItemStep::Broken;
     }
-    Step::Whole {
+    ItemStep::Whole {
         next: at + 4 + size,
     }
 }
 
 // The key of the item that starts at `at`.
 pub fn key_at(s: &[u8], at: usize) -> Key
-    requires { ⌜ at + 21 ≤ length (now s) ⌝ }
+    requires { ⌜ at + itemHead ≤ length (now s) ⌝ }
     ensures { λ r. ⌜ r ≡ itemAt (now (s .entry)) at .key ⌝ }
 {
     Key {
@@ -58,7 +59,7 @@ pub fn below(a: Key, b: Key) -> bool
 
 // Whether the item that starts at `at` stands past a key.
 pub fn is_past(s: &[u8], at: usize, key: Key) -> bool
-    requires { ⌜ at + 21 ≤ length (now s) ⌝ }
+    requires { ⌜ at + itemHead ≤ length (now s) ⌝ }
     ensures { λ r. ⌜ r ≡ keyBelow key (itemAt (now (s .entry)) at .key) ⌝ }
 {
     below(key, key_at(s, at))

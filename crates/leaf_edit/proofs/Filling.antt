@@ -128,22 +128,22 @@ module _ (n : ℕ) (items : List Item) (old cuts : List ℕ) (used leaves i : �
     over = fill-over s at next rest m n i used h
 
     -- there is a place for one number more
-    pub place-left : leaves < length cuts
-    place-left =
+    pub room-left : leaves < length cuts
+    room-left =
         let e = ap length over in
         let a = sym (length-append (k .before) (filled n i used rest)) ∙ ap length (k .total) in
         let c = k .count in
         let g = k .long in
         omega (arith, e, a, room, c, g)
 
-    pub writing-starts : (number : ℕ) → number ≡ i → length s ≤ 262144
-        → Writing n items old (set cuts leaves number) (101 + (next - at + 4)) (leaves + 1) (i + 1) (m .others)
-    writing-starts number is l =
+    pub writing-starts : (index : ℕ) → index ≡ i → length s ≤ 262144
+        → Writing n items old (set cuts leaves index) (101 + (next - at + 4)) (leaves + 1) (i + 1) (m .others)
+    writing-starts index is l =
         let f = k .few in
         let w = m .whole in
         let c = k .count in
         let g = k .long in
-        let p = place-left in
+        let p = room-left in
         let q : leaves + 1 ≤ length cuts = omega arith in
         let r : leaves + 1 ≤ length old = omega arith in
         record {
@@ -158,5 +158,5 @@ module _ (n : ℕ) (items : List Item) (old cuts : List ℕ) (used leaves i : �
           small = omega (arith, w, l);
           passed = passed-one;
           few = omega (arith, f);
-          long = length-set cuts leaves number ∙ g;
+          long = length-set cuts leaves index ∙ g;
         }

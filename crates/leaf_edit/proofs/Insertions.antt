@@ -23,14 +23,14 @@ use Rattle.format.proofs.Splices.{sheet-put}
 use Rattle.item_list.specs.declared.Checked.the-variants.{Count}
 use Rattle.item_list.specs.declared.Sought.{Sought}
 use Rattle.item_list.specs.declared.Sought.the-variants.{Present, Absent}
-use Rattle.item_list.specs.Steps.{itemsOf, itemsIn, checkedOf}
+use Rattle.item_list.specs.Steps.{listItems, itemsIn, checkedOf}
 use Rattle.item_list.specs.Seeks.{seekIn}
 use Rattle.item_list.proofs.Reading.{Counted, counted}
-use Rattle.item_list.proofs.Places.{Sits, sits, Gap, gap, inside-gap}
+use Rattle.item_list.proofs.Positions.{Sits, sits, Gap, gap, inside-gap}
 use Rattle.item_list.proofs.ItemWrites.{sane-fit}
 use Rattle.item_list.proofs.Spaces.{space-is}
-use Rattle.leaf_edit.specs.declared.Slot.the-variants.{Free, Refused}
-use Rattle.leaf_edit.specs.Slots.{slotAt, slotOf}
+use Rattle.leaf_edit.specs.declared.InsertAt.the-variants.{Free, Refused}
+use Rattle.leaf_edit.specs.Insertions.{insertAt, insertAtOf}
 
 -- ---- a key that stands
 
@@ -45,36 +45,36 @@ taken new items start end e =
     (not-T (all p items) (λ a.
     T-not (hasKey (new .key) (d .hit)) (all-mid p (d .front) (d .hit) (d .back) (subst (λ (l : List Item). T (all p l)) (f .same) a)) (f .hit)))
 
-at-taken : (new : Item) (k : ℕ) (items : List Item) (t : Sought) → seekIn (new .key) 1 items ≡ t → slotAt (length items) t ≡ Refused k
+at-taken : (new : Item) (k : ℕ) (items : List Item) (t : Sought) → seekIn (new .key) 1 items ≡ t → insertAt (length items) t ≡ Refused k
     → inserted new items ≡ refused k
-unfolding slotAt
+unfolding insertAt
 at-taken new k items (Present start end) f g = taken new items start end f ∙ ap refused (let z : 9 ≡ k = cc in z)
 at-taken new k items (Absent p) f g = let z : _≡_ {A = ℕ} 0 1 = cc in absurd (omega arith)
 
--- ---- refusals before the slot
+-- ---- refusals before the position
 
-slot-refused : (s : List ℕ) (new : Item) (three : Bool) (k : ℕ) → slotOf (new .key) three (readSheet s) ≡ Refused k
+target-refused : (s : List ℕ) (new : Item) (three : Bool) (k : ℕ) → insertAtOf (new .key) three (readSheet s) ≡ Refused k
     → onSheet s three (inserted new) ≡ refused k
-unfolding slotOf onSheet bind ask
-slot-refused s new three k e = go (readSheet-decides s)
+unfolding insertAtOf onSheet bind ask
+target-refused s new three k e = go (readSheet-decides s)
   where
     next : Bool → Answer (List Item) → Answer (List Item)
     next b r = bind r (λ items. ask b 3 (inserted new items))
 
-    slot-of : (r : Answer (List Item)) → readSheet s ≡ r → slotOf (new .key) three r ≡ Refused k
-    slot-of r h = sym (ap (slotOf (new .key) three) h) ∙ e
+    target-of : (r : Answer (List Item)) → readSheet s ≡ r → insertAtOf (new .key) three r ≡ Refused k
+    target-of r h = sym (ap (insertAtOf (new .key) three) h) ∙ e
 
-    by : (items : List Item) (b : Bool) → cond b (slotAt (length items) (seekIn (new .key) 1 items)) (Refused 3) ≡ Refused k
+    by : (items : List Item) (b : Bool) → cond b (insertAt (length items) (seekIn (new .key) 1 items)) (Refused 3) ≡ Refused k
         → ask b 3 (inserted new items) ≡ refused k
     by items true f = at-taken new k items (seekIn (new .key) 1 items) refl f
     by items false f = ap refused (let z : 3 ≡ k = cc in z)
 
     go : ReadsSheet (readSheet s) → bind (readSheet s) (λ items. ask three 3 (inserted new items)) ≡ refused k
-    go (sheet items h) = ap (next three) h ∙ by items three (slot-of (accepted items) h)
-    go (broken h) = ap (next three) h ∙ ap refused (let f = slot-of (refused 1) h in let z : 1 ≡ k = cc in z)
-    go (unsorted h) = ap (next three) h ∙ ap refused (let f = slot-of (refused 2) h in let z : 2 ≡ k = cc in z)
+    go (sheet items h) = ap (next three) h ∙ by items three (target-of (accepted items) h)
+    go (broken h) = ap (next three) h ∙ ap refused (let f = target-of (refused 1) h in let z : 1 ≡ k = cc in z)
+    go (unsorted h) = ap (next three) h ∙ ap refused (let f = target-of (refused 2) h in let z : 2 ≡ k = cc in z)
 
--- ---- a slot that is free
+-- ---- a position that is free
 
 pub record Insertable (s : List ℕ) (new : Item) (three : Bool) (at n : ℕ) : Type 0 where
   pub items : List Item
@@ -89,17 +89,17 @@ pub record Insertable (s : List ℕ) (new : Item) (three : Bool) (at n : ℕ) : 
   pub space : spaceOf items ≡ 125 + length s + 4 * n + length (new .bytes)
 
 module _ (s : List ℕ) (new : Item) where
-  insertable : (n : ℕ) → Counted s n → (at : ℕ) → seekIn (new .key) 1 (itemsOf s) ≡ Absent at → Insertable s new true at n
+  insertable : (n : ℕ) → Counted s n → (at : ℕ) → seekIn (new .key) 1 (listItems s) ≡ Absent at → Insertable s new true at n
   unfolding onSheet bind ask inserted
   insertable n c at e =
-      let g : Gap (new .key) (itemsOf s) 1 at = gap (new .key) 1 (itemsOf s) at (c .rises) e in
-      let i = inside-gap s (itemsOf s) (g .front) (g .back) at (c .bytes-are) (g .same) (g .starts) in
+      let g : Gap (new .key) (listItems s) 1 at = gap (new .key) 1 (listItems s) at (c .rises) e in
+      let i = inside-gap s (listItems s) (g .front) (g .back) at (c .bytes-are) (g .same) (g .starts) in
       let p : Item → Bool = λ j. dataFits (j .bytes) in
       let l₁ = sym (c .count) ∙ ap length (g .same) ∙ length-append (g .front) (g .back) in
       let l₂ = length-append (g .front) (new ∷ g .back) in
       let count : length (g .front ++ new ∷ g .back) ≡ n + 1 = l₂ ∙ omega (arith, l₁) in
       let bytes-are : sheetBytes (g .front ++ new ∷ g .back) ≡ spliced at at (itemBytes new) s =
-      sheet-put (itemsOf s) (g .front) new (g .back) (g .same) ∙ (λ j. spliced (i .0 j) (i .0 j) (itemBytes new) (c .bytes-are j)) in
+      sheet-put (listItems s) (g .front) new (g .back) (g .same) ∙ (λ j. spliced (i .0 j) (i .0 j) (itemBytes new) (c .bytes-are j)) in
       let long = ap length bytes-are ∙ length-spliced at at (itemBytes new) s (i .1) in
       let l₃ = length-itemBytes new in
       let w = i .1 in
@@ -107,19 +107,19 @@ module _ (s : List ℕ) (new : Item) where
         items = g .front ++ new ∷ g .back;
         three-is = refl;
         result = ap (λ (x : Answer (List Item)). bind x (λ items. ask true 3 (inserted new items))) (c .reads)
-            ∙ ask-yes (all (λ j. not (hasKey (new .key) j)) (itemsOf s)) 9 _ (g .free) ∙ ap accepted (g .put new);
+            ∙ ask-yes (all (λ j. not (hasKey (new .key) j)) (listItems s)) 9 _ (g .free) ∙ ap accepted (g .put new);
         bytes-are = bytes-are;
         count = count;
         few = c .few;
         small = c .small;
         within = i .1;
-        fit = λ t. all-put p (g .front) new (g .back) (subst (λ (l : List Item). T (all p l)) (g .same) (sane-fit (itemsOf s) (c .sane-all))) t;
+        fit = λ t. all-put p (g .front) new (g .back) (subst (λ (l : List Item). T (all p l)) (g .same) (sane-fit (listItems s) (c .sane-all))) t;
         space = space-is (g .front ++ new ∷ g .back) ∙ omega (arith, long, l₃, count, w);
       }
 
   at-free : T (areBytes s) → (at n : ℕ) (items : List Item) → readSheet s ≡ accepted items → (q : Sought) → seekIn (new .key) 1 items ≡ q
-      → slotAt (length items) q ≡ Free at n → Insertable s new true at n
-  unfolding slotAt checkedOf itemsIn
+      → insertAt (length items) q ≡ Free at n → Insertable s new true at n
+  unfolding insertAt checkedOf itemsIn
   at-free t at n items h (Present start end) f g = let z : _≡_ {A = ℕ} 0 1 = cc in absurd (omega arith)
   at-free t at n items h (Absent p) f g =
       let same : p ≡ at = cc in
@@ -127,18 +127,18 @@ module _ (s : List ℕ) (new : Item) where
       let c : Counted s n = counted s n t (ap checkedOf h ∙ ap Count many) in
       insertable n c at (ap (λ (x : Answer (List Item)). seekIn (new .key) 1 (itemsIn x)) h ∙ f ∙ ap Absent same)
 
-  pub slot-free : T (areBytes s) → (three : Bool) (at n : ℕ) → slotOf (new .key) three (readSheet s) ≡ Free at n → Insertable s new three at n
-  unfolding slotOf
-  slot-free t three at n e = go (readSheet s) refl three e
+  pub target-free : T (areBytes s) → (three : Bool) (at n : ℕ) → insertAtOf (new .key) three (readSheet s) ≡ Free at n → Insertable s new three at n
+  unfolding insertAtOf
+  target-free t three at n e = go (readSheet s) refl three e
     where
-      go : (r : Answer (List Item)) → readSheet s ≡ r → (three : Bool) → slotOf (new .key) three r ≡ Free at n → Insertable s new three at n
+      go : (r : Answer (List Item)) → readSheet s ≡ r → (three : Bool) → insertAtOf (new .key) three r ≡ Free at n → Insertable s new three at n
       go (refused k) h b f = let z : _≡_ {A = ℕ} 0 1 = cc in absurd (omega arith)
       go absent h b f = let z : _≡_ {A = ℕ} 0 1 = cc in absurd (omega arith)
       go remove h b f = let z : _≡_ {A = ℕ} 0 1 = cc in absurd (omega arith)
       go (accepted items) h false f = let z : _≡_ {A = ℕ} 0 1 = cc in absurd (omega arith)
       go (accepted items) h true f = at-free t at n items h (seekIn (new .key) 1 items) refl f
 
--- ---- insert: question 18 after the slot
+-- ---- insert: question 18 after the position
 
 over : (f g : List Item → Answer (List Item)) (r : Answer (List Item)) (b : Bool)
     → bind r (λ items. ask b 3 (bind (f items) g)) ≡ bind (bind r (λ items. ask b 3 (f items))) g
@@ -149,10 +149,10 @@ over f g remove b = refl
 over f g (accepted items) true = refl
 over f g (accepted items) false = refl
 
-after-slot : (s : List ℕ) (three : Bool) (f : List Item → Answer (List Item)) (g : List Item → Answer (List Item))
+after-target : (s : List ℕ) (three : Bool) (f : List Item → Answer (List Item)) (g : List Item → Answer (List Item))
     → onSheet s three (λ items. bind (f items) g) ≡ bind (onSheet s three f) g
 unfolding onSheet
-after-slot s three f g = over f g (readSheet s) three
+after-target s three f g = over f g (readSheet s) three
 
 module _ (nodesize : ℕ) (s : List ℕ) (new : Item) where
   abbrev three : Bool
@@ -160,12 +160,12 @@ module _ (nodesize : ℕ) (s : List ℕ) (new : Item) where
 
   insert-is : insert nodesize s new ≡ bind (onSheet s three (inserted new)) (λ result. ask (leb (spaceOf result) nodesize) 18 (accepted result))
   unfolding insert
-  insert-is = after-slot s three (inserted new) (λ result. ask (leb (spaceOf result) nodesize) 18 (accepted result))
+  insert-is = after-target s three (inserted new) (λ result. ask (leb (spaceOf result) nodesize) 18 (accepted result))
 
-  insert-refused : (k : ℕ) → slotOf (new .key) three (readSheet s) ≡ Refused k → insert nodesize s new ≡ refused k
+  insert-refused : (k : ℕ) → insertAtOf (new .key) three (readSheet s) ≡ Refused k → insert nodesize s new ≡ refused k
   unfolding bind
   insert-refused k e =
-      insert-is ∙ ap (λ (x : Answer (List Item)). bind x (λ result. ask (leb (spaceOf result) nodesize) 18 (accepted result))) (slot-refused s new three k e)
+      insert-is ∙ ap (λ (x : Answer (List Item)). bind x (λ result. ask (leb (spaceOf result) nodesize) 18 (accepted result))) (target-refused s new three k e)
 
   module _ (at n : ℕ) (i : Insertable s new three at n) where
     insert-then : insert nodesize s new ≡ ask (leb (125 + length s + 4 * n + length (new .bytes)) nodesize) 18 (accepted (i .items))
@@ -194,10 +194,10 @@ module _ (nodesize : ℕ) (s : List ℕ) (new : Item) where
   abbrev pub putNew : Bool → Answer (List Item)
   putNew bounded = cond bounded (insert nodesize s new) (insertUnbounded s new)
 
-  pub put-refused : (bounded : Bool) (k : ℕ) → slotOf (new .key) (sizesFit bounded) (readSheet s) ≡ Refused k → putNew bounded ≡ refused k
+  pub put-refused : (bounded : Bool) (k : ℕ) → insertAtOf (new .key) (sizesFit bounded) (readSheet s) ≡ Refused k → putNew bounded ≡ refused k
   unfolding insertUnbounded
   put-refused true k e = insert-refused nodesize s new k e
-  put-refused false k e = slot-refused s new (dataFits (new .bytes)) k e
+  put-refused false k e = target-refused s new (dataFits (new .bytes)) k e
 
   pub put-fits : (bounded : Bool) (at n : ℕ) → Insertable s new (sizesFit bounded) at n → T (dataFits (new .bytes))
   put-fits true at n i = fits-new nodesize s new at n i
@@ -221,26 +221,26 @@ module _ (nodesize : ℕ) (s : List ℕ) (new : Item) where
   put-unbounded true at n i b = let z : _≡_ {A = ℕ} 0 1 = cc in absurd (omega arith)
   put-unbounded false at n i b = i .result
 
--- ---- the slot, as code finds it
+-- ---- the position, as code finds it
 
-pub slot-broken : (s : List ℕ) (key : Key) (three : Bool) (k : ℕ) → readSheet s ≡ refused k → Refused k ≡ slotOf key three (readSheet s)
-unfolding slotOf
-slot-broken s key three k e = rw e
+pub target-broken : (s : List ℕ) (key : Key) (three : Bool) (k : ℕ) → readSheet s ≡ refused k → Refused k ≡ insertAtOf key three (readSheet s)
+unfolding insertAtOf
+target-broken s key three k e = rw e
 
 module _ (s : List ℕ) (n : ℕ) (c : Counted s n) (key : Key) (three : Bool) where
-  pub slot-three : three ≡ false → Refused 3 ≡ slotOf key three (readSheet s)
-  unfolding slotOf
-  slot-three h = rw (c .reads, h)
+  pub target-three : three ≡ false → Refused 3 ≡ insertAtOf key three (readSheet s)
+  unfolding insertAtOf
+  target-three h = rw (c .reads, h)
 
   module _ (h : three ≡ true) where
-    slot-sought : (t : Sought) → seekIn key 1 (itemsOf s) ≡ t → slotAt n t ≡ slotOf key three (readSheet s)
-    unfolding slotOf
-    slot-sought t e = rw (c .reads, h, e, c .count)
+    target-sought : (t : Sought) → seekIn key 1 (listItems s) ≡ t → insertAt n t ≡ insertAtOf key three (readSheet s)
+    unfolding insertAtOf
+    target-sought t e = rw (c .reads, h, e, c .count)
 
-    pub slot-taken : (start end : ℕ) → seekIn key 1 (itemsOf s) ≡ Present start end → Refused 9 ≡ slotOf key three (readSheet s)
-    unfolding slotAt
-    slot-taken start end e = slot-sought (Present start end) e
+    pub target-taken : (start end : ℕ) → seekIn key 1 (listItems s) ≡ Present start end → Refused 9 ≡ insertAtOf key three (readSheet s)
+    unfolding insertAt
+    target-taken start end e = target-sought (Present start end) e
 
-    pub slot-open : (at : ℕ) → seekIn key 1 (itemsOf s) ≡ Absent at → Free at n ≡ slotOf key three (readSheet s)
-    unfolding slotAt
-    slot-open at e = slot-sought (Absent at) e
+    pub target-open : (at : ℕ) → seekIn key 1 (listItems s) ≡ Absent at → Free at n ≡ insertAtOf key three (readSheet s)
+    unfolding insertAt
+    target-open at e = target-sought (Absent at) e

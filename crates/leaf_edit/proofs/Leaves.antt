@@ -14,10 +14,10 @@ use Rattle.fields.proofs.Lists.{T-eq, some-inj, no-some}
 use Rattle.format.specs.Questions.{Answer, refused, accepted, ask, bind}
 use Rattle.format.specs.Items.{Item, readSheet, onSheet, nodesizeFits}
 use Rattle.format.specs.Sheets.{itemSpace, cutFits, gapOf, closer, bestCut, filled, cutsOf, cuts, leavesHold, splitToFit}
-use Rattle.item_list.specs.Steps.{itemsOf}
+use Rattle.item_list.specs.Steps.{listItems}
 use Rattle.item_list.proofs.Reading.{Counted}
 use Rattle.item_list.proofs.Spaces.{space-sheet}
-use Rattle.leaf_edit.specs.Division.{Sized, alone}
+use Rattle.leaf_edit.specs.Division.{Sized, fitsAlone}
 
 -- ---- the best cut
 
@@ -72,16 +72,16 @@ fill-holds n start at used (i ∷ items) h =
     go false t u =
         yes-and (ltb start at) _ (lt→ltb start at h) (subst (λ (k : ℕ). T (leavesHold at (filled n (at + 1) (101 + itemSpace i) items) k)) same u)
 
-filled-holds : (n : ℕ) (items : List Item) → 1 ≤ length items → T (all (alone n) items) → T (leavesHold 0 (filled n 0 101 items) (length items))
+filled-holds : (n : ℕ) (items : List Item) → 1 ≤ length items → T (all (fitsAlone n) items) → T (leavesHold 0 (filled n 0 101 items) (length items))
 unfolding filled
 filled-holds n [] h t = absurd (omega arith)
 filled-holds n (i ∷ items) h t =
-    let first = and-yes (alone n i) _ t .0 in
+    let first = and-yes (fitsAlone n i) _ t .0 in
     let e : 1 + length items ≡ suc (length items) = omega arith in
     rw (T-eq (leb (101 + itemSpace i) n) first)
     (subst (λ (k : ℕ). T (leavesHold 0 (filled n 1 (101 + itemSpace i) items) k)) e (fill-holds n 0 1 (101 + itemSpace i) items (omega arith)))
 
-pub leaves-hold : (n : ℕ) (items : List Item) → 2 ≤ length items → T (all (alone n) items) → T (leavesHold 0 (cuts n items) (length items))
+pub leaves-hold : (n : ℕ) (items : List Item) → 2 ≤ length items → T (all (fitsAlone n) items) → T (leavesHold 0 (cuts n items) (length items))
 unfolding cuts cutsOf leavesHold
 leaves-hold n items h t = go (bestCut n items (length items - 1)) refl
   where
@@ -95,10 +95,10 @@ leaves-hold n items h t = go (bestCut n items (length items - 1)) refl
 abbrev asked : ℕ → List Item → Answer (List ℕ)
 asked n items =
     ask (nodesizeFits n) 3
-    (ask (all (alone n) items) 18
+    (ask (all (fitsAlone n) items) 18
     (ask (leb 2 (length items)) 19 (ask (leavesHold 0 (cuts n items) (length items)) 20 (accepted (cuts n items)))))
 
-all-yes : (n : ℕ) (items : List Item) → nodesizeFits n ≡ true → all (alone n) items ≡ true → 2 ≤ length items → asked n items ≡ accepted (cuts n items)
+all-yes : (n : ℕ) (items : List Item) → nodesizeFits n ≡ true → all (fitsAlone n) items ≡ true → 2 ≤ length items → asked n items ≡ accepted (cuts n items)
 unfolding ask
 all-yes n items h e l =
     let holds = T-eq (leavesHold 0 (cuts n items) (length items)) (leaves-hold n items l (subst T (sym e) tt)) in
@@ -108,33 +108,33 @@ pub to-fit-refused : (n : ℕ) (s : List ℕ) (k : ℕ) → readSheet s ≡ refu
 unfolding splitToFit onSheet bind
 to-fit-refused n s k e = rw e
 
-pub to-fit-node : (n : ℕ) (s : List ℕ) → readSheet s ≡ accepted (itemsOf s) → nodesizeFits n ≡ false → splitToFit n s ≡ refused 3
+pub to-fit-node : (n : ℕ) (s : List ℕ) → readSheet s ≡ accepted (listItems s) → nodesizeFits n ≡ false → splitToFit n s ≡ refused 3
 unfolding splitToFit onSheet bind ask
 to-fit-node n s e h = rw (e, h)
 
 module _ (n : ℕ) (s : List ℕ) (m : ℕ) (c : Sized s m) (h : nodesizeFits n ≡ true) where
-  pub to-fit-large : all (alone n) (itemsOf s) ≡ false → splitToFit n s ≡ refused 18
+  pub to-fit-large : all (fitsAlone n) (listItems s) ≡ false → splitToFit n s ≡ refused 18
   unfolding splitToFit onSheet bind ask
   to-fit-large e = rw (c .listed .reads, h, e)
 
-  module _ (e : all (alone n) (itemsOf s) ≡ true) where
+  module _ (e : all (fitsAlone n) (listItems s) ≡ true) where
     pub to-fit-few : m < 2 → splitToFit n s ≡ refused 19
     unfolding splitToFit onSheet bind ask
     to-fit-few l = rw (c .listed .reads, h, e, c .count-is, lt-leb 2 m l)
 
-    done : 2 ≤ length (itemsOf s) → splitToFit n s ≡ accepted (cuts n (itemsOf s))
+    done : 2 ≤ length (listItems s) → splitToFit n s ≡ accepted (cuts n (listItems s))
     unfolding splitToFit onSheet bind
-    done l = ap (λ (x : Answer (List Item)). bind x (asked n)) (c .listed .reads) ∙ all-yes n (itemsOf s) h e l
+    done l = ap (λ (x : Answer (List Item)). bind x (asked n)) (c .listed .reads) ∙ all-yes n (listItems s) h e l
 
-    pub to-fit-cut : (at : ℕ) → bestCut n (itemsOf s) (length (itemsOf s) - 1) ≡ some at → splitToFit n s ≡ accepted (at ∷ [])
+    pub to-fit-cut : (at : ℕ) → bestCut n (listItems s) (length (listItems s) - 1) ≡ some at → splitToFit n s ≡ accepted (at ∷ [])
     to-fit-cut at f =
-        let r = cut-inside n (itemsOf s) at f in
+        let r = cut-inside n (listItems s) at f in
         let p = r .0 in
         let q = r .1 in
-        done (omega arith) ∙ ap accepted (cuts-one n (itemsOf s) at f)
+        done (omega arith) ∙ ap accepted (cuts-one n (listItems s) at f)
 
-    pub to-fit-filled : 2 ≤ m → bestCut n (itemsOf s) (length (itemsOf s) - 1) ≡ none → splitToFit n s ≡ accepted (filled n 0 101 (itemsOf s))
-    to-fit-filled l f = let k = c .count-is in done (omega arith) ∙ ap accepted (cuts-filled n (itemsOf s) f)
+    pub to-fit-filled : 2 ≤ m → bestCut n (listItems s) (length (listItems s) - 1) ≡ none → splitToFit n s ≡ accepted (filled n 0 101 (listItems s))
+    to-fit-filled l f = let k = c .count-is in done (omega arith) ∙ ap accepted (cuts-filled n (listItems s) f)
 
 pub node-small : (n : ℕ) → nodesizeFits n ≡ true → n ≤ 65536
 unfolding nodesizeFits

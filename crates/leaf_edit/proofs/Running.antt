@@ -13,13 +13,13 @@ use Rattle.fields.proofs.Lists.{and-false}
 use Rattle.fields.specs.Lists.{all}
 use Rattle.format.specs.Items.{Item}
 use Rattle.format.specs.Sheets.{itemSpace, spaceOf, cutFits, gapOf, closer, bestCut}
-use Rattle.item_list.specs.Steps.{itemAt, itemsOf}
+use Rattle.item_list.specs.Steps.{itemAt, listItems}
 use Rattle.item_list.proofs.Steps.{WholeAt, data-long}
 use Rattle.item_list.proofs.Walks.{More}
 use Rattle.item_list.proofs.Spaces.{space-append, space-cons}
 use Rattle.leaf_edit.specs.declared.division_measure.Cutting.{Cutting}
 use Rattle.leaf_edit.specs.declared.division_measure.Cutting.the-variants.{Before, Nowhere}
-use Rattle.leaf_edit.specs.Division.{Sized, alone, cuttingOf, closest, improved}
+use Rattle.leaf_edit.specs.Division.{Sized, fitsAlone, cuttingOf, closest, improved}
 
 -- the space of the item at a position
 pub space-at : (s : List ℕ) (at next : ℕ) → WholeAt s at next → itemSpace (itemAt s at) ≡ next - at + 4
@@ -32,17 +32,17 @@ space-none = refl
 
 -- ---- question 18
 
-pub each-end : (n : ℕ) (items : List Item) → items ≡ [] → all (alone n) items ≡ true
+pub each-end : (n : ℕ) (items : List Item) → items ≡ [] → all (fitsAlone n) items ≡ true
 each-end n items e = rw e
 
 module _ (s : List ℕ) (at next : ℕ) (items : List Item) (r : More s at next items) (n : ℕ) where
-  each-cons : all (alone n) items ≡ (leb (101 + (next - at + 4)) n && all (alone n) (r .others))
-  each-cons = ap (all (alone n)) (r .is) ∙ ap (λ (k : ℕ). leb (101 + k) n && all (alone n) (r .others)) (space-at s at next (r .whole))
+  each-cons : all (fitsAlone n) items ≡ (leb (101 + (next - at + 4)) n && all (fitsAlone n) (r .others))
+  each-cons = ap (all (fitsAlone n)) (r .is) ∙ ap (λ (k : ℕ). leb (101 + k) n && all (fitsAlone n) (r .others)) (space-at s at next (r .whole))
 
-  pub each-over : n < 101 + (next - at + 4) → all (alone n) items ≡ false
+  pub each-over : n < 101 + (next - at + 4) → all (fitsAlone n) items ≡ false
   each-over h = each-cons ∙ rw (lt-leb (101 + (next - at + 4)) n h)
 
-  pub each-more : 101 + (next - at + 4) ≤ n → all (alone n) items ≡ all (alone n) (r .others)
+  pub each-more : 101 + (next - at + 4) ≤ n → all (fitsAlone n) items ≡ all (fitsAlone n) (r .others)
   each-more h = each-cons ∙ rw (le-leb (101 + (next - at + 4)) n h)
 
 -- ---- the better cut, as code tests it
@@ -115,7 +115,7 @@ pub record Passed (n : ℕ) (items : List Item) (i left right : ℕ) (best : Cut
   pub right-is : right ≡ spaceOf rest
   pub best-is : best ≡ cuttingOf items (bestCut n items (i - 1))
 
-pub passed-none : (n : ℕ) (s : List ℕ) (count : ℕ) → Sized s count → Passed n (itemsOf s) 0 101 (100 + length s + 4 * count) Nowhere (itemsOf s)
+pub passed-none : (n : ℕ) (s : List ℕ) (count : ℕ) → Sized s count → Passed n (listItems s) 0 101 (100 + length s + 4 * count) Nowhere (listItems s)
 unfolding spaceOf bestCut cuttingOf
 passed-none n s count z =
     record { front = []; same = refl; count = refl; left-is = refl; right-is = sym (z .space-is); best-is = refl }

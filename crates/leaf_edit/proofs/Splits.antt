@@ -36,8 +36,8 @@ module _ (a : Answer (List ℕ)) (room : ℕ) (old new : List ℕ) where
         (answered (accepted numbers) (ap (heldCuts room) e ∙ rw (le-leb (length numbers) room h′))
         (record { result = refl; output = w ∙ written-front numbers old }))
 
-pub one-written : (old : List ℕ) (number : ℕ) → 1 ≤ length old → set old 0 number ≡ written 0 (number ∷ []) old
-one-written old number h = stores-one old 0 number h
+pub one-written : (old : List ℕ) (index : ℕ) → 1 ≤ length old → set old 0 index ≡ written 0 (index ∷ []) old
+one-written old index h = stores-one old 0 index h
 
 -- ---- split
 

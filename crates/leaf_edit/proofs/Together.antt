@@ -8,22 +8,22 @@ use lib.ListN.{length}
 use Rattle.fields.specs.Lists.{all}
 use Rattle.format.specs.Items.{Item}
 use Rattle.format.specs.Sheets.{bestCut}
-use Rattle.item_list.specs.Steps.{itemsOf}
+use Rattle.item_list.specs.Steps.{listItems}
 use Rattle.item_list.proofs.Walks.{More}
 use Rattle.leaf_edit.specs.declared.division_measure.Cutting.{Cutting}
 use Rattle.leaf_edit.specs.declared.division_measure.Cutting.the-variants.{Nowhere}
-use Rattle.leaf_edit.specs.Division.{Sized, alone, Divided, cuttingOf, improved, chosen}
+use Rattle.leaf_edit.specs.Division.{Sized, fitsAlone, Divided, cuttingOf, improved, chosen}
 use Rattle.leaf_edit.proofs.Running.{Passed, passed-none, passed-all, passed-next, each-end, each-over, each-more}
 use Rattle.leaf_edit.proofs.Filling.{Counting, counting-none, counting-all, counting-stays, counting-starts}
 
 pub record Measuring (n : ℕ) (items : List Item) (i left right : ℕ) (best : Cutting) (used leaves : ℕ) (rest : List Item) : Type 0 where
-  pub each : all (alone n) items ≡ all (alone n) rest
+  pub each : all (fitsAlone n) items ≡ all (fitsAlone n) rest
   pub passed : Passed n items i left right best rest
   pub counting : Counting n items i used leaves rest
 
 pub measuring-none : (n : ℕ) (s : List ℕ) (count : ℕ) → Sized s count
-    → Measuring n (itemsOf s) 0 101 (100 + length s + 4 * count) Nowhere 101 0 (itemsOf s)
-measuring-none n s count z = record { each = refl; passed = passed-none n s count z; counting = counting-none n (itemsOf s) }
+    → Measuring n (listItems s) 0 101 (100 + length s + 4 * count) Nowhere 101 0 (listItems s)
+measuring-none n s count z = record { each = refl; passed = passed-none n s count z; counting = counting-none n (listItems s) }
 
 module _ (n : ℕ) (items : List Item) (i left right : ℕ) (best : Cutting) (used leaves : ℕ) (rest : List Item)
     (k : Measuring n items i left right best used leaves rest) where
@@ -31,7 +31,7 @@ module _ (n : ℕ) (items : List Item) (i left right : ℕ) (best : Cutting) (us
   unfolding cuttingOf
   measuring-all e = subst (λ (b : Cutting). Divided n items (chosen b leaves)) (sym found) (go (bestCut n items (length items - 1)) refl)
     where
-      fits : all (alone n) items ≡ true
+      fits : all (fitsAlone n) items ≡ true
       fits = k .each ∙ each-end n rest e
 
       found : best ≡ cuttingOf items (bestCut n items (length items - 1))
@@ -42,7 +42,7 @@ module _ (n : ℕ) (items : List Item) (i left right : ℕ) (best : Cutting) (us
       go (some at) f = (fits, f)
 
   module _ (s : List ℕ) (at next : ℕ) (m : More s at next rest) where
-    pub measuring-over : n < 101 + (next - at + 4) → all (alone n) items ≡ false
+    pub measuring-over : n < 101 + (next - at + 4) → all (fitsAlone n) items ≡ false
     measuring-over h = k .each ∙ each-over s at next rest m n h
 
     module _ (l : n ≤ 65536) (a : 101 + (next - at + 4) ≤ n) (better : Cutting) (b : better ≡ improved n left right i best) where

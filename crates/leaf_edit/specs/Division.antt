@@ -9,7 +9,7 @@ use lib.ListN.{length}
 use Rattle.fields.specs.Lists.{all}
 use Rattle.format.specs.Items.{Item}
 use Rattle.format.specs.Sheets.{itemSpace, spaceOf, gapOf, bestCut, filled}
-use Rattle.item_list.specs.Steps.{Listed, itemsOf}
+use Rattle.item_list.specs.Steps.{IsList, listItems}
 use Rattle.leaf_edit.specs.declared.division_measure.Cutting.{Cutting}
 use Rattle.leaf_edit.specs.declared.division_measure.Cutting.the-variants.{Before, Nowhere}
 use Rattle.leaf_edit.specs.declared.division.Division.{Division}
@@ -17,23 +17,23 @@ use Rattle.leaf_edit.specs.declared.division.Division.the-variants.{TooL
 
 -- what the pass of questions 1 and 2 has shown of an item list with so many items
 pub record Sized (s : List ℕ) (count : ℕ) : Type 0 where
-  pub listed : Listed s
-  pub count-is : length (itemsOf s) ≡ count
+  pub listed : IsList s
+  pub count-is : length (listItems s) ≡ count
   pub few : count ≤ 4096
   pub small : length s ≤ 262144
-  pub space-is : spaceOf (itemsOf s) ≡ 100 + length s + 4 * count
+  pub space-is : spaceOf (listItems s) ≡ 100 + length s + 4 * count
 
 -- an item fits a leaf alone
-abbrev pub alone : ℕ → Item → Bool
-alone nodesize i = leb (101 + itemSpace i) nodesize
+abbrev pub fitsAlone : ℕ → Item → Bool
+fitsAlone nodesize i = leb (101 + itemSpace i) nodesize
 
 -- what the measuring pass answers
 abbrev pub Divided : ℕ → List Item → Division → Type 0
-Divided nodesize items TooLarge = all (alone nodesize) items ≡ false
+Divided nodesize items TooLarge = all (fitsAlone nodesize) items ≡ false
 Divided nodesize items (TwoWay at) =
-    (all (alone nodesize) items ≡ true) × (bestCut nodesize items (length items - 1) ≡ some at)
+    (all (fitsAlone nodesize) items ≡ true) × (bestCut nodesize items (length items - 1) ≡ some at)
 Divided nodesize items (Leaves leaves) =
-    (all (alone nodesize) items ≡ true) × (bestCut nodesize items (length items - 1) ≡ none) × (leaves ≡ length (filled nodesize 0 101 items))
+    (all (fitsAlone nodesize) items ≡ true) × (bestCut nodesize items (length items - 1) ≡ none) × (leaves ≡ length (filled nodesize 0 101 items))
 
 -- a cut with its gap
 unfoldable pub cuttingOf : List Item → Option ℕ → Cutting

@@ -1,2 +1,2 @@
 pub mod Division
-pub mod Slots
+pub mod Insertions

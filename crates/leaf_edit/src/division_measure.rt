@@ -1,10 +1,10 @@
 // The measuring pass over running sizes: question 18, the best two-way cut, and the leaves filled from the left.
 ghost use mathlib.Core.Path.{_≡_};
 ghost use Prim.Native.Nat.{_≤_};
-ghost use Rattle.item_list.specs.Steps.{itemsOf};
+ghost use Rattle.item_list.specs.Steps.{listItems};
 ghost use Rattle.leaf_edit.specs.Division.{Sized, Divided, improved, chosen};
 use crate::Division;
-use item_list::Step;
+use item_list::ItemStep;
 
 // The best two-way cut so far: the number of the item that it stands before, and its gap.
 enum Cutting {
@@ -55,7 +55,7 @@ fn choose(best: Cutting, leaves: usize) -> Division
 // left takes, and `leaves` how many follow the first.
 pub fn measure(s: &[u8], nodesize: usize, count: usize) -> Division
     requires { ⌜ Sized (now s) count × (nodesize ≤ 65536) ⌝ }
-    ensures { λ r. ⌜ Divided nodesize (itemsOf (now (s .entry))) r ⌝ }
+    ensures { λ r. ⌜ Divided nodesize (listItems (now (s .entry))) r ⌝ }
 {
     let mut at: usize = 1;
     let mut i: usize = 0;
@@ -67,9 +67,9 @@ pub fn measure(s: &[u8], nodesize: usize, count: usize) -> Division
     loop {
         let step = item_list::step_at(s, at);
         match step {
-            Step::End => return choose(best, leaves),
-            Step::Broken => return Division::TooLarge,
-            Step::Whole { next } => {
+            ItemStep::End => return choose(best, leaves),
+            ItemStep::Broken => return Division::TooLarge,
+            ItemStep::Whole { next } => {
                 let space = next - at + 4;
                 if nodesize < 101 + space {
                     return Division::TooLarge;

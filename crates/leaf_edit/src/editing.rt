@@ -3,27 +3,29 @@ ghost use mathlib.Core.Path.{_≡_};
 ghost use mathlib.Core.Bool.{_&&_, cond};
 ghost use lib.ListN.{length};
 ghost use lib.Dec.{leb};
+ghost use Rattle.format.specs.Constants.{mostData};
 ghost use Rattle.format.specs.Questions.{Answered};
 ghost use Rattle.format.specs.Items.{readSheet, nodesizeFits, heldSheet};
 ghost use Rattle.format.specs.Sheets.{insert, insertUnbounded, delete};
-ghost use Rattle.leaf_edit.specs.Slots.{slotOf};
-use super::Slot;
+ghost use Rattle.leaf_edit.specs.Insertions.{insertAtOf};
+use super::InsertAt;
 use format::Edited;
 use format::Key;
+use format::MOST_DATA;
+use item_list::ItemQuery;
 use item_list::Listing;
-use item_list::Wanted;
 
 // The list without the item of a key.
 pub fn delete(sheet: &[u8], key: Key, out: &mut [u8]) -> Edited
     ensures { λ r. ⌜ Answered (heldSheet (length (now (out .entry))) (delete (now (sheet .entry)) key)) r (now (out .entry)) (now (out .exit)) ⌝ }
 {
-    let listing = item_list::find(sheet, Wanted::AtOrPast(key));
+    let listing = item_list::find(sheet, ItemQuery::AtOrPast(key));
     match listing {
-        Listing::Refused(number) => return Edited::Refused(number),
+        Listing::Refused(refusal) => return Edited::Refused(refusal),
         Listing::Missing { count: _ } => return Edited::Refused(5),
         Listing::Found {
             count,
-            number: _,
+            index: _,
             start,
             end,
         } => {
@@ -36,56 +38,56 @@ pub fn delete(sheet: &[u8], key: Key, out: &mut [u8]) -> Edited
 }
 
 // Questions 1, 2, 3 and 9: `three` says whether question 3 is answered with yes.
-fn slot_for(sheet: &[u8], key: Key, three: bool) -> Slot
-    ensures { λ r. ⌜ r ≡ slotOf key three (readSheet (now (sheet .entry))) ⌝ }
+fn insert_at(sheet: &[u8], key: Key, three: bool) -> InsertAt
+    ensures { λ r. ⌜ r ≡ insertAtOf key three (readSheet (now (sheet .entry))) ⌝ }
 {
-    let listing = item_list::find(sheet, Wanted::AtOrPast(key));
+    let listing = item_list::find(sheet, ItemQuery::AtOrPast(key));
     match listing {
-        Listing::Refused(number) => return Slot::Refused(number),
+        Listing::Refused(refusal) => return InsertAt::Refused(refusal),
         Listing::Missing { count } => {
             if three {
-                return Slot::Free {
+                return InsertAt::Free {
                     at: sheet.len(),
                     count,
                 };
             }
-            return Slot::Refused(3);
+            return InsertAt::Refused(3);
         }
         Listing::Found {
             count,
-            number: _,
+            index: _,
             start,
             end: _,
         } => {
             if three {
                 if item_list::is_past(sheet, start, key) {
-                    return Slot::Free { at: start, count };
+                    return InsertAt::Free { at: start, count };
                 }
-                return Slot::Refused(9);
+                return InsertAt::Refused(9);
             }
-            return Slot::Refused(3);
+            return InsertAt::Refused(3);
         }
     }
 }
 
 // Question 3 of a nodesize and so many bytes of data.
 pub fn new_fits(nodesize: u32, size: usize) -> bool
-    ensures { λ r. ⌜ r ≡ (nodesizeFits nodesize && leb size 65535) ⌝ }
+    ensures { λ r. ⌜ r ≡ (nodesizeFits nodesize && leb size mostData) ⌝ }
 {
     if item_list::nodesize_fits(nodesize) {
-        return size <= 65535;
+        return size <= MOST_DATA;
     }
     false
 }
 
 // Question 3 of a new item with so many bytes of data, and of the nodesize where a leaf's size is asked for.
 fn sizes_fit(bounded: bool, nodesize: u32, size: usize) -> bool
-    ensures { λ r. ⌜ r ≡ cond bounded (nodesizeFits nodesize && leb size 65535) (leb size 65535) ⌝ }
+    ensures { λ r. ⌜ r ≡ cond bounded (nodesizeFits nodesize && leb size mostData) (leb size mostData) ⌝ }
 {
     if bounded {
         return new_fits(nodesize, size);
     }
-    size <= 65535
+    size <= MOST_DATA
 }
 
 // The list with one more item; where it is `bounded`, only if it still fits a leaf. One function for both calls: what is called
@@ -101,10 +103,10 @@ fn put_new(
 ) -> Edited
     ensures { λ r. ⌜ Answered (heldSheet (length (now (out .entry))) (cond bounded (insert nodesize (now (sheet .entry)) (record { key = key; bytes = now (body .entry) })) (insertUnbounded (now (sheet .entry)) (record { key = key; bytes = now (body .entry) })))) r (now (out .entry)) (now (out .exit)) ⌝ }
 {
-    let slot = slot_for(sheet, key, sizes_fit(bounded, nodesize, body.len()));
-    match slot {
-        Slot::Refused(number) => return Edited::Refused(number),
-        Slot::Free { at, count } => {
+    let target = insert_at(sheet, key, sizes_fit(bounded, nodesize, body.len()));
+    match target {
+        InsertAt::Refused(refusal) => return Edited::Refused(refusal),
+        InsertAt::Free { at, count } => {
             let space = 125 + sheet.len() + 4 * count + body.len();
             if bounded {
                 if (nodesize as usize) < space {

@@ -4,14 +4,14 @@ ghost use Prim.Native.Nat.{_≤_};
 ghost use lib.ListN.{length};
 ghost use Rattle.fields.specs.Parts.{written};
 ghost use Rattle.format.specs.Sheets.{filled};
-ghost use Rattle.item_list.specs.Steps.{itemsOf};
+ghost use Rattle.item_list.specs.Steps.{listItems};
 ghost use Rattle.leaf_edit.specs.Division.{Sized};
-use item_list::Step;
+use item_list::ItemStep;
 
 // The number of the first item of each later leaf.
 pub fn fill_write(s: &[u8], nodesize: usize, count: usize, cuts: &mut [u16])
-    requires { ⌜ Sized (now s) count × (nodesize ≤ 65536) × (length (filled nodesize 0 101 (itemsOf (now s))) ≤ length (now cuts)) ⌝ }
-    ensures { λ _. ⌜ now (cuts .exit) ≡ written 0 (filled nodesize 0 101 (itemsOf (now (s .entry)))) (now (cuts .entry)) ⌝ }
+    requires { ⌜ Sized (now s) count × (nodesize ≤ 65536) × (length (filled nodesize 0 101 (listItems (now s))) ≤ length (now cuts)) ⌝ }
+    ensures { λ _. ⌜ now (cuts .exit) ≡ written 0 (filled nodesize 0 101 (listItems (now (s .entry)))) (now (cuts .entry)) ⌝ }
 {
     let mut at: usize = 1;
     let mut used: usize = 101;
@@ -20,9 +20,9 @@ pub fn fill_write(s: &[u8], nodesize: usize, count: usize, cuts: &mut [u16])
     loop {
         let step = item_list::step_at(s, at);
         match step {
-            Step::End => return,
-            Step::Broken => return,
-            Step::Whole { next } => {
+            ItemStep::End => return,
+            ItemStep::Broken => return,
+            ItemStep::Whole { next } => {
                 let space = next - at + 4;
                 at = next;
                 i += 1;

@@ -11,7 +11,7 @@ pub fn fit(nodesize: u32, sheet: &[u8]) -> Judged
 {
     let checked = item_list::check(sheet);
     match checked {
-        Checked::Refused(number) => return Judged::Refused(number),
+        Checked::Refused(refusal) => return Judged::Refused(refusal),
         Checked::Count(count) => {
             if item_list::nodesize_fits(nodesize) {
                 return Judged::Says(100 + sheet.len() + 4 * count <= nodesize as usize);
@@ -27,7 +27,7 @@ pub fn fits(nodesize: u32, sheet: &[u8], body: &[u8]) -> Judged
 {
     let checked = item_list::check(sheet);
     match checked {
-        Checked::Refused(number) => return Judged::Refused(number),
+        Checked::Refused(refusal) => return Judged::Refused(refusal),
         Checked::Count(count) => {
             if editing::new_fits(nodesize, body.len()) {
                 return Judged::Says(

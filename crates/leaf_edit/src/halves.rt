@@ -10,7 +10,7 @@ pub fn split(sheet: &[u8], cuts: &mut [u16]) -> Edited
 {
     let checked = item_list::check(sheet);
     match checked {
-        Checked::Refused(number) => return Edited::Refused(number),
+        Checked::Refused(refusal) => return Edited::Refused(refusal),
         Checked::Count(count) => {
             if count < 2 {
                 return Edited::Refused(19);

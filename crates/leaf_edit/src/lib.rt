@@ -1,4 +1,5 @@
-// The calls of `leaf_edit.rs` on an item list (document 01's sheet) that give another list, a judgement or one item.
+// The calls of `leaf_edit.rs` on an item list (document 01's sheet): another list, one item, whether it fits a leaf, and cuts into
+// leaves.
 mod division;
 mod division_measure;
 mod editing;
@@ -18,11 +19,11 @@ pub use fitting::fit;
 pub use fitting::fits;
 pub use halves::split;
 pub use lookup::item;
-pub use lookup::item_place;
+pub use lookup::item_range;
 pub use whole::split_to_fit;
 
 // Where a new item goes and how many items there are; or the refusal.
-pub enum Slot {
+pub enum InsertAt {
     Free { at: usize, count: usize },
     Refused(u32),
 }

@@ -44,7 +44,7 @@ pub fn split_to_fit(nodesize: u32, sheet: &[u8], cuts: &mut [u16]) -> Edited
 {
     let checked = item_list::check(sheet);
     match checked {
-        Checked::Refused(number) => return Edited::Refused(number),
+        Checked::Refused(refusal) => return Edited::Refused(refusal),
         Checked::Count(count) => {
             if item_list::nodesize_fits(nodesize) {
                 return divide(nodesize as usize, sheet, count, cuts);

@@ -9,39 +9,39 @@ use Rattle.format.specs.Questions.{Answer, refused, absent, remove, accepted, b
 use Rattle.backref.specs.declared.plan.Outcome.{Outcome}
 use Rattle.backref.specs.declared.plan.Outcome.the-variants.{Edit, Absent, Remove, Refused}
 use Rattle.backref.specs.declared.plan.Plan.{Plan}
-use Rattle.backref.specs.Plans.{planned, planAnswer, PlanIn}
-use Rattle.ledger.specs.Asked.{firstNo, Asked, AskedAdd}
+use Rattle.backref.specs.Plans.{planOutcome, planAnswer, PlanIn}
+use Rattle.ledger.specs.Asked.{firstNo, AlsoAsked, AskedAdd}
 
 -- ---- of a plan
 
-pub first-other : (outcome : Outcome) (other number : ℕ) → outcome ≡ Refused other → other ≤ number → other ≡ firstNo outcome number
+pub first-other : (outcome : Outcome) (other refusal : ℕ) → outcome ≡ Refused other → other ≤ refusal → other ≡ firstNo outcome refusal
 unfolding firstNo
-first-other outcome other number e h = rw (e, le-leb other number h)
+first-other outcome other refusal e h = rw (e, le-leb other refusal h)
 
-pub first-number : (outcome : Outcome) (other number : ℕ) → outcome ≡ Refused other → number < other → number ≡ firstNo outcome number
+pub first-refusal : (outcome : Outcome) (other refusal : ℕ) → outcome ≡ Refused other → refusal < other → refusal ≡ firstNo outcome refusal
 unfolding firstNo
-first-number outcome other number e h = rw (e, lt-leb other number h)
+first-refusal outcome other refusal e h = rw (e, lt-leb other refusal h)
 
-answer-no : (outcome : Outcome) (p : Plan) (number : ℕ) (body : List ℕ) → refused (firstNo outcome number) ≡ also false number (planned outcome p body)
-unfolding firstNo planned also
-answer-no Edit p number body = refl
-answer-no Absent p number body = refl
-answer-no Remove p number body = refl
-answer-no (Refused other) p number body = refl
+answer-no : (outcome : Outcome) (p : Plan) (refusal : ℕ) (body : List ℕ) → refused (firstNo outcome refusal) ≡ also false refusal (planOutcome outcome p body)
+unfolding firstNo planOutcome also
+answer-no Edit p refusal body = refl
+answer-no Absent p refusal body = refl
+answer-no Remove p refusal body = refl
+answer-no (Refused other) p refusal body = refl
 
-module _ (p : Plan) (yes : Bool) (number : ℕ) where
-  pub asked-yes : yes ≡ true → Asked p yes number p
+module _ (p : Plan) (yes : Bool) (refusal : ℕ) where
+  pub asked-yes : yes ≡ true → AlsoAsked p yes refusal p
   unfolding also
   asked-yes e = record { says = λ body. rw e refl; inside = λ body t. t }
 
-  pub asked-no : yes ≡ false → (r : Plan) (first : ℕ) → first ≡ firstNo (p .outcome) number → r .outcome ≡ Refused first → Asked p yes number r
-  unfolding planAnswer planned PlanIn
+  pub asked-no : yes ≡ false → (r : Plan) (first : ℕ) → first ≡ firstNo (p .outcome) refusal → r .outcome ≡ Refused first → AlsoAsked p yes refusal r
+  unfolding planAnswer planOutcome PlanIn
   asked-no e r first f o = record {
-    says = λ body. rw (e, o, f) (answer-no (p .outcome) p number body);
+    says = λ body. rw (e, o, f) (answer-no (p .outcome) p refusal body);
     inside = λ body t. rw o tt;
   }
 
-pub asked-add : (p q r : Plan) (none own : Bool) (amount : ℕ) → none ≡ own → Asked p (leb 1 amount) 10 q → Asked q none 9 r → AskedAdd p own amount r
+pub asked-add : (p q r : Plan) (none own : Bool) (amount : ℕ) → none ≡ own → AlsoAsked p (leb 1 amount) 10 q → AlsoAsked q none 9 r → AskedAdd p own amount r
 asked-add p q r none own amount e a b = record {
   says = λ body. b .says body ∙ (λ j. also (e j) 9 (a .says body j));
   inside = λ body t. b .inside body (a .inside body t);
@@ -49,12 +49,12 @@ asked-add p q r none own amount e a b = record {
 
 -- ---- of a call: nothing that follows the result asks an earlier question
 
-pub also-bind : {A B : Type 0} (yes : Bool) (number : ℕ) (a : Answer A) (next : A → Answer B)
-    → ((d : A) → also false number (next d) ≡ refused number)
-    → also yes number (bind a next) ≡ bind (also yes number a) next
+pub also-bind : {A B : Type 0} (yes : Bool) (refusal : ℕ) (a : Answer A) (next : A → Answer B)
+    → ((d : A) → also false refusal (next d) ≡ refused refusal)
+    → also yes refusal (bind a next) ≡ bind (also yes refusal a) next
 unfolding also bind
-also-bind true number a next late = refl
-also-bind false number (refused k) next late = refl
-also-bind false number absent next late = refl
-also-bind false number remove next late = refl
-also-bind false number (accepted d) next late = late d
+also-bind true refusal a next late = refl
+also-bind false refusal (refused k) next late = refl
+also-bind false refusal absent next late = refl
+also-bind false refusal remove next late = refl
+also-bind false refusal (accepted d) next late = late d

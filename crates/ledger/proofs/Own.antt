@@ -9,11 +9,11 @@ use mathlib.Core.List.{List, [], _∷_, _++_}
 use lib.Dec.{T, eqb}
 use lib.ListN.{length}
 use mir.Facts.{T-not, yes-eqb}
-use Rattle.fields.specs.Lists.{sum, all, same, Cut, cut}
+use Rattle.fields.specs.Lists.{sum, all, same, Cut, firstCut}
 use Rattle.fields.specs.Numbers.{words}
 use Rattle.fields.proofs.Lists.{T-eq, or-left, or-right, all-rest, all-two, same-yes, same-refl, Found, cut-some}
 use Rattle.format.specs.declared.Key.{Key}
-use Rattle.format.specs.References.{Ref, place, placeOf}
+use Rattle.format.specs.References.{Ref, rank, rankOf}
 use Rattle.format.specs.Bodies.{one}
 use Rattle.format.specs.Items.{Item, keyOf, sameKey, rising}
 use Rattle.format.specs.Sheets.{hasKey}
@@ -29,18 +29,18 @@ use Rattle.theorems.proofs.Facts.{plain-entry, data-entry}
 use Rattle.theorems.proofs.Counts.{data-form}
 use Rattle.balance.proofs.Sorted.{names, nameOf, one-or}
 use Rattle.balance.proofs.Says.{Says, aRecord, aReference, nothing, bad, says, entries-ref, entries-none, entries-bad}
-use Rattle.inline_refs.specs.declared.wanted.Wanted.{Wanted}
-use Rattle.inline_refs.specs.declared.wanted.Wanted.the-variants.{Block, Data, SharedBlock, SharedData}
+use Rattle.inline_refs.specs.declared.ref_name.RefName.{RefName}
+use Rattle.inline_refs.specs.declared.ref_name.RefName.the-variants.{Block, Data, SharedBlock, SharedData}
 use Rattle.inline_refs.specs.Scans.{kindOf, fieldsOf}
 use Rattle.item_list.specs.declared.Sought.the-variants.{Absent}
 use Rattle.item_list.specs.Seeks.{seekIn}
-use Rattle.item_list.proofs.Places.{gap}
+use Rattle.item_list.proofs.Positions.{gap}
 use Rattle.record_edit.proofs.Held.{all-but}
-use Rattle.ledger.specs.Known.{nameIn, ownAt}
+use Rattle.ledger.specs.Known.{nameIn, isOwnItem}
 
 -- the key of an item of that name
 abbrev pub ownKey : Name → Key
-ownKey n = keyOf (n .extent) (n .kind) (placeOf (n .kind) (n .fields))
+ownKey n = keyOf (n .extent) (n .kind) (rankOf (n .kind) (n .fields))
 
 module _ (n : Name) where
   -- ---- an item with another key is not the name's own
@@ -48,12 +48,12 @@ module _ (n : Name) where
   none-own : (i : Item) → sum (stands n) (itemEntries i) ≡ 0 → T (notItsOwn n i)
   none-own i e = or-right (isRecord i) _ (yes-eqb e)
 
-  own-has-key : (i : Item) (r : Ref) → r .kind ≡ i .key .kind → place r ≡ i .key .offset → n ≡ nameOf (i .key .objectid) r → T (hasKey (ownKey n) i)
-  unfolding place
+  own-has-key : (i : Item) (r : Ref) → r .kind ≡ i .key .kind → rank r ≡ i .key .offset → n ≡ nameOf (i .key .objectid) r → T (hasKey (ownKey n) i)
+  unfolding rank
   own-has-key i r k p e =
       let e₁ : i .key .objectid ≡ n .extent = sym (ap (λ (m : Name). m .extent) e) in
       let e₂ : i .key .kind ≡ n .kind = sym k ∙ sym (ap (λ (m : Name). m .kind) e) in
-      let e₃ : i .key .offset ≡ placeOf (n .kind) (n .fields) = sym p ∙ sym (ap (λ (m : Name). placeOf (m .kind) (m .fields)) e) in
+      let e₃ : i .key .offset ≡ rankOf (n .kind) (n .fields) = sym p ∙ sym (ap (λ (m : Name). rankOf (m .kind) (m .fields)) e) in
       let q : i .key ≡ ownKey n = (λ j. record { objectid = e₁ j; kind = e₂ j; offset = e₃ j }) in
       subst (λ (key : Key). T (sameKey key (ownKey n))) (sym q) (sameKey-refl (ownKey n))
 
@@ -77,7 +77,7 @@ module _ (n : Name) where
 
     -- ---- the item at its key
 
-    module _ (c : Cut Item) (e : cut (hasKey (ownKey n)) items ≡ some c) where
+    module _ (c : Cut Item) (e : firstCut (hasKey (ownKey n)) items ≡ some c) where
       found : Found (hasKey (ownKey n)) items c
       found = cut-some (hasKey (ownKey n)) items e
 
@@ -120,22 +120,22 @@ module _ (n : Name) where
 
 -- ---- the wanted name, and the item that was found at its key
 
-kinds-of : (w : Wanted) → Naming (kindOf w)
+kinds-of : (w : RefName) → Naming (kindOf w)
 unfolding kindOf
 kinds-of (Block name) = is176 refl
 kinds-of (Data name) = is178 refl
 kinds-of (SharedBlock parent) = is182 refl
 kinds-of (SharedData parent) = is184 refl
 
-module _ (items : List Item) (sanes : T (all sane items)) (rises : T (rising items)) (extent : ℕ) (w : Wanted) (c : Cut Item)
-    (e : cut (hasKey (ownKey (nameIn extent w))) items ≡ some c) (g : T (good (c .hit))) where
+module _ (items : List Item) (sanes : T (all sane items)) (rises : T (rising items)) (extent : ℕ) (w : RefName) (c : Cut Item)
+    (e : firstCut (hasKey (ownKey (nameIn extent w))) items ≡ some c) (g : T (good (c .hit))) where
   abbrev i : Item
   i = c .hit
 
   at-key : i .key ≡ ownKey (nameIn extent w)
   at-key = key-is (nameIn extent w) items sanes rises c e
 
-  is-plain : eqb (kindOf w) 178 ≡ false → fieldsOf w ≡ one (placeOf (kindOf w) (fieldsOf w)) → false ≡ all (notItsOwn (nameIn extent w)) items
+  is-plain : eqb (kindOf w) 178 ≡ false → fieldsOf w ≡ one (rankOf (kindOf w) (fieldsOf w)) → false ≡ all (notItsOwn (nameIn extent w)) items
   is-plain q f =
       let e₁ : extent ≡ i .key .objectid = sym (ap (λ (k : Key). k .objectid) at-key) in
       let e₂ : kindOf w ≡ i .key .kind = sym (ap (λ (k : Key). k .kind) at-key) in
@@ -160,10 +160,10 @@ module _ (items : List Item) (sanes : T (all sane items)) (rises : T (rising ite
   pub data-long : kindOf w ≡ 178 → length (i .bytes) ≡ 28
   data-long k = data-form i (data-kind k) g .0
 
-pub own-found : (items : List Item) → T (all sane items) → T (rising items) → (extent : ℕ) (w : Wanted) (c : Cut Item)
-    → cut (hasKey (ownKey (nameIn extent w))) items ≡ some c → T (good (c .hit)) → (b : Bool) → b ≡ ownAt w (c .hit .bytes)
+pub own-found : (items : List Item) → T (all sane items) → T (rising items) → (extent : ℕ) (w : RefName) (c : Cut Item)
+    → firstCut (hasKey (ownKey (nameIn extent w))) items ≡ some c → T (good (c .hit)) → (b : Bool) → b ≡ isOwnItem w (c .hit .bytes)
     → not b ≡ all (notItsOwn (nameIn extent w)) items
-unfolding ownAt kindOf fieldsOf placeOf
+unfolding isOwnItem kindOf fieldsOf rankOf
 own-found items sanes rises extent (Block name) c e g b h = ap not h ∙ is-plain items sanes rises extent (Block name) c e g refl refl
 own-found items sanes rises extent (Data name) c e g b h = is-data items sanes rises extent (Data name) c e g refl b h
 own-found items sanes rises extent (SharedBlock parent) c e g b h = ap not h ∙ is-plain items sanes rises extent (SharedBlock parent) c e g refl refl

@@ -8,7 +8,7 @@ use Prim.Native.Nat.{ℕ}
 use native.Mathlib.Omega.{arith}
 use lib.Dec.{T, eqb, leb, eqb→eq}
 use mir.Facts.{or-yes, and-yes}
-use Rattle.fields.specs.Lists.{all, Cut, cut}
+use Rattle.fields.specs.Lists.{all, Cut, firstCut}
 use Rattle.format.specs.declared.Change.{Change}
 use Rattle.format.specs.declared.Change.the-variants.{AddBlock, AddData, AddShared, DropBlock, DropData, DropShared}
 use Rattle.format.specs.declared.BlockRef.{BlockRef}
@@ -22,10 +22,10 @@ use Rattle.format.specs.Items.{Item, nodesizeFits, heldSheet}
 use Rattle.format.specs.Apply.{recordOf, onRecord, applyKeyedAdd, applySharedAdd}
 use Rattle.format.specs.Names.{Name, balanced}
 use Rattle.format.specs.Ledger.{nameOf, kindFits, notItsOwn, added, dropSharedRef, changed, post, posted}
-use Rattle.inline_refs.specs.declared.wanted.Wanted.{Wanted}
-use Rattle.inline_refs.specs.declared.wanted.Wanted.the-variants.{Block, Data, SharedBlock, SharedData}
+use Rattle.inline_refs.specs.declared.ref_name.RefName.{RefName}
+use Rattle.inline_refs.specs.declared.ref_name.RefName.the-variants.{Block, Data, SharedBlock, SharedData}
 use Rattle.inline_refs.specs.Scans.{kindOf}
-use Rattle.item_list.specs.Steps.{itemsOf}
+use Rattle.item_list.specs.Steps.{listItems}
 use Rattle.item_list.proofs.ItemWrites.{answered-no}
 use Rattle.backref.specs.Adds.{sharedRef}
 use Rattle.transaction.specs.Drops.{dropRef}
@@ -76,7 +76,7 @@ module _ (nodesize extent : ℕ) (items : List Item) where
   unfolding changed dropRef
   drop-data name = refl
 
-  pub drop-shared : (name : SharedRef) (w : Wanted) → SharedWanted name w → onRecord extent items (dropRef w items) ≡ changed nodesize (DropShared extent name) items
+  pub drop-shared : (name : SharedRef) (w : RefName) → SharedWanted name w → onRecord extent items (dropRef w items) ≡ changed nodesize (DropShared extent name) items
   unfolding changed
   drop-shared name w h = λ j. onRecord extent items (λ c. sym (h .drop items c) j)
 
@@ -97,13 +97,13 @@ entered-as {s} {target} change e h = subst (λ (x : Change). StandsFor s (nameOf
 pub fits-as : (change : Change) {other : Change} → change ≡ other → T (kindFits change) → T (kindFits other)
 fits-as change e h = subst (λ (x : Change). T (kindFits x)) e h
 
-pub not-block : (name : SharedRef) (w : Wanted) {amount : ℕ} → SharedWanted name w → T (sharedKind (name .kind)) → kindOf w ≡ 176 → amount ≡ 1
+pub not-block : (name : SharedRef) (w : RefName) {amount : ℕ} → SharedWanted name w → T (sharedKind (name .kind)) → kindOf w ≡ 176 → amount ≡ 1
 unfolding sharedKind
 not-block name w h t e = absurd (subst (λ (k : ℕ). T (eqb k 182 || eqb k 184)) (sym (h .kind) ∙ e) t)
 
 -- ---- question 5
 
-no-record : {A : Type 0} (extent : ℕ) (items : List Item) (next : Cut Item → Answer A) → cut (recordOf extent) items ≡ none
+no-record : {A : Type 0} (extent : ℕ) (items : List Item) (next : Cut Item → Answer A) → firstCut (recordOf extent) items ≡ none
     → onRecord extent items next ≡ refused 5
 unfolding onRecord bind needed
 no-record extent items next e = ap (λ (o : Option (Cut Item)). bind (needed 5 o) next) e
@@ -118,7 +118,7 @@ add-missing m amount items a e = ap (added m amount items) e ∙ go (leb 1 amoun
     go false true = refl
     go false false = refl
 
-missing-record : (nodesize : ℕ) (change : Change) (items : List Item) → cut (recordOf (nameOf change .extent)) items ≡ none
+missing-record : (nodesize : ℕ) (change : Change) (items : List Item) → firstCut (recordOf (nameOf change .extent)) items ≡ none
     → changed nodesize change items ≡ refused 5
 unfolding changed applyKeyedAdd applySharedAdd
 missing-record nodesize (AddBlock extent name) items e = add-missing _ 1 items _ (no-record extent items _ e)
@@ -159,36 +159,36 @@ module _ (s : List ℕ) (nodesize : ℕ) (change : Change) (room : ℕ) where
   sheet-no k old e =
       answered-no _ room k old (on-refused s three k (λ items. ask (balanced items) 4 (changed nodesize change items)) e)
 
-  module _ (passed : askedSheet s three ≡ accepted (itemsOf s)) where
-    asks : post nodesize s change ≡ ask (balanced (itemsOf s)) 4 (changed nodesize change (itemsOf s))
+  module _ (passed : askedSheet s three ≡ accepted (listItems s)) where
+    asks : post nodesize s change ≡ ask (balanced (listItems s)) 4 (changed nodesize change (listItems s))
     unfolding post
     asks = on-passed s three (λ items. ask (balanced items) 4 (changed nodesize change items)) passed
 
     pub kind-yes : T (kindFits change)
     kind-yes = and-yes (nodesizeFits nodesize) (kindFits change) (passed-shows s three passed .0) .1
 
-    pub missing-answered : (k : ℕ) (old : List ℕ) → cut (recordOf (nameOf change .extent)) (itemsOf s) ≡ none → k ≡ unbalancedOr (balanced (itemsOf s)) 5
+    pub missing-answered : (k : ℕ) (old : List ℕ) → firstCut (recordOf (nameOf change .extent)) (listItems s) ≡ none → k ≡ unbalancedOr (balanced (listItems s)) 5
         → Answered (posted nodesize s change room) (Denied k) old old
     unfolding posted
     missing-answered k old e is =
         answered-no _ room k old
-        (asks ∙ four-or-five (balanced (itemsOf s)) _ (missing-record nodesize change (itemsOf s) e) ∙ ap refused (sym is))
+        (asks ∙ four-or-five (balanced (listItems s)) _ (missing-record nodesize change (listItems s) e) ∙ ap refused (sym is))
 
-    module _ (k : ℕ) (is : k ≡ unbalancedOr (balanced (itemsOf s)) 0) where
+    module _ (k : ℕ) (is : k ≡ unbalancedOr (balanced (listItems s)) 0) where
       pub asked-no : (old : List ℕ) → (k ≡ 0 → ⊥) → Answered (posted nodesize s change room) (Denied k) old old
       unfolding posted
-      asked-no old h = answered-no _ room k old (asks ∙ four-no (balanced (itemsOf s)) _ (λ z. h (is ∙ z)) ∙ ap refused (sym is))
+      asked-no old h = answered-no _ room k old (asks ∙ four-no (balanced (listItems s)) _ (λ z. h (is ∙ z)) ∙ ap refused (sym is))
 
       module _ (zero-is : k ≡ 0) where
-        yes : balanced (itemsOf s) ≡ true
-        yes = zero-yes (balanced (itemsOf s)) (sym is ∙ zero-is)
+        yes : balanced (listItems s) ≡ true
+        yes = zero-yes (balanced (listItems s)) (sym is ∙ zero-is)
 
-        pub balanced-list : T (balanced (itemsOf s))
+        pub balanced-list : T (balanced (listItems s))
         balanced-list = subst T (sym yes) tt
 
-        pub post-answered : (r : Edited) (old new : List ℕ) → Answered (heldSheet room (changed nodesize change (itemsOf s))) r old new
+        pub post-answered : (r : Edited) (old new : List ℕ) → Answered (heldSheet room (changed nodesize change (listItems s))) r old new
             → Answered (posted nodesize s change room) r old new
         unfolding posted ask
         post-answered r old new h =
             subst (λ (a : Answer (List Item)). Answered (heldSheet room a) r old new)
-            (sym (asks ∙ ap (λ (b : Bool). ask b 4 (changed nodesize change (itemsOf s))) yes)) h
+            (sym (asks ∙ ap (λ (b : Bool). ask b 4 (changed nodesize change (listItems s))) yes)) h

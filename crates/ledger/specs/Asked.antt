@@ -12,14 +12,14 @@ use Rattle.backref.specs.Plans.{planAnswer, PlanIn}
 
 -- the refusal where the further question is answered with no
 unfoldable pub firstNo : Outcome → ℕ → ℕ
-firstNo Edit number = number
-firstNo Absent number = number
-firstNo Remove number = number
-firstNo (Refused other) number = cond (leb other number) other number
+firstNo Edit refusal = refusal
+firstNo Absent refusal = refusal
+firstNo Remove refusal = refusal
+firstNo (Refused other) refusal = cond (leb other refusal) other refusal
 
 -- one question
-pub record Asked (p : Plan) (yes : Bool) (number : ℕ) (r : Plan) : Type 0 where
-  pub says : (body : List ℕ) → planAnswer r body ≡ also yes number (planAnswer p body)
+pub record AlsoAsked (p : Plan) (yes : Bool) (refusal : ℕ) (r : Plan) : Type 0 where
+  pub says : (body : List ℕ) → planAnswer r body ≡ also yes refusal (planAnswer p body)
   pub inside : (body : List ℕ) → PlanIn p body → PlanIn r body
 
 -- questions 9 and 10 of an added reference: `own` says whether its name has no item of its own

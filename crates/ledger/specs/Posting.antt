@@ -8,7 +8,7 @@ use Rattle.format.specs.declared.SharedRef.{SharedRef}
 use Rattle.format.specs.declared.Change.the-variants.{AddShared}
 use Rattle.format.specs.Items.{Item}
 use Rattle.format.specs.Ledger.{dropSharedRef}
-use Rattle.inline_refs.specs.declared.wanted.Wanted.{Wanted}
+use Rattle.inline_refs.specs.declared.ref_name.RefName.{RefName}
 use Rattle.inline_refs.specs.Scans.{kindOf}
 use Rattle.transaction.specs.Drops.{dropRef}
 use Rattle.ledger.specs.Adding.{addChange}
@@ -18,7 +18,7 @@ unfoldable pub unbalancedOr : Bool → ℕ → ℕ
 unbalancedOr four otherwise = cond four otherwise 4
 
 -- the name that a shared reference wants
-pub record SharedWanted (name : SharedRef) (w : Wanted) : Type 0 where
+pub record SharedWanted (name : SharedRef) (w : RefName) : Type 0 where
   pub change : (extent amount : ℕ) → AddShared extent name amount ≡ addChange extent w amount
   pub drop : (items : List Item) (c : Cut Item) → dropSharedRef name items c ≡ dropRef w items c
   pub kind : kindOf w ≡ name .kind

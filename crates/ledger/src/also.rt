@@ -2,31 +2,31 @@
 use backref::Outcome;
 use backref::Plan;
 ghost use mathlib.Core.Path.{_≡_};
-ghost use Rattle.ledger.specs.Asked.{firstNo, Asked};
+ghost use Rattle.ledger.specs.Asked.{firstNo, AlsoAsked};
 
 // The refusal where the further question is answered with no: the lower number comes first.
-fn first_no(outcome: Outcome, number: u32) -> u32
-    ensures { λ r. ⌜ r ≡ firstNo outcome number ⌝ }
+fn first_no(outcome: Outcome, refusal: u32) -> u32
+    ensures { λ r. ⌜ r ≡ firstNo outcome refusal ⌝ }
 {
     match outcome {
         Outcome::Refused(other) => {
-            if other <= number {
+            if other <= refusal {
                 return other;
             }
-            number
+            refusal
         }
-        Outcome::Edit => number,
-        Outcome::Absent => number,
-        Outcome::Remove => number,
+        Outcome::Edit => refusal,
+        Outcome::Absent => refusal,
+        Outcome::Remove => refusal,
     }
 }
 
-pub fn plan_also(plan: Plan, yes: bool, number: u32) -> Plan
-    ensures { λ r. ⌜ Asked plan yes number r ⌝ }
+pub fn plan_also(plan: Plan, yes: bool, refusal: u32) -> Plan
+    ensures { λ r. ⌜ AlsoAsked plan yes refusal r ⌝ }
 {
     if yes {
         return plan;
     }
     let outcome = plan.outcome;
-    backref::refuse(first_no(outcome, number))
+    backref::refuse(first_no(outcome, refusal))
 }

@@ -2,8 +2,9 @@
 use crate::adds;
 use format::Change;
 use format::Edited;
+use format::SHARED_BLOCK_REF;
 use format::SharedRef;
-use inline_refs::Wanted;
+use inline_refs::RefName;
 use record_edit::FoundRecord;
 use record_edit::RecordAt;
 ghost use mathlib.Core.Path.{_≡_};
@@ -15,10 +16,10 @@ ghost use Rattle.format.specs.Bodies.{sharedKind};
 ghost use Rattle.format.specs.Items.{nodesizeFits, heldSheet};
 ghost use Rattle.format.specs.Names.{balanced};
 ghost use Rattle.format.specs.Ledger.{nameOf, kindFits, changed};
-ghost use Rattle.item_list.specs.Steps.{Listed, itemsOf};
+ghost use Rattle.item_list.specs.Steps.{IsList, listItems};
 ghost use Rattle.record_edit.specs.Stands.{StandsFor};
 ghost use Rattle.ledger.specs.Posting.{unbalancedOr, SharedWanted};
-ghost use Rattle.theorems.specs.Calls.{Kept};
+ghost use Rattle.theorems.specs.Calls.{CallKept};
 
 fn kind_fits(change: Change) -> bool
     ensures { λ r. ⌜ r ≡ kindFits change ⌝ }
@@ -72,14 +73,14 @@ fn extent_of(change: Change) -> u64
     }
 }
 
-fn shared_wanted(name: SharedRef) -> Wanted
+fn shared_wanted(name: SharedRef) -> RefName
     requires { ⌜ T (sharedKind (name .kind)) ⌝ }
     ensures { λ r. ⌜ SharedWanted name r ⌝ }
 {
-    if name.kind == 182 {
-        return Wanted::SharedBlock(name.parent);
+    if name.kind == SHARED_BLOCK_REF {
+        return RefName::SharedBlock(name.parent);
     }
-    Wanted::SharedData(name.parent)
+    RefName::SharedData(name.parent)
 }
 
 // The change to the record that stands there.
@@ -91,20 +92,28 @@ fn change_at(
     out: &mut [u8],
 ) -> Edited
     requires { ⌜ StandsFor (now sheet) (nameOf change .extent) target ⌝ }
-    requires { ⌜ T (balanced (itemsOf (now sheet))) ⌝ }
+    requires { ⌜ T (balanced (listItems (now sheet))) ⌝ }
     requires { ⌜ T (kindFits change) ⌝ }
-    ensures { λ r. ⌜ Answered (heldSheet (length (now (out .entry))) (changed nodesize change (itemsOf (now (sheet .entry))))) r (now (out .entry)) (now (out .exit)) ⌝ }
+    ensures { λ r. ⌜ Answered (heldSheet (length (now (out .entry))) (changed nodesize change (listItems (now (sheet .entry))))) r (now (out .entry)) (now (out .exit)) ⌝ }
 {
     match change {
         Change::AddBlock { extent, name } => {
-            return adds::add(sheet, target, nodesize, extent, Wanted::Block(name), 1, out);
+            return adds::add(
+                sheet,
+                target,
+                nodesize,
+                extent,
+                RefName::Block(name),
+                1,
+                out,
+            );
         }
         Change::AddData {
             extent,
             name,
             amount,
         } => {
-            let wanted = Wanted::Data(name);
+            let wanted = RefName::Data(name);
             return adds::add(sheet, target, nodesize, extent, wanted, amount, out);
         }
         Change::AddShared {
@@ -116,10 +125,10 @@ fn change_at(
             return adds::add(sheet, target, nodesize, extent, wanted, amount, out);
         }
         Change::DropBlock { extent: _, name } => {
-            return transaction::drop_ref(sheet, target, Wanted::Block(name), out);
+            return transaction::drop_ref(sheet, target, RefName::Block(name), out);
         }
         Change::DropData { extent: _, name } => {
-            return transaction::drop_ref(sheet, target, Wanted::Data(name), out);
+            return transaction::drop_ref(sheet, target, RefName::Data(name), out);
         }
         Change::DropShared { extent: _, name } => {
             let wanted = shared_wanted(name);
@@ -131,8 +140,8 @@ fn change_at(
 // Question 4: `otherwise` where it is answered with yes. The check of balance is called from here alone, so that the compiler
 // inlines it; called from two places it takes twice the time.
 fn unbalanced_or(sheet: &[u8], otherwise: u32) -> u32
-    requires { ⌜ Listed (now sheet) ⌝ }
-    ensures { λ r. ⌜ r ≡ unbalancedOr (balanced (itemsOf (now (sheet .entry)))) otherwise ⌝ }
+    requires { ⌜ IsList (now sheet) ⌝ }
+    ensures { λ r. ⌜ r ≡ unbalancedOr (balanced (listItems (now (sheet .entry)))) otherwise ⌝ }
 {
     if balance::balanced(sheet) {
         return otherwise;
@@ -142,12 +151,12 @@ fn unbalanced_or(sheet: &[u8], otherwise: u32) -> u32
 
 // Document 01's posting: the sheet with the change, into `out`.
 pub fn post(sheet: &[u8], nodesize: u32, change: Change, out: &mut [u8]) -> Edited
-    ensures { λ r. ⌜ Kept (now (sheet .entry)) (record { nodesize = nodesize; change = change; old = now (out .entry); new = now (out .exit); result = r }) ⌝ }
+    ensures { λ r. ⌜ CallKept (now (sheet .entry)) (record { nodesize = nodesize; change = change; old = now (out .entry); new = now (out .exit); result = r }) ⌝ }
 {
     let three = change_fits(nodesize, change);
     let found = record_edit::find_record(sheet, extent_of(change), three);
     match found {
-        FoundRecord::Refused(number) => return Edited::Refused(number),
+        FoundRecord::Refused(refusal) => return Edited::Refused(refusal),
         FoundRecord::Missing => return Edited::Refused(unbalanced_or(sheet, 5)),
         FoundRecord::At { index: _, target } => {
             let refusal = unbalanced_or(sheet, 0);

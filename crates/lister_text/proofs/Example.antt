@@ -5,7 +5,7 @@ use mathlib.Core.List.{List, [], _∷_, _++_}
 use Prim.Native.Nat.{ℕ}
 use Rattle.fields.specs.Numbers.{le, leBytes, words, wordBytes}
 use Rattle.format.specs.Questions.{ask, bind}
-use Rattle.format.specs.References.{rowIn, known, payloadLength, countPosition, counted, fieldCount, ref, weightOf, refAt, readRefs, refBytes, refsBytes, totalOf, flagsOf, startOf, Body, readBody, bodyBytes}
+use Rattle.format.specs.References.{rowIn, known, payloadLength, countPosition, counted, fieldCount, makeRef, weightOf, refAt, readRefs, refBytes, refsBytes, totalOf, flagsOf, startOf, Body, readBody, bodyBytes}
 use Rattle.format.specs.Bodies.{bodyFits, onBody, dataExtentBody}
 use Rattle.format.specs.Lister.{digits, line, refLine, refLines, listing, printed, listed}
 
@@ -24,7 +24,7 @@ five =
     record {
       total = 9;
       fixed = leBytes 8 7 ++ leBytes 8 2;
-      refs = ref 172 (11 ∷ []) 0 ∷ ref 176 (12 ∷ []) 1 ∷ ref 178 (13 ∷ 14 ∷ 15 ∷ []) 16 ∷ ref 182 (17 ∷ []) 1 ∷ ref 184 (18 ∷ []) 19 ∷ [];
+      refs = makeRef 172 (11 ∷ []) 0 ∷ makeRef 176 (12 ∷ []) 1 ∷ makeRef 178 (13 ∷ 14 ∷ 15 ∷ []) 16 ∷ makeRef 182 (17 ∷ []) 1 ∷ makeRef 184 (18 ∷ []) 19 ∷ [];
     }
 
 -- 24 9 2 5, 172 11, 176 12, 178 13 14 15 16, 182 17, and 184 18 19

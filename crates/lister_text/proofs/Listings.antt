@@ -24,7 +24,7 @@ use Rattle.inline_refs.specs.Steps.{readFrom}
 use Rattle.inline_refs.specs.Scans.{refsIn}
 use Rattle.inline_refs.proofs.Notes.{Opens}
 use Rattle.inline_refs.specs.declared.count.Counted.the-variants.{Count, Refused}
-use Rattle.inline_refs.specs.Counts.{countOf}
+use Rattle.inline_refs.specs.Counts.{refCountOf}
 use Rattle.inline_refs.proofs.Counts.{count-reads, fault-reads}
 use Rattle.lister_text.specs.Puts.{Put, refsOf}
 
@@ -57,11 +57,11 @@ module _ (type : ℕ) (s : List ℕ) where
   text-shut n e = ap printed (sym (listing-is ∙ ap (λ (x : Answer (List Ref)). bind x (λ refs. accepted (text refs))) e))
 
   module _ (start : ℕ) (o : Opens type s start) where
-    pub text-fault : (n : ℕ) → Refused n ≡ countOf (readFrom s start) → printed (refused n) ≡ printed (listing type s)
+    pub text-fault : (n : ℕ) → Refused n ≡ refCountOf (readFrom s start) → printed (refused n) ≡ printed (listing type s)
     unfolding readFrom
     text-fault n e = text-shut n (o .reads ∙ fault-reads (readFrom s start) n (readRefs-decides (length (drop start s)) (drop start s)) e)
 
-    pub text-is : (count : ℕ) → Count count ≡ countOf (readFrom s start)
+    pub text-is : (count : ℕ) → Count count ≡ refCountOf (readFrom s start)
         → line (start ∷ totalOf s ∷ flagsOf s ∷ count ∷ []) ++ refLines (refsOf (readFrom s start)) ≡ printed (listing type s)
     unfolding printed bind refsOf
     text-is count e =

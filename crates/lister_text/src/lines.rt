@@ -1,6 +1,6 @@
 // The lines of the text.
 use inline_refs::Counted;
-use inline_refs::Step;
+use inline_refs::RefStep;
 ghost use mathlib.Core.Path.{_≡_};
 ghost use mathlib.Core.Bool.{cond};
 ghost use mathlib.Core.List.{[], _∷_};
@@ -11,7 +11,7 @@ ghost use Rattle.format.specs.Questions.{refused};
 ghost use Rattle.format.specs.References.{kinds, known, payloadLength, countPosition, counted, fieldCount, refAt, totalOf, flagsOf};
 ghost use Rattle.format.specs.Lister.{line, refLine, refLines, printed};
 ghost use Rattle.inline_refs.specs.Steps.{readFrom};
-ghost use Rattle.inline_refs.specs.Counts.{countOf};
+ghost use Rattle.inline_refs.specs.Counts.{refCountOf};
 ghost use Rattle.lister_text.specs.Puts.{Put, spaced, refsOf};
 
 // The only line of a refusal.
@@ -88,7 +88,7 @@ pub fn put_refs<'a>(
     count: usize,
 ) -> usize
     requires { ⌜ now rows ≡ kinds ⌝ }
-    requires { ⌜ (length (now body) ≤ 65535) × (Counted.Count count ≡ countOf (readFrom (now body) start)) × (start ≤ length (now body)) × (at ≤ 100) ⌝ }
+    requires { ⌜ (length (now body) ≤ 65535) × (Counted.Count count ≡ refCountOf (readFrom (now body) start)) × (start ≤ length (now body)) × (at ≤ 100) ⌝ }
     ensures { λ r. ⌜ Put (refLines (refsOf (readFrom (now (body .entry)) start))) at (now (out .entry)) r (now (out .exit)) × (r ≤ 100 + 5 * length (now (body .entry))) ⌝ }
 {
     let mut cursor = start;
@@ -97,21 +97,21 @@ pub fn put_refs<'a>(
         let stepped = inline_refs::step_from(rows, body, cursor);
         let step = stepped.step;
         match step {
-            Step::Ref {
+            RefStep::Ref {
                 kind,
                 start: payload,
                 size,
-                count: place,
+                count: count_at,
                 next: _,
             } => {
-                next = put_ref(out, next, body, kind, payload, size, place);
+                next = put_ref(out, next, body, kind, payload, size, count_at);
                 cursor = stepped.at;
             }
-            Step::End => {
+            RefStep::End => {
                 return next;
             }
             // None is: they were counted.
-            Step::Refused(_) => {
+            RefStep::Refused(_) => {
                 return next;
             }
         }

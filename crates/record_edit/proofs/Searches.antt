@@ -9,7 +9,7 @@ use native.Mathlib.Nat.{zero-add}
 use lib.Dec.{T, eqb}
 use lib.ListN.{length}
 use mir.Facts.{and-yes}
-use Rattle.fields.specs.Lists.{all, Cut, cut}
+use Rattle.fields.specs.Lists.{all, Cut, firstCut}
 use Rattle.fields.proofs.Lists.{all-mid, Found, cut-some}
 use Rattle.format.specs.declared.Key.{Key}
 use Rattle.format.specs.Questions.{Answer, refused, absent, remove, accepted, ask, bind, needed}
@@ -18,11 +18,11 @@ use Rattle.format.specs.Sheets.{hasKey}
 use Rattle.format.specs.Apply.{isRecord, recordOf, onRecord}
 use Rattle.format.proofs.Items.{sane}
 use Rattle.format.proofs.Keys.{cut-at-key}
-use Rattle.item_list.specs.declared.Wanted.the-variants.{Record}
-use Rattle.item_list.specs.Steps.{itemAt, itemsOf, Listed}
+use Rattle.item_list.specs.declared.ItemQuery.the-variants.{Record}
+use Rattle.item_list.specs.Steps.{itemAt, listItems, IsList}
 use Rattle.item_list.specs.Seeks.{passing}
 use Rattle.item_list.proofs.Reading.{Counted, Located, Lacking}
-use Rattle.item_list.proofs.Places.{Placed, placed, record-missing, Inside, inside}
+use Rattle.item_list.proofs.Positions.{Positioned, positioned, record-missing, Inside, inside}
 use Rattle.record_edit.specs.declared.RecordAt.{RecordAt}
 use Rattle.record_edit.specs.declared.FoundRecord.{FoundRecord}
 use Rattle.record_edit.specs.Stands.{StandsFor, askedSheet, RecordMissing, RecordFound, Finds}
@@ -39,31 +39,31 @@ module _ (s : List ℕ) (three : Bool) where
   pub three-refused : {n : ℕ} → Counted s n → three ≡ false → askedSheet s three ≡ refused 3
   unfolding onSheet bind ask
   three-refused c e =
-      ap (λ (x : Answer (List Item)). bind x (λ items. ask three 3 (accepted items))) (c .reads) ∙ ap (λ (b : Bool). ask b 3 (accepted (itemsOf s))) e
+      ap (λ (x : Answer (List Item)). bind x (λ items. ask three 3 (accepted items))) (c .reads) ∙ ap (λ (b : Bool). ask b 3 (accepted (listItems s))) e
 
-  all-passed : {n : ℕ} → Counted s n → three ≡ true → askedSheet s three ≡ accepted (itemsOf s)
+  all-passed : {n : ℕ} → Counted s n → three ≡ true → askedSheet s three ≡ accepted (listItems s)
   unfolding onSheet bind ask
   all-passed c e =
-      ap (λ (x : Answer (List Item)). bind x (λ items. ask three 3 (accepted items))) (c .reads) ∙ ap (λ (b : Bool). ask b 3 (accepted (itemsOf s))) e
+      ap (λ (x : Answer (List Item)). bind x (λ items. ask three 3 (accepted items))) (c .reads) ∙ ap (λ (b : Bool). ask b 3 (accepted (listItems s))) e
 
   module _ (extent : ℕ) where
     pub lacks : {n : ℕ} → Lacking (passing (Record extent)) s n → three ≡ true → RecordMissing s extent three
     unfolding passing
-    lacks l e = record { passed = all-passed (l .list) e; none-there = record-missing extent (itemsOf s) (l .place) }
+    lacks l e = record { passed = all-passed (l .list) e; none-there = record-missing extent (listItems s) (l .position) }
 
     module _ {n number start end : ℕ} (l : Located (passing (Record extent)) s n number start end) where
-      first-placed : Placed (recordOf extent) (itemsOf s) 0 1 number start end
+      first-positioned : Positioned (recordOf extent) (listItems s) 0 1 number start end
       unfolding passing
-      first-placed = placed (recordOf extent) 0 1 (itemsOf s) number start end (l .place)
+      first-positioned = positioned (recordOf extent) 0 1 (listItems s) number start end (l .position)
 
       abbrev d : Cut Item
-      d = first-placed .at-cut
+      d = first-positioned .at-cut
 
-      found : Found (recordOf extent) (itemsOf s) d
-      found = cut-some (recordOf extent) (itemsOf s) (first-placed .is)
+      found : Found (recordOf extent) (listItems s) d
+      found = cut-some (recordOf extent) (listItems s) (first-positioned .is)
 
       within : Inside s (d .front) (d .hit) start end
-      within = inside s (itemsOf s) (d .front) (d .hit) (d .back) start end (l .list .bytes-are) (found .same) (first-placed .stands)
+      within = inside s (listItems s) (d .front) (d .hit) (d .back) start end (l .list .bytes-are) (found .same) (first-positioned .stands)
 
       pub key-room : start + 21 ≤ length s
       key-room = let i = within in let p = i .ordered in let q = i .within in omega arith
@@ -84,15 +84,15 @@ module _ (s : List ℕ) (three : Bool) where
                 reads = l .list .reads;
                 many = l .list .count;
                 at-cut = d;
-                finds = ap₂ (λ (k : Key) (x : List Item). cut (hasKey k) x) (sym key-is) (found .same)
+                finds = ap₂ (λ (k : Key) (x : List Item). firstCut (hasKey k) x) (sym key-is) (found .same)
                     ∙ cut-at-key (d .front) (d .hit) (d .back) (subst (λ (x : List Item). T (rising x)) (found .same) (l .list .rises));
                 is-record = and-yes (isRecord (d .hit)) (eqb (d .hit .key .objectid) extent) (found .hit) .0;
                 starts = e₁;
                 ends = omega arith;
               };
-              first = first-placed .is;
+              first = first-positioned .is;
             };
-            index-is = first-placed .number-is ∙ zero-add (length (d .front));
+            index-is = first-positioned .index-is ∙ zero-add (length (d .front));
           }
 
 -- question 3 as it was asked, and the answer as it was told
@@ -118,12 +118,12 @@ pub on-refused : {A : Type 0} (s : List ℕ) (three : Bool) (k : ℕ) (next : Li
 unfolding bind
 on-refused s three k next e = on-sheet s three next ∙ ap (λ (a : Answer (List Item)). bind a next) e
 
-pub on-passed : {A : Type 0} (s : List ℕ) (three : Bool) (next : List Item → Answer A) → askedSheet s three ≡ accepted (itemsOf s) → onSheet s three next ≡ next (itemsOf s)
+pub on-passed : {A : Type 0} (s : List ℕ) (three : Bool) (next : List Item → Answer A) → askedSheet s three ≡ accepted (listItems s) → onSheet s three next ≡ next (listItems s)
 unfolding bind
 on-passed s three next e = on-sheet s three next ∙ ap (λ (a : Answer (List Item)). bind a next) e
 
 -- what the first questions have shown
-pub passed-shows : (s : List ℕ) (three : Bool) → askedSheet s three ≡ accepted (itemsOf s) → T three × Listed s
+pub passed-shows : (s : List ℕ) (three : Bool) → askedSheet s three ≡ accepted (listItems s) → T three × IsList s
 unfolding onSheet
 passed-shows s three e =
     let t = bind-ok (readSheet s) _ e in
@@ -136,18 +136,18 @@ unfolding bind onRecord needed
 on-missing {A} {s} {extent} {three} l next =
     on-sheet s three (λ items. onRecord extent items (next items))
     ∙ ap (λ (a : Answer (List Item)). bind a (λ items. onRecord extent items (next items))) (l .passed)
-    ∙ ap (λ (o : Option (Cut Item)). bind (needed 5 o) (next (itemsOf s))) (l .none-there)
+    ∙ ap (λ (o : Option (Cut Item)). bind (needed 5 o) (next (listItems s))) (l .none-there)
 
 pub on-record : {A : Type 0} {s : List ℕ} {extent : ℕ} {target : RecordAt} (h : StandsFor s extent target) (next : Cut Item → Answer A)
-    → onRecord extent (itemsOf s) next ≡ next (h .stands .at-cut)
+    → onRecord extent (listItems s) next ≡ next (h .stands .at-cut)
 unfolding onRecord bind needed
 on-record h next = ap (λ (o : Option (Cut Item)). bind (needed 5 o) next) (h .first)
 
 pub on-found : {A : Type 0} {s : List ℕ} {extent : ℕ} {three : Bool} {index : ℕ} {target : RecordAt} (h : RecordFound s extent three index target)
     (next : List Item → Cut Item → Answer A)
-    → onSheet s three (λ items. onRecord extent items (next items)) ≡ next (itemsOf s) (h .there .stands .at-cut)
+    → onSheet s three (λ items. onRecord extent items (next items)) ≡ next (listItems s) (h .there .stands .at-cut)
 unfolding bind
 on-found {A} {s} {extent} {three} h next =
     on-sheet s three (λ items. onRecord extent items (next items))
     ∙ ap (λ (a : Answer (List Item)). bind a (λ items. onRecord extent items (next items))) (h .passed)
-    ∙ on-record (h .there) (next (itemsOf s))
+    ∙ on-record (h .there) (next (listItems s))

@@ -19,27 +19,27 @@ use Rattle.format.proofs.Items.{length-sheetBytes, sheet-sane, sheetBytes-read}
 use Rattle.format.proofs.Keys.{sameKey-yes}
 use Rattle.format.proofs.Splices.{sheet-data}
 use Rattle.item_list.specs.declared.Checked.the-variants.{Count}
-use Rattle.item_list.specs.Steps.{itemsOf, checkedOf}
+use Rattle.item_list.specs.Steps.{listItems, checkedOf}
 use Rattle.item_list.proofs.Reading.{Counted, counted}
-use Rattle.item_list.proofs.Places.{Inside, inside}
+use Rattle.item_list.proofs.Positions.{Inside, inside}
 use Rattle.item_list.proofs.ItemWrites.{sane-fit}
 use Rattle.record_edit.specs.declared.RecordAt.{RecordAt}
 use Rattle.record_edit.specs.Records.{dataOf}
 use Rattle.record_edit.specs.Stands.{StandsAt, onKey}
 
 pub record Stands (s : List ℕ) (c : Cut Item) (target : RecordAt) : Type 0 where
-  pub reads : readSheet s ≡ accepted (itemsOf s)
-  pub same : itemsOf s ≡ c .front ++ c .hit ∷ c .back
+  pub reads : readSheet s ≡ accepted (listItems s)
+  pub same : listItems s ≡ c .front ++ c .hit ∷ c .back
   pub is-record : T (isRecord (c .hit))
   pub hit-is : c .hit ≡ record { key = target .key; bytes = dataOf s (target .start) (target .end) }
   pub ordered : target .start + 21 ≤ target .end
   pub within : target .end ≤ length s
   pub small : length s ≤ 262144
-  pub count : length (itemsOf s) ≡ target .«item_count»
-  pub bytes-are : sheetBytes (itemsOf s) ≡ s
+  pub count : length (listItems s) ≡ target .«item_count»
+  pub bytes-are : sheetBytes (listItems s) ≡ s
   pub starts : length (sheetBytes (c .front)) ≡ target .start
   pub ends : length (sheetBytes (c .front)) + (21 + length (c .hit .bytes)) ≡ target .end
-  pub fit : T (all (λ i. dataFits (i .bytes)) (itemsOf s))
+  pub fit : T (all (λ i. dataFits (i .bytes)) (listItems s))
   pub list : Counted s (target .«item_count»)
 
 module _ {s : List ℕ} {target : RecordAt} (bytes : T (areBytes s)) (h : StandsAt s target) where
@@ -47,19 +47,19 @@ module _ {s : List ℕ} {target : RecordAt} (bytes : T (areBytes s)) (h : Stands
   unfolding checkedOf
   stands =
       let c : Cut Item = h .at-cut in
-      let f : Found (hasKey (target .key)) (itemsOf s) c = cut-some (hasKey (target .key)) (itemsOf s) (h .finds) in
-      let k = sheet-sane s (itemsOf s) bytes (h .reads) in
-      let are : sheetBytes (itemsOf s) ≡ s = sheetBytes-read s (itemsOf s) bytes (h .reads) in
+      let f : Found (hasKey (target .key)) (listItems s) c = cut-some (hasKey (target .key)) (listItems s) (h .finds) in
+      let k = sheet-sane s (listItems s) bytes (h .reads) in
+      let are : sheetBytes (listItems s) ≡ s = sheetBytes-read s (listItems s) bytes (h .reads) in
       let list : Counted s (target .«item_count») = counted s (target .«item_count») bytes (ap checkedOf (h .reads) ∙ ap Count (h .many)) in
       let e₁ = h .starts in
       let e₂ = h .ends in
       let first : target .start ≡ 1 + length (itemsBytes (c .front)) = sym e₁ ∙ length-sheetBytes (c .front) in
       let i : Inside s (c .front) (c .hit) (target .start) (target .end) =
-      inside s (itemsOf s) (c .front) (c .hit) (c .back) (target .start) (target .end) are (f .same) (record { starts = first; ends = sym e₂ }) in
+      inside s (listItems s) (c .front) (c .hit) (c .back) (target .start) (target .end) are (f .same) (record { starts = first; ends = sym e₂ }) in
       let key-is : c .hit .key ≡ target .key = sameKey-yes (c .hit .key) (target .key) (f .hit) in
       let size : length (c .hit .bytes) ≡ target .end - (target .start + 21) = omega arith in
       let bytes-is : c .hit .bytes ≡ dataOf s (target .start) (target .end) =
-      sym (sheet-data (itemsOf s) (c .front) (c .hit) (c .back) (f .same)) ∙ (λ j. part (e₁ j + 21) (size j) (are j)) in
+      sym (sheet-data (listItems s) (c .front) (c .hit) (c .back) (f .same)) ∙ (λ j. part (e₁ j + 21) (size j) (are j)) in
       record {
         reads = h .reads;
         same = f .same;
@@ -72,17 +72,17 @@ module _ {s : List ℕ} {target : RecordAt} (bytes : T (areBytes s)) (h : Stands
         bytes-are = are;
         starts = e₁;
         ends = i .ends;
-        fit = sane-fit (itemsOf s) (k .0);
+        fit = sane-fit (listItems s) (k .0);
         list = list;
       }
 
 -- the call at the record's key is the call at its cut
 pub on-key : {A : Type 0} {s : List ℕ} {target : RecordAt} (h : StandsAt s target) (next : Cut Item → Answer A)
-    → onKey (target .key) (itemsOf s) next ≡ next (h .at-cut)
+    → onKey (target .key) (listItems s) next ≡ next (h .at-cut)
 unfolding onKey bind needed
 on-key h next = ap (λ (o : Option (Cut Item)). bind (needed 5 o) next) (h .finds)
 
 pub key-answered : {s : List ℕ} {target : RecordAt} (h : StandsAt s target) (next : Cut Item → Answer (List Item)) (room : ℕ) (r : Edited) (old new : List ℕ)
-    → Answered (heldSheet room (next (h .at-cut))) r old new → Answered (heldSheet room (onKey (target .key) (itemsOf s) next)) r old new
+    → Answered (heldSheet room (next (h .at-cut))) r old new → Answered (heldSheet room (onKey (target .key) (listItems s) next)) r old new
 key-answered h next room r old new w =
     subst (λ (a : Answer (List Item)). Answered (heldSheet room a) r old new) (sym (on-key h next)) w

@@ -21,12 +21,12 @@ use Rattle.item_list.specs.ItemWrites.{headBytes, roomFor}
 use Rattle.item_list.proofs.ItemWrites.{length-head, item-head}
 use Rattle.backref.specs.declared.plan.Outcome.the-variants.{Edit, Absent, Remove, Refused}
 use Rattle.backref.specs.declared.plan.Plan.{Plan}
-use Rattle.backref.specs.Plans.{edited, planned, planAnswer, EditIn}
+use Rattle.backref.specs.Plans.{edited, planOutcome, planAnswer, EditIn}
 use Rattle.backref.proofs.Writes.{front-of, written-then}
 use Rattle.backref.proofs.Outcomes.{plan-is, length-edited}
-use Rattle.record_edit.specs.declared.Behind.{Behind}
+use Rattle.record_edit.specs.declared.SecondEdit.{SecondEdit}
 use Rattle.record_edit.specs.declared.RecordAt.{RecordAt}
-use Rattle.record_edit.specs.Records.{dataOf, editLength, BehindIn, restOf, restLength, sheetLength, editedSheet, heldRecord, heldEdit}
+use Rattle.record_edit.specs.Records.{dataOf, editLength, SecondIn, restBytes, restLength, sheetLength, editedSheet, heldRecord, heldEdit}
 
 -- ---- a planned body
 
@@ -63,7 +63,7 @@ module _ (p : Plan) (body : List ℕ) (h : EditIn p body) where
 
 -- ---- the second edit
 
-module _ (b : Behind) (end : ℕ) (s : List ℕ) (h : BehindIn b end s) where
+module _ (b : SecondEdit) (end : ℕ) (s : List ℕ) (h : SecondIn b end s) where
   new-in : b .size ≤ length (b .new)
   new-in = subst (λ (k : ℕ). b .size ≤ k) (sym (h .full)) (h .small)
 
@@ -71,7 +71,7 @@ module _ (b : Behind) (end : ℕ) (s : List ℕ) (h : BehindIn b end s) where
       → (r₁ ≡ at + (b .from - end)) × (o₁ ≡ written at (part end (b .from - end) s) out)
       → (r₂ ≡ r₁ + (b .size - 0)) × (o₂ ≡ written r₁ (part 0 (b .size - 0) (b .new)) o₁)
       → o₃ ≡ written r₂ (part (b .to) (length s - b .to) s) o₂
-      → o₃ ≡ written at (restOf b end s) out
+      → o₃ ≡ written at (restBytes b end s) out
   rest-writes out o₁ o₂ o₃ at r₁ r₂ room e₁ e₂ e₃ =
       let low = h .low in
       let order = h .order in
@@ -107,7 +107,7 @@ module _ (b : Behind) (end : ℕ) (s : List ℕ) (h : BehindIn b end s) where
       let n₂ : start ≤ length (x ++ y) = omega (arith, lx, length-append x y) in
       take-append-le start (x ++ y) (drop (b .to) s) n₂ ∙ take-append-le start x y n₁ ∙ take-take start (b .from) s (omega arith)
 
-  inner-rest : drop end inner ≡ restOf b end s
+  inner-rest : drop end inner ≡ restBytes b end s
   inner-rest =
       let low = h .low in
       let high = h .high in
@@ -134,7 +134,7 @@ module _ (b : Behind) (end : ℕ) (s : List ℕ) (h : BehindIn b end s) where
 
 -- ---- the whole list
 
-module _ (s : List ℕ) (r : RecordAt) (p : Plan) (b : Behind) (h : BehindIn b (r .end) s) (k : r .start + 21 ≤ r .end) where
+module _ (s : List ℕ) (r : RecordAt) (p : Plan) (b : SecondEdit) (h : SecondIn b (r .end) s) (k : r .start + 21 ≤ r .end) where
   abbrev body : List ℕ
   body = dataOf s (r .start) (r .end)
 
@@ -198,7 +198,7 @@ module _ (s : List ℕ) (r : RecordAt) (p : Plan) (b : Behind) (h : BehindIn b (
     pub sheet-writes : (out o₁ o₂ : List ℕ) (at : ℕ) → sheetLength r p b (length s) ≤ length out
         → (at ≡ r .start + 21 + editLength p (length body))
         × (o₁ ≡ written 0 (take (r .start) s ++ itemBytes (record { key = r .key; bytes = new })) out)
-        → o₂ ≡ written at (restOf b (r .end) s) o₁
+        → o₂ ≡ written at (restBytes b (r .end) s) o₁
         → o₂ ≡ written 0 (editedSheet s r b new) out
     unfolding editedSheet
     sheet-writes out o₁ o₂ at room e₁ e₂ =
@@ -208,7 +208,7 @@ module _ (s : List ℕ) (r : RecordAt) (p : Plan) (b : Behind) (h : BehindIn b (
         let i : Item = record { key = r .key; bytes = new } in
         let a : List ℕ = take (r .start) s in
         let x : List ℕ = a ++ itemBytes i in
-        let y : List ℕ = restOf b (r .end) s in
+        let y : List ℕ = restBytes b (r .end) s in
         let ln = length-new in
         let lb = length-body in
         let la : length a ≡ r .start = length-take-le (r .start) s (omega arith) in
@@ -278,20 +278,20 @@ module _ (s : List ℕ) (r : RecordAt) (p : Plan) (b : Behind) (h : BehindIn b (
 
 module _ (p : Plan) (body : List ℕ) (next : List ℕ → Answer (List ℕ)) (old : List ℕ) where
   pub did-edit : {r : Edited} {now : List ℕ} → p .outcome ≡ Edit → Answered (next (edited p body)) r old now → Answered (bind (planAnswer p body) next) r old now
-  unfolding planned bind
+  unfolding planOutcome bind
   did-edit {r} {now} e h = subst (λ (a : Answer (List ℕ)). Answered (bind a next) r old now) (sym (plan-is p body e)) h
 
   pub did-nothing : p .outcome ≡ Absent → Answered (bind (planAnswer p body) next) NoMatch old old
-  unfolding planned bind lent editedOf
+  unfolding planOutcome bind lent editedOf
   did-nothing e =
       subst (λ (a : Answer (List ℕ)). Answered (bind a next) NoMatch old old) (sym (plan-is p body e)) (record { result = refl; output = refl })
 
   pub did-remove : p .outcome ≡ Remove → Answered (bind (planAnswer p body) next) Gone old old
-  unfolding planned bind lent editedOf
+  unfolding planOutcome bind lent editedOf
   did-remove e =
       subst (λ (a : Answer (List ℕ)). Answered (bind a next) Gone old old) (sym (plan-is p body e)) (record { result = refl; output = refl })
 
   pub did-refuse : (n : ℕ) → p .outcome ≡ Refused n → Answered (bind (planAnswer p body) next) (Denied n) old old
-  unfolding planned bind lent editedOf
+  unfolding planOutcome bind lent editedOf
   did-refuse n e =
       subst (λ (a : Answer (List ℕ)). Answered (bind a next) (Denied n) old old) (sym (plan-is p body e)) (record { result = refl; output = refl })

@@ -10,7 +10,7 @@ use Rattle.format.specs.Questions.{Answer, accepted, ask}
 use Rattle.format.specs.Items.{itemBytes}
 use Rattle.item_list.specs.ItemWrites.{roomFor}
 use Rattle.backref.specs.declared.plan.Plan.{Plan}
-use Rattle.record_edit.specs.declared.Behind.{Behind}
+use Rattle.record_edit.specs.declared.SecondEdit.{SecondEdit}
 use Rattle.record_edit.specs.declared.RecordAt.{RecordAt}
 
 -- the data of the item that stands from `start` up to `end`
@@ -22,7 +22,7 @@ abbrev pub editLength : Plan → ℕ → ℕ
 editLength p size = p .from + p .size + (size - p .to)
 
 -- the second edit stands behind the record
-pub record BehindIn (b : Behind) (end : ℕ) (s : List ℕ) : Type 0 where
+pub record SecondIn (b : SecondEdit) (end : ℕ) (s : List ℕ) : Type 0 where
   pub low : end ≤ b .from
   pub order : b .from ≤ b .to
   pub high : b .to ≤ length s
@@ -30,21 +30,21 @@ pub record BehindIn (b : Behind) (end : ℕ) (s : List ℕ) : Type 0 where
   pub full : length (b .new) ≡ 4
 
 -- nothing changes behind it
-abbrev pub nothing : ℕ → Behind
+abbrev pub nothing : ℕ → SecondEdit
 nothing size = record { from = size; to = size; new = replicate 4 0; size = 0 }
 
 -- what stands from the end of the record on, with the second edit
-abbrev pub restOf : Behind → ℕ → List ℕ → List ℕ
-restOf b end s = (part end (b .from - end) s ++ take (b .size) (b .new)) ++ drop (b .to) s
+abbrev pub restBytes : SecondEdit → ℕ → List ℕ → List ℕ
+restBytes b end s = (part end (b .from - end) s ++ take (b .size) (b .new)) ++ drop (b .to) s
 
-abbrev pub restLength : Behind → ℕ → ℕ → ℕ
+abbrev pub restLength : SecondEdit → ℕ → ℕ → ℕ
 restLength b end size = b .from - end + b .size + (size - b .to)
 
-abbrev pub sheetLength : RecordAt → Plan → Behind → ℕ → ℕ
+abbrev pub sheetLength : RecordAt → Plan → SecondEdit → ℕ → ℕ
 sheetLength r p b size = r .start + 21 + editLength p (r .end - (r .start + 21)) + restLength b (r .end) size
 
 -- two splices: the second edit, and before it the record with another body
-unfoldable pub editedSheet : List ℕ → RecordAt → Behind → List ℕ → List ℕ
+unfoldable pub editedSheet : List ℕ → RecordAt → SecondEdit → List ℕ → List ℕ
 editedSheet s r b body =
     spliced (r .start) (r .end) (itemBytes (record { key = r .key; bytes = body })) (spliced (b .from) (b .to) (take (b .size) (b .new)) s)
 

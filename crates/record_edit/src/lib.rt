@@ -1,5 +1,5 @@
 // The one search and the one writer of calls that change an extent's record in an item list (document 01's sheet): the record's
-// body is a planned edit, and a second place behind the record may change with it.
+// body is a planned edit, and a second part behind the record may change with it.
 use format::Key;
 
 mod search;
@@ -25,7 +25,7 @@ pub enum FoundRecord {
 }
 
 // A second edit, behind the record: the bytes from `from` up to `to` give way to the first `size` of `new`.
-pub struct Behind {
+pub struct SecondEdit {
     pub from: usize,
     pub to: usize,
     pub new: [u8; 4],

@@ -1,17 +1,17 @@
 // The search for an extent's record, in the pass that answers questions 1 and 2.
 use super::FoundRecord;
 use super::RecordAt;
+use item_list::ItemQuery;
 use item_list::Listing;
-use item_list::Wanted;
 ghost use Rattle.record_edit.specs.Stands.{Finds};
 
 // `three` says whether question 3 is answered with yes.
 pub fn find_record(sheet: &[u8], extent: u64, three: bool) -> FoundRecord
     ensures { λ r. ⌜ Finds (now (sheet .entry)) extent three r ⌝ }
 {
-    let listing = item_list::find(sheet, Wanted::Record(extent));
+    let listing = item_list::find(sheet, ItemQuery::Record(extent));
     match listing {
-        Listing::Refused(number) => return FoundRecord::Refused(number),
+        Listing::Refused(refusal) => return FoundRecord::Refused(refusal),
         Listing::Missing { count: _ } => {
             if three {
                 return FoundRecord::Missing;
@@ -20,7 +20,7 @@ pub fn find_record(sheet: &[u8], extent: u64, three: bool) -> FoundRecord
         }
         Listing::Found {
             count,
-            number,
+            index,
             start,
             end,
         } => {
@@ -31,10 +31,7 @@ pub fn find_record(sheet: &[u8], extent: u64, three: bool) -> FoundRecord
                     end,
                     item_count: count,
                 };
-                return FoundRecord::At {
-                    index: number,
-                    target,
-                };
+                return FoundRecord::At { index, target };
             }
             return FoundRecord::Refused(3);
         }

@@ -17,8 +17,8 @@ use Rattle.format.specs.declared.SharedRef.{SharedRef}
 use Rattle.format.specs.declared.Keyed.the-variants.{Block, Data}
 use Rattle.format.specs.declared.Change.the-variants.{AddBlock, AddData, AddShared}
 use Rattle.format.specs.Questions.{Answer, accepted, ask}
-use Rattle.format.specs.References.{counted, weightOf, Ref, ref, Body, bodyWith, bodyBytes, placeOf}
-use Rattle.format.specs.Bodies.{one, triple, weighed, sharedKind, raisedBy, Spot, gap, standing, isGap, standingWeight, addedAt, addAt, spotAnywhere, spotByScan, addInlineTreeRef, addInlineData, addInlineShared}
+use Rattle.format.specs.References.{counted, weightOf, Ref, makeRef, Body, bodyWith, bodyBytes, rankOf}
+use Rattle.format.specs.Bodies.{one, triple, weighed, sharedKind, raisedBy, RefPosition, gap, standing, isGap, standingWeight, addedAt, addAt, positionAnywhere, positionByScan, addInlineTreeRef, addInlineData, addInlineShared}
 use Rattle.format.specs.Items.{Item, putBack}
 use Rattle.format.specs.Apply.{inlineLimit, keyedBody, applyKeyedAdd, sharedBody, applySharedAdd}
 use Rattle.format.specs.Names.{Name, refEntries}
@@ -26,26 +26,26 @@ use Rattle.format.specs.Ledger.{nameOf, notItsOwn, added}
 use Rattle.format.proofs.Answers.{ask-ok, bind-ok, also-ok, accepted-inj}
 use Rattle.format.proofs.Refs.{whole, Whole, whole-in, whole-out}
 use Rattle.format.proofs.Bodies.{sound-with}
-use Rattle.theorems.proofs.Naming.{not-172, naming-known, weighs-one, shared-place}
-use Rattle.theorems.proofs.Order.{named-yes, SpotOk, at-gap, at-standing, spot-anywhere, spot-by-scan, ordered-weighed}
+use Rattle.theorems.proofs.Naming.{not-172, naming-known, weighs-one, shared-rank}
+use Rattle.theorems.proofs.Order.{named-yes, PositionOk, at-gap, at-standing, position-anywhere, position-by-scan, ordered-weighed}
 use Rattle.theorems.proofs.Edit.{Balanced}
 use Rattle.theorems.proofs.Facts.{named-entries, not-empty}
 use Rattle.theorems.proofs.Steps.{tidy, NameOk, Step, Here, on-record, on-body, ordered-at, long-at, inline-step, nowhere}
 
 -- what an accepted addition says, and the body that it makes
-pub record Added (b : Body) (r : Ref) (spot : Spot) (body : List ℕ) : Type 0 where
-  pub nine : T (counted (r .kind) || isGap spot)
+pub record Added (b : Body) (r : Ref) (position : RefPosition) (body : List ℕ) : Type 0 where
+  pub nine : T (counted (r .kind) || isGap position)
   pub ten : T (counted (r .kind) || eqb (r .weight) 1)
-  pub eleven : standingWeight spot + r .weight < 4294967296
+  pub eleven : standingWeight position + r .weight < 4294967296
   pub twelve : b .total + r .weight < 18446744073709551616
-  pub made : bodyBytes (bodyWith b (b .total + r .weight) (addedAt r spot)) ≡ body
+  pub made : bodyBytes (bodyWith b (b .total + r .weight) (addedAt r position)) ≡ body
 
-pub added-out : (b : Body) (r : Ref) (spot : Spot) (body : List ℕ) → addAt b r spot ≡ accepted body → Added b r spot body
+pub added-out : (b : Body) (r : Ref) (position : RefPosition) (body : List ℕ) → addAt b r position ≡ accepted body → Added b r position body
 unfolding addAt raisedBy
-added-out b r spot body e =
-    let h₉ = ask-ok (counted (r .kind) || isGap spot) 9 _ e in
+added-out b r position body e =
+    let h₉ = ask-ok (counted (r .kind) || isGap position) 9 _ e in
     let h₁₀ = ask-ok (counted (r .kind) || eqb (r .weight) 1) 10 _ (h₉ .1) in
-    let h₁₁ = ask-ok (ltb (standingWeight spot + r .weight) (2 ^ 32)) 11 _ (h₁₀ .1) in
+    let h₁₁ = ask-ok (ltb (standingWeight position + r .weight) (2 ^ 32)) 11 _ (h₁₀ .1) in
     let h = bind-ok (ask (ltb (b .total + r .weight) (2 ^ 64)) 12 (accepted (b .total + r .weight))) _ (h₁₁ .1) in
     let h₁₂ = ask-ok (ltb (b .total + r .weight) (2 ^ 64)) 12 _ (h .1) in
     record {
@@ -53,14 +53,14 @@ added-out b r spot body e =
       ten = h₁₀ .0;
       eleven = ltb→lt _ _ (h₁₁ .0);
       twelve = ltb→lt _ _ (h₁₂ .0);
-      made = ap (λ (t : ℕ). bodyBytes (bodyWith b t (addedAt r spot))) (accepted-inj (h₁₂ .1)) ∙ accepted-inj (h .2);
+      made = ap (λ (t : ℕ). bodyBytes (bodyWith b t (addedAt r position))) (accepted-inj (h₁₂ .1)) ∙ accepted-inj (h .2);
     }
 
 -- the new reference is whole
 whole-new : (m : Name) (n : ℕ) → NameOk m → T (counted (m .kind) || eqb n 1) → n < 4294967296
-    → T (whole (ref (m .kind) (m .fields) n))
+    → T (whole (makeRef (m .kind) (m .fields) n))
 whole-new m n nameOk t l =
-    whole-in (ref (m .kind) (m .fields) n)
+    whole-in (makeRef (m .kind) (m .fields) n)
     (record {
       kindKnown = naming-known (m .kind) (nameOk .naming);
       fieldsLong = nameOk .size;
@@ -77,19 +77,19 @@ or-false : (a : Bool) → T (a || false) → T a
 or-false true t = tt
 or-false false t = t
 
--- ---- an accepted addition at a good spot is a step
+-- ---- an accepted addition at a good position is a step
 
 module _ (m : Name) (nameOk : NameOk m) (n : ℕ) (items : List Item) (c : Cut Item) (b : Body) (H : Here m items c b)
     (balance : Balanced items)
     (tidies : T (all tidy items)) (own : T (all (notItsOwn m) items)) (one≤ : 1 ≤ n) where
-  add-spot : (spot : Spot) → SpotOk (m .kind) (m .fields) n (nameOk .naming) (nameOk .size) (b .refs) spot
-      → T (counted (m .kind) || isGap spot) → T (counted (m .kind) || eqb n 1)
-      → standingWeight spot + n < 4294967296 → b .total + n < 18446744073709551616
-      → Step m n 0 false items (putBack c (bodyBytes (bodyWith b (b .total + n) (addedAt (ref (m .kind) (m .fields) n) spot))))
+  add-position : (position : RefPosition) → PositionOk (m .kind) (m .fields) n (nameOk .naming) (nameOk .size) (b .refs) position
+      → T (counted (m .kind) || isGap position) → T (counted (m .kind) || eqb n 1)
+      → standingWeight position + n < 4294967296 → b .total + n < 18446744073709551616
+      → Step m n 0 false items (putBack c (bodyBytes (bodyWith b (b .total + n) (addedAt (makeRef (m .kind) (m .fields) n) position))))
   unfolding refEntries isGap standingWeight
-  add-spot (gap p q) (at-gap e o t) nine ten eleven twelve =
+  add-position (gap p q) (at-gap e o t) nine ten eleven twelve =
       let S = H .sound in
-      let r : Ref = ref (m .kind) (m .fields) n in
+      let r : Ref = makeRef (m .kind) (m .fields) n in
       let lt : n < 4294967296 = omega arith in
       let w : T (whole r) = whole-new m n nameOk ten lt in
       let ws : T (all whole (p ++ q)) = rw e at (S .wholes) in
@@ -106,7 +106,7 @@ module _ (m : Name) (nameOk : NameOk m) (n : ℕ) (items : List Item) (c : Cut I
       })
       o (omega arith) (sound-with (c .hit .key .kind) b (b .total + n) (p ++ r ∷ q) S twelve (all-put whole p r q ws w))
       0 n (omega arith) (not-empty m n one≤) (nowhere m items c b H balance tidies t own) false (λ x. absurd x)
-  add-spot (standing x) (at-standing e t) nine ten eleven twelve =
+  add-position (standing x) (at-standing e t) nine ten eleven twelve =
       let S = H .sound in
       let w : ℕ = x .hit .weight in
       let x′ : Ref = weighed (x .hit) (w + n) in
@@ -139,12 +139,12 @@ module _ (m : Name) (nameOk : NameOk m) (n : ℕ) (items : List Item) (c : Cut I
       (all-put whole (x .front) x′ (x .back) (all-rest whole (x .front) (x .hit) (x .back) ws) w′))
       0 n (omega arith) (not-empty m (w + n) (omega arith)) tt false (λ z. absurd z)
 
-  add-at : (spot : Spot) → SpotOk (m .kind) (m .fields) n (nameOk .naming) (nameOk .size) (b .refs) spot → (body : List ℕ)
-      → addAt b (ref (m .kind) (m .fields) n) spot ≡ accepted body → Step m n 0 false items (putBack c body)
-  add-at spot ok body e =
-      let A = added-out b (ref (m .kind) (m .fields) n) spot body e in
+  add-at : (position : RefPosition) → PositionOk (m .kind) (m .fields) n (nameOk .naming) (nameOk .size) (b .refs) position → (body : List ℕ)
+      → addAt b (makeRef (m .kind) (m .fields) n) position ≡ accepted body → Step m n 0 false items (putBack c body)
+  add-at position ok body e =
+      let A = added-out b (makeRef (m .kind) (m .fields) n) position body e in
       subst (λ (d : List ℕ). Step m n 0 false items (putBack c d)) (A .made)
-      (add-spot spot ok (A .nine) (A .ten) (A .eleven) (A .twelve))
+      (add-position position ok (A .nine) (A .ten) (A .eleven) (A .twelve))
 
 -- ---- the questions of the ledger around an add
 
@@ -162,7 +162,7 @@ pub add-block : (nodesize extent : ℕ) (name : BlockRef) (items after : List It
     → Balanced items → T (all tidy items)
     → added (nameOf (AddBlock extent name)) 1 items (applyKeyedAdd nodesize extent (Block name) 1 false items) ≡ accepted after
     → Step (nameOf (AddBlock extent name)) 1 0 false items after
-unfolding applyKeyedAdd keyedBody addInlineTreeRef placeOf
+unfolding applyKeyedAdd keyedBody addInlineTreeRef rankOf
 add-block nodesize extent name items after nameOk balance tidies e =
     let m : Name = nameOf (AddBlock extent name) in
     let (own, one≤, e₁) = added-questions m 1 items _ after e in
@@ -170,8 +170,8 @@ add-block nodesize extent name items after nameOk balance tidies e =
     let h = bind-ok (addInlineTreeRef (c .hit .key .kind) (c .hit .bytes) name) _ e₂ in
     let h₁₇ = ask-ok (leb (length (h .0)) (length (c .hit .bytes)) || leb (length (h .0)) (inlineLimit nodesize)) 17 _ (h .2) in
     subst (Step m 1 0 false items) (accepted-inj (h₁₇ .1))
-    (add-at m nameOk 1 items c b H balance tidies own one≤ (spotAnywhere 176 (one (name .tree)) (name .tree) (b .refs))
-    (spot-anywhere 176 (one (name .tree)) 1 (nameOk .naming) (nameOk .size) (b .refs) (ordered-at m items c b H balance tidies) (long-at m items c b H balance tidies))
+    (add-at m nameOk 1 items c b H balance tidies own one≤ (positionAnywhere 176 (one (name .tree)) (name .tree) (b .refs))
+    (position-anywhere 176 (one (name .tree)) 1 (nameOk .naming) (nameOk .size) (b .refs) (ordered-at m items c b H balance tidies) (long-at m items c b H balance tidies))
     (h .0) (on-body (c .hit .key .kind) (c .hit .bytes) b _ (H .reads) (h .1)))
 
 pub add-data : (nodesize extent : ℕ) (name : DataRef) (amount : ℕ) (items after : List Item)
@@ -190,8 +190,8 @@ add-data nodesize extent name (suc amount) items after nameOk balance tidies e =
     let h = bind-ok (addInlineData (c .hit .key .kind) (c .hit .bytes) name n) _ e₂ in
     let h₁₇ = ask-ok (leb (length (h .0)) (length (c .hit .bytes)) || leb (length (h .0)) (inlineLimit nodesize)) 17 _ (h .2) in
     subst (Step m n 0 false items) (accepted-inj (h₁₇ .1))
-    (add-at m nameOk n items c b H balance tidies own one≤ (spotByScan 178 (triple name) (b .refs))
-    (spot-by-scan 178 (triple name) n (nameOk .naming) (nameOk .size) (b .refs) (ordered-at m items c b H balance tidies) (long-at m items c b H balance tidies))
+    (add-at m nameOk n items c b H balance tidies own one≤ (positionByScan 178 (triple name) (b .refs))
+    (position-by-scan 178 (triple name) n (nameOk .naming) (nameOk .size) (b .refs) (ordered-at m items c b H balance tidies) (long-at m items c b H balance tidies))
     (h .0) (on-body (c .hit .key .kind) (c .hit .bytes) b _ (H .reads) (h .1)))
 
 pub add-shared : (nodesize extent : ℕ) (name : SharedRef) (amount : ℕ) (items after : List Item) → T (sharedKind (name .kind))
@@ -208,8 +208,8 @@ add-shared nodesize extent name amount items after sk nameOk balance tidies e =
     let h₁₇ = ask-ok (leb (length (h .0)) (inlineLimit nodesize)) 17 _ (h .2) in
     let f : List ℕ = one (name .parent) in
     subst (Step m amount 0 false items) (accepted-inj (h₁₇ .1))
-    (add-at m nameOk amount items c b H balance tidies own one≤ (spotAnywhere (name .kind) f (name .parent) (b .refs))
-    (subst (λ (at : ℕ). SpotOk (name .kind) f amount (nameOk .naming) (nameOk .size) (b .refs) (spotAnywhere (name .kind) f at (b .refs)))
-    (shared-place (name .kind) (name .parent) sk)
-    (spot-anywhere (name .kind) f amount (nameOk .naming) (nameOk .size) (b .refs) (ordered-at m items c b H balance tidies) (long-at m items c b H balance tidies)))
+    (add-at m nameOk amount items c b H balance tidies own one≤ (positionAnywhere (name .kind) f (name .parent) (b .refs))
+    (subst (λ (at : ℕ). PositionOk (name .kind) f amount (nameOk .naming) (nameOk .size) (b .refs) (positionAnywhere (name .kind) f at (b .refs)))
+    (shared-rank (name .kind) (name .parent) sk)
+    (position-anywhere (name .kind) f amount (nameOk .naming) (nameOk .size) (b .refs) (ordered-at m items c b H balance tidies) (long-at m items c b H balance tidies)))
     (h .0) (on-body (c .hit .key .kind) (c .hit .bytes) b _ (H .reads) (h₃ .1)))

@@ -19,8 +19,8 @@ use Rattle.format.specs.declared.Keyed.the-variants.{Data}
 use Rattle.format.specs.declared.Change.{Change}
 use Rattle.format.specs.declared.Change.the-variants.{AddBlock, AddData, AddShared}
 use Rattle.format.specs.Questions.{Answer, accepted, ask, bind}
-use Rattle.format.specs.References.{known, payloadLength, countPosition, counted, fieldCount, rowIn, Ref, ref, refBytes, refsBytes, Body, bodyWith, readBody, bodyBytes, placeOf, ordered}
-use Rattle.format.specs.Bodies.{bodyFits, onBody, one, triple, weighed, sharedKind, raisedBy, Spot, gap, standing, isGap, standingWeight, addedAt, addAt, spotAnywhere, spotByScan, addInlineTreeRef, addInlineData, addInlineShared}
+use Rattle.format.specs.References.{known, payloadLength, countPosition, counted, fieldCount, rowIn, Ref, makeRef, refBytes, refsBytes, Body, bodyWith, readBody, bodyBytes, rankOf, ordered}
+use Rattle.format.specs.Bodies.{bodyFits, onBody, one, triple, weighed, sharedKind, raisedBy, RefPosition, gap, standing, isGap, standingWeight, addedAt, addAt, positionAnywhere, positionByScan, addInlineTreeRef, addInlineData, addInlineShared}
 use Rattle.format.specs.Items.{Item, dataFits, sheetHolds, putBack}
 use Rattle.format.specs.Apply.{inlineLimit, onRecord, keyedBody, applyKeyedAdd, sharedBody, applySharedAdd}
 use Rattle.format.specs.Names.{Name}
@@ -29,14 +29,14 @@ use Rattle.format.proofs.Answers.{ask-ok, ask-yes, bind-ok, bind-yes, also-ok, 
 use Rattle.format.proofs.Refs.{countBytes, length-countBytes, refsBytes-append}
 use Rattle.format.proofs.Rows.{payload-fields}
 use Rattle.format.proofs.Bodies.{on-body, length-bodyBytes, bodyBytes-read}
-use Rattle.theorems.proofs.Naming.{naming-known, shared-place}
-use Rattle.theorems.proofs.Order.{long, named-yes, SpotOk, at-gap, at-standing, spot-anywhere, spot-by-scan}
+use Rattle.theorems.proofs.Naming.{naming-known, shared-rank}
+use Rattle.theorems.proofs.Order.{long, named-yes, PositionOk, at-gap, at-standing, position-anywhere, position-by-scan}
 use Rattle.theorems.proofs.Edit.{Balanced}
 use Rattle.theorems.proofs.Steps.{tidy, Here, here-of, ordered-at, long-at}
 use Rattle.theorems.proofs.Adds.{added-out}
 use Rattle.theorems.specs.Acceptance.{Accepts, Exactly, UpToFive, inline, apart, grown, sharedSize, AddsBlock, AddsData, AddsShared}
 use Rattle.theorems.proofs.Posting.{Posts, posts-out, posts-in, itemSize, holds-out, holds-in, size-put, few-put, fit-put, limit-small, SheetFacts, sheet-facts, AtRecord, record-out, record-in}
-use Rattle.theorems.proofs.Counts.{Formed, formed, two-places, inline-none, inline-one, own-out, own-in}
+use Rattle.theorems.proofs.Counts.{Formed, formed, inline-and-apart, inline-none, inline-one, own-out, own-in}
 
 -- ---- lengths of references and bodies
 
@@ -69,24 +69,24 @@ length-edit b total p o o′ q e =
     let e₄ = part o′ in
     omega arith
 
--- ---- an addition at a good spot
+-- ---- an addition at a good position
 
 module _ (m : Name) (nm : Formed m) (n : ℕ) (items : List Item) (c : Cut Item) (b : Body) (H : Here m items c b)
     (bal : Balanced items)
     (td : T (all tidy items)) (light : b .total ≤ 4294967296 * 262144) where
-  -- what a spot says: the weight that stands there, whether it is a gap, and how long the body becomes
-  record At (spot : Spot) : Type 0 where
-    weight : standingWeight spot ≡ inline m c
-    free : isGap spot ≡ eqb (inline m c) 0
-    sized : (total : ℕ) → length (bodyBytes (bodyWith b total (addedAt (ref (m .kind) (m .fields) n) spot)))
+  -- what a position says: the weight that stands there, whether it is a gap, and how long the body becomes
+  record At (position : RefPosition) : Type 0 where
+    weight : standingWeight position ≡ inline m c
+    free : isGap position ≡ eqb (inline m c) 0
+    sized : (total : ℕ) → length (bodyBytes (bodyWith b total (addedAt (makeRef (m .kind) (m .fields) n) position)))
         ≡ length (c .hit .bytes) + grown m c (1 + payloadLength (m .kind))
 
-  at-spot : (spot : Spot) → SpotOk (m .kind) (m .fields) n (nm .naming) (nm .size) (b .refs) spot → At spot
+  at-position : (position : RefPosition) → PositionOk (m .kind) (m .fields) n (nm .naming) (nm .size) (b .refs) position → At position
   unfolding isGap standingWeight
-  at-spot (gap p q) (at-gap e o t) =
+  at-position (gap p q) (at-gap e o t) =
       let z : inline m c ≡ 0 = inline-none m items c b H bal td t in
       let y : eqb (inline m c) 0 ≡ true = T-eq (eqb (inline m c) 0) (yes-eqb z) in
-      let r : Ref = ref (m .kind) (m .fields) n in
+      let r : Ref = makeRef (m .kind) (m .fields) n in
       let g : grown m c (1 + payloadLength (m .kind)) ≡ 1 + payloadLength (m .kind) =
       cond-yes (eqb (inline m c) 0) (1 + payloadLength (m .kind)) 0 (yes-eqb z) in
       record {
@@ -99,7 +99,7 @@ module _ (m : Name) (nm : Formed m) (n : ℕ) (items : List Item) (c : Cut Item)
             let e₄ = length-none in
             omega arith);
       }
-  at-spot (standing x) (at-standing e t) =
+  at-position (standing x) (at-standing e t) =
       let h = inline-one m items c b H bal td (nm .naming) x e t in
       let i : inline m c ≡ x .hit .weight = h .0 in
       let w : 1 ≤ x .hit .weight = h .2 in
@@ -132,11 +132,11 @@ module _ (m : Name) (nm : Formed m) (n : ℕ) (items : List Item) (c : Cut Item)
     eleven : inline m c + n < 4294967296
     sized : length body ≡ length (c .hit .bytes) + grown m c (1 + payloadLength (m .kind))
 
-  adds-out : (spot : Spot) → SpotOk (m .kind) (m .fields) n (nm .naming) (nm .size) (b .refs) spot → (body : List ℕ)
-      → addAt b (ref (m .kind) (m .fields) n) spot ≡ accepted body → Adds body
-  adds-out spot ok body e =
-      let A = added-out b (ref (m .kind) (m .fields) n) spot body e in
-      let S = at-spot spot ok in
+  adds-out : (position : RefPosition) → PositionOk (m .kind) (m .fields) n (nm .naming) (nm .size) (b .refs) position → (body : List ℕ)
+      → addAt b (makeRef (m .kind) (m .fields) n) position ≡ accepted body → Adds body
+  adds-out position ok body e =
+      let A = added-out b (makeRef (m .kind) (m .fields) n) position body e in
+      let S = at-position position ok in
       record {
         nine = subst (λ (z : Bool). T (counted (m .kind) || z)) (S .free) (A .nine);
         ten = A .ten;
@@ -144,21 +144,21 @@ module _ (m : Name) (nm : Formed m) (n : ℕ) (items : List Item) (c : Cut Item)
         sized = sym (ap length (A .made)) ∙ S .sized (b .total + n);
       }
 
-  adds-in : (spot : Spot) → SpotOk (m .kind) (m .fields) n (nm .naming) (nm .size) (b .refs) spot
+  adds-in : (position : RefPosition) → PositionOk (m .kind) (m .fields) n (nm .naming) (nm .size) (b .refs) position
       → T (counted (m .kind) || eqb (inline m c) 0) → T (counted (m .kind) || eqb n 1) → inline m c + n < 4294967296
-      → (body : List ℕ) × (addAt b (ref (m .kind) (m .fields) n) spot ≡ accepted body)
+      → (body : List ℕ) × (addAt b (makeRef (m .kind) (m .fields) n) position ≡ accepted body)
       × (length body ≡ length (c .hit .bytes) + grown m c (1 + payloadLength (m .kind)))
   unfolding addAt raisedBy
-  adds-in spot ok nine ten eleven =
-      let S = at-spot spot ok in
+  adds-in position ok nine ten eleven =
+      let S = at-position position ok in
       let sw = S .weight in
-      let k₁₁ : standingWeight spot + n < 4294967296 = omega arith in
+      let k₁₁ : standingWeight position + n < 4294967296 = omega arith in
       let k₁₂ : b .total + n < 18446744073709551616 = omega arith in
       let t₁₂ : T (ltb (b .total + n) (2 ^ 64)) = lt→ltb (b .total + n) 18446744073709551616 k₁₂ in (
-        bodyBytes (bodyWith b (b .total + n) (addedAt (ref (m .kind) (m .fields) n) spot)),
-        ask-yes (counted (m .kind) || isGap spot) 9 _ (subst (λ (z : Bool). T (counted (m .kind) || z)) (sym (S .free)) nine)
+        bodyBytes (bodyWith b (b .total + n) (addedAt (makeRef (m .kind) (m .fields) n) position)),
+        ask-yes (counted (m .kind) || isGap position) 9 _ (subst (λ (z : Bool). T (counted (m .kind) || z)) (sym (S .free)) nine)
             ∙ ask-yes (counted (m .kind) || eqb n 1) 10 _ ten
-            ∙ ask-yes (ltb (standingWeight spot + n) (2 ^ 32)) 11 _ (lt→ltb (standingWeight spot + n) 4294967296 k₁₁)
+            ∙ ask-yes (ltb (standingWeight position + n) (2 ^ 32)) 11 _ (lt→ltb (standingWeight position + n) 4294967296 k₁₁)
             ∙ bind-yes (ask (ltb (b .total + n) (2 ^ 64)) 12 (accepted (b .total + n))) _
             (ask-yes (ltb (b .total + n) (2 ^ 64)) 12 _ t₁₂),
         S .sized (b .total + n),
@@ -236,14 +236,14 @@ record AddFacts (nodesize : ℕ) (sheet : List ℕ) (m : Name) (amount room : �
   small : length sheet + grown m at (1 + payloadLength (m .kind)) ≤ 262144
 
 module _ (nodesize : ℕ) (sheet : List ℕ) (room : ℕ) (raw : T (areBytes sheet)) (change : Change) (kind : T (kindFits change))
-    (amount : ℕ) (call : Item → Answer (List ℕ)) (test : ℕ → ℕ → Bool) (spot : Body → Spot)
+    (amount : ℕ) (call : Item → Answer (List ℕ)) (test : ℕ → ℕ → Bool) (position : Body → RefPosition)
     (changes : (items : List Item) → changed nodesize change items ≡ added (nameOf change) amount items
     (onRecord (nameOf change .extent) items (λ c.
     bind (call (c .hit)) (λ body. ask (test (length (c .hit .bytes)) (length body)) 17 (accepted (putBack c body))))))
     (calls : (i : Item) (b : Body) → 1 ≤ amount → length (i .bytes) ≤ 65535 → readBody (i .key .kind) (i .bytes) ≡ accepted b
-    → call i ≡ addAt b (ref (nameOf change .kind) (nameOf change .fields) amount) (spot b))
-    (spots : (nm : Formed (nameOf change)) (b : Body) → T (ordered (b .refs)) → T (all long (b .refs))
-    → SpotOk (nameOf change .kind) (nameOf change .fields) amount (nm .naming) (nm .size) (b .refs) (spot b))
+    → call i ≡ addAt b (makeRef (nameOf change .kind) (nameOf change .fields) amount) (position b))
+    (positions : (nm : Formed (nameOf change)) (b : Body) → T (ordered (b .refs)) → T (all long (b .refs))
+    → PositionOk (nameOf change .kind) (nameOf change .fields) amount (nm .naming) (nm .size) (b .refs) (position b))
     (bounded : (x y : ℕ) → nodesize ≤ 65536 → x ≤ 65535 → T (test x y) → y ≤ 65535) where
   abbrev m : Name
   m = nameOf change
@@ -254,9 +254,9 @@ module _ (nodesize : ℕ) (sheet : List ℕ) (room : ℕ) (raw : T (areBytes she
   abbrev next : Cut Item → Answer (List Item)
   next c = bind (call (c .hit)) (λ body. ask (test (length (c .hit .bytes)) (length body)) 17 (accepted (putBack c body)))
 
-  ok-spot : (items : List Item) → SheetFacts sheet items → (c : Cut Item) (b : Body) → Here m items c b
-      → SpotOk (m .kind) (m .fields) amount (nm .naming) (nm .size) (b .refs) (spot b)
-  ok-spot items S c b H = spots nm b (ordered-at m items c b H (S .balance) (S .tidied)) (long-at m items c b H (S .balance) (S .tidied))
+  ok-position : (items : List Item) → SheetFacts sheet items → (c : Cut Item) (b : Body) → Here m items c b
+      → PositionOk (m .kind) (m .fields) amount (nm .naming) (nm .size) (b .refs) (position b)
+  ok-position items S c b H = positions nm b (ordered-at m items c b H (S .balance) (S .tidied)) (long-at m items c b H (S .balance) (S .tidied))
 
   from-body : (P : Posts nodesize sheet change room) → SheetFacts sheet (P .items) → T (all (notItsOwn m) (P .items)) → 1 ≤ amount
       → (F : AtRecord m (P .items) next (P .after)) (body : List ℕ) → call (F .at .hit) ≡ accepted body
@@ -264,8 +264,8 @@ module _ (nodesize : ℕ) (sheet : List ℕ) (room : ℕ) (raw : T (areBytes she
       → AddFacts nodesize sheet m amount room test
   from-body P S own positive F body e t q =
       let A = adds-out m nm amount (P .items) (F .at) (F .body) (F .here) (S .balance) (S .tidied) (S .light m (F .at) (F .body) (F .here))
-      (spot (F .body))
-      (ok-spot (P .items) S (F .at) (F .body) (F .here)) body
+      (position (F .body))
+      (ok-position (P .items) S (F .at) (F .body) (F .here)) body
       (sym (calls (F .at .hit) (F .body) positive (length-at sheet (P .items) S m (F .at) (F .body) (F .here)) (F .here .reads)) ∙ e) in
       let r = room-out sheet (P .items) S m (F .at) (F .body) (F .here) room (grown m (F .at) (1 + payloadLength (m .kind))) body
       (A .sized)
@@ -300,7 +300,7 @@ module _ (nodesize : ℕ) (sheet : List ℕ) (room : ℕ) (raw : T (areBytes she
 
   to-body : (f : AddFacts nodesize sheet m amount room test) → SheetFacts sheet (f .items) → (b : Body) → Here m (f .items) (f .at) b
       → (body : List ℕ)
-      → addAt b (ref (m .kind) (m .fields) amount) (spot b) ≡ accepted body
+      → addAt b (makeRef (m .kind) (m .fields) amount) (position b) ≡ accepted body
       → length body ≡ length (f .at .hit .bytes) + grown m (f .at) (1 + payloadLength (m .kind))
       → Accepts nodesize sheet change room
   to-body f S b H body e long′ =
@@ -329,8 +329,8 @@ module _ (nodesize : ℕ) (sheet : List ℕ) (room : ℕ) (raw : T (areBytes she
   add-enough f =
       let S = sheet-facts sheet (f .items) raw (f .upToFive .reads) (f .upToFive .balance) in
       let (b, H) = here-of m (f .items) (f .at) (S .balance) (S .tidied) (f .upToFive .stands) in
-      let (body, e, long′) = adds-in m nm amount (f .items) (f .at) b H (S .balance) (S .tidied) (S .light m (f .at) b H) (spot b)
-      (ok-spot (f .items) S (f .at) b H)
+      let (body, e, long′) = adds-in m nm amount (f .items) (f .at) b H (S .balance) (S .tidied) (S .light m (f .at) b H) (position b)
+      (ok-position (f .items) S (f .at) b H)
       (f .nine) (f .ten) (f .eleven) in
       to-body f S b H body e long′
 
@@ -357,12 +357,12 @@ always-bounded nodesize x y n h t =
 
 pub add-block : (nodesize : ℕ) (sheet : List ℕ) (extent : ℕ) (name : BlockRef) (room : ℕ) → T (areBytes sheet)
     → Exactly (Accepts nodesize sheet (AddBlock extent name) room) (AddsBlock nodesize sheet (nameOf (AddBlock extent name)) room)
-unfolding changed applyKeyedAdd keyedBody addInlineTreeRef placeOf counted countPosition payloadLength rowIn
+unfolding changed applyKeyedAdd keyedBody addInlineTreeRef rankOf counted countPosition payloadLength rowIn
 add-block nodesize sheet extent name room raw =
     record {
       only = λ acc. plain (add-only nodesize sheet room raw (AddBlock extent name) tt 1 call
-          (ifGrown nodesize) spot changes calls spots (grown-bounded nodesize) acc);
-      enough = λ f. add-enough nodesize sheet room raw (AddBlock extent name) tt 1 call (ifGrown nodesize) spot changes calls spots
+          (ifGrown nodesize) position changes calls positions (grown-bounded nodesize) acc);
+      enough = λ f. add-enough nodesize sheet room raw (AddBlock extent name) tt 1 call (ifGrown nodesize) position changes calls positions
           (grown-bounded nodesize) (facts f);
     }
   where
@@ -372,8 +372,8 @@ add-block nodesize sheet extent name room raw =
     call : Item → Answer (List ℕ)
     call i = addInlineTreeRef (i .key .kind) (i .bytes) name
 
-    spot : Body → Spot
-    spot b = spotAnywhere 176 (one (name .tree)) (name .tree) (b .refs)
+    position : Body → RefPosition
+    position b = positionAnywhere 176 (one (name .tree)) (name .tree) (b .refs)
 
     changes : (items : List Item) → changed nodesize (AddBlock extent name) items ≡ added m 1 items (onRecord extent items (λ c.
         bind (call (c .hit)) (λ body. ask (ifGrown nodesize (length (c .hit .bytes)) (length body)) 17
@@ -381,19 +381,19 @@ add-block nodesize sheet extent name room raw =
     changes items = refl
 
     calls : (i : Item) (b : Body) → 1 ≤ 1 → length (i .bytes) ≤ 65535 → readBody (i .key .kind) (i .bytes) ≡ accepted b
-        → call i ≡ addAt b (ref 176 (one (name .tree)) 1) (spot b)
+        → call i ≡ addAt b (makeRef 176 (one (name .tree)) 1) (position b)
     calls i b h l r = on-body (i .key .kind) (i .bytes) b _ l r
 
-    spots : (nm : Formed m) (b : Body) → T (ordered (b .refs)) → T (all long (b .refs))
-        → SpotOk 176 (one (name .tree)) 1 (nm .naming) (nm .size) (b .refs) (spot b)
-    spots nm b o l = spot-anywhere 176 (one (name .tree)) 1 (nm .naming) (nm .size) (b .refs) o l
+    positions : (nm : Formed m) (b : Body) → T (ordered (b .refs)) → T (all long (b .refs))
+        → PositionOk 176 (one (name .tree)) 1 (nm .naming) (nm .size) (b .refs) (position b)
+    positions nm b o l = position-anywhere 176 (one (name .tree)) 1 (nm .naming) (nm .size) (b .refs) o l
 
     plain : AddFacts nodesize sheet m 1 room (ifGrown nodesize) → AddsBlock nodesize sheet m room
     plain f =
         let z : inline m (f .at) ≡ 0 = eqb→eq _ 0 (f .nine) in
         let o = f .own in
         let g : grown m (f .at) 9 ≡ 9 = cond-yes {A = ℕ} (eqb (inline m (f .at)) 0) 9 0 (yes-eqb z) in
-        let s = two-places nodesize sheet m (f .items) (f .at) raw (f .upToFive) .0 in
+        let s = inline-and-apart nodesize sheet m (f .items) (f .at) raw (f .upToFive) .0 in
         let l : ℕ = length (f .at .hit .bytes) in
         let t = limit-out (l + grown m (f .at) 9) l (inlineLimit nodesize) (f .seventeen) (omega arith) in
         let r₁ : length sheet + grown m (f .at) 9 ≤ room = f .roomy in
@@ -402,7 +402,7 @@ add-block nodesize sheet extent name room raw =
 
     facts : AddsBlock nodesize sheet m room → AddFacts nodesize sheet m 1 room (ifGrown nodesize)
     facts f =
-        let s = two-places nodesize sheet m (f .items) (f .at) raw (f .upToFive) .0 in
+        let s = inline-and-apart nodesize sheet m (f .items) (f .at) raw (f .upToFive) .0 in
         let fr = f .free in
         let z : inline m (f .at) ≡ 0 = omega arith in
         let g : grown m (f .at) 9 ≡ 9 = cond-yes {A = ℕ} (eqb (inline m (f .at)) 0) 9 0 (yes-eqb z) in
@@ -434,9 +434,9 @@ unfolding changed applyKeyedAdd keyedBody addInlineData counted countPosition pa
 add-data nodesize sheet extent name amount room raw =
     record {
       only = λ acc. plain (add-only nodesize sheet room raw (AddData extent name amount) tt amount call
-          (ifGrown nodesize) spot changes (calls amount) spots (grown-bounded nodesize) acc);
-      enough = λ f. add-enough nodesize sheet room raw (AddData extent name amount) tt amount call (ifGrown nodesize) spot changes
-          (calls amount) spots (grown-bounded nodesize) (facts f);
+          (ifGrown nodesize) position changes (calls amount) positions (grown-bounded nodesize) acc);
+      enough = λ f. add-enough nodesize sheet room raw (AddData extent name amount) tt amount call (ifGrown nodesize) position changes
+          (calls amount) positions (grown-bounded nodesize) (facts f);
     }
   where
     m : Name
@@ -445,8 +445,8 @@ add-data nodesize sheet extent name amount room raw =
     call : Item → Answer (List ℕ)
     call i = keyedBody i (Data name) amount false
 
-    spot : Body → Spot
-    spot b = spotByScan 178 (triple name) (b .refs)
+    position : Body → RefPosition
+    position b = positionByScan 178 (triple name) (b .refs)
 
     changes : (items : List Item)
         → changed nodesize (AddData extent name amount) items ≡ added m amount items (onRecord extent items (λ c.
@@ -455,13 +455,13 @@ add-data nodesize sheet extent name amount room raw =
     changes items = refl
 
     calls : (n : ℕ) (i : Item) (b : Body) → 1 ≤ n → length (i .bytes) ≤ 65535 → readBody (i .key .kind) (i .bytes) ≡ accepted b
-        → keyedBody i (Data name) n false ≡ addAt b (ref 178 (triple name) n) (spot b)
+        → keyedBody i (Data name) n false ≡ addAt b (makeRef 178 (triple name) n) (position b)
     calls zero i b h l r = absurd (omega arith)
     calls (suc n) i b h l r = on-body (i .key .kind) (i .bytes) b _ l r
 
-    spots : (nm : Formed m) (b : Body) → T (ordered (b .refs)) → T (all long (b .refs))
-        → SpotOk 178 (triple name) amount (nm .naming) (nm .size) (b .refs) (spot b)
-    spots nm b o l = spot-by-scan 178 (triple name) amount (nm .naming) (nm .size) (b .refs) o l
+    positions : (nm : Formed m) (b : Body) → T (ordered (b .refs)) → T (all long (b .refs))
+        → PositionOk 178 (triple name) amount (nm .naming) (nm .size) (b .refs) (position b)
+    positions nm b o l = position-by-scan 178 (triple name) amount (nm .naming) (nm .size) (b .refs) o l
 
     plain : AddFacts nodesize sheet m amount room (ifGrown nodesize) → AddsData nodesize sheet m amount room
     plain f =
@@ -538,11 +538,11 @@ add-shared nodesize sheet extent name amount room raw =
     record {
       only = λ acc.
           (let k = posts-out nodesize sheet (AddShared extent name amount) room acc .kind in
-          plain k (add-only nodesize sheet room raw (AddShared extent name amount) k amount call (always nodesize) spot changes
-          (calls k) (spots k) (always-bounded nodesize) acc));
+          plain k (add-only nodesize sheet room raw (AddShared extent name amount) k amount call (always nodesize) position changes
+          (calls k) (positions k) (always-bounded nodesize) acc));
       enough = λ f.
-          add-enough nodesize sheet room raw (AddShared extent name amount) (f .kind) amount call (always nodesize) spot changes
-          (calls (f .kind)) (spots (f .kind))
+          add-enough nodesize sheet room raw (AddShared extent name amount) (f .kind) amount call (always nodesize) position changes
+          (calls (f .kind)) (positions (f .kind))
           (always-bounded nodesize) (facts f);
     }
   where
@@ -552,8 +552,8 @@ add-shared nodesize sheet extent name amount room raw =
     call : Item → Answer (List ℕ)
     call i = addInlineShared (i .key .kind) (i .bytes) name amount
 
-    spot : Body → Spot
-    spot b = spotAnywhere (name .kind) (one (name .parent)) (name .parent) (b .refs)
+    position : Body → RefPosition
+    position b = positionAnywhere (name .kind) (one (name .parent)) (name .parent) (b .refs)
 
     changes : (items : List Item)
         → changed nodesize (AddShared extent name amount) items ≡ added m amount items (onRecord extent items (λ c.
@@ -562,16 +562,16 @@ add-shared nodesize sheet extent name amount room raw =
 
     calls : T (sharedKind (name .kind)) → (i : Item) (b : Body) → 1 ≤ amount → length (i .bytes) ≤ 65535
         → readBody (i .key .kind) (i .bytes) ≡ accepted b
-        → call i ≡ addAt b (ref (name .kind) (one (name .parent)) amount) (spot b)
+        → call i ≡ addAt b (makeRef (name .kind) (one (name .parent)) amount) (position b)
     calls k i b h l r = ask-yes (sharedKind (name .kind)) 3 _ k ∙ on-body (i .key .kind) (i .bytes) b _ l r
 
-    spots : T (sharedKind (name .kind)) → (nm : Formed m) (b : Body) → T (ordered (b .refs)) → T (all long (b .refs))
-        → SpotOk (name .kind) (one (name .parent)) amount (nm .naming) (nm .size) (b .refs) (spot b)
-    spots k nm b o l =
-        subst (λ (at : ℕ). SpotOk (name .kind) (one (name .parent)) amount (nm .naming) (nm .size) (b .refs)
-        (spotAnywhere (name .kind) (one (name .parent)) at (b .refs)))
-        (shared-place (name .kind) (name .parent) k)
-        (spot-anywhere (name .kind) (one (name .parent)) amount (nm .naming) (nm .size) (b .refs) o l)
+    positions : T (sharedKind (name .kind)) → (nm : Formed m) (b : Body) → T (ordered (b .refs)) → T (all long (b .refs))
+        → PositionOk (name .kind) (one (name .parent)) amount (nm .naming) (nm .size) (b .refs) (position b)
+    positions k nm b o l =
+        subst (λ (at : ℕ). PositionOk (name .kind) (one (name .parent)) amount (nm .naming) (nm .size) (b .refs)
+        (positionAnywhere (name .kind) (one (name .parent)) at (b .refs)))
+        (shared-rank (name .kind) (name .parent) k)
+        (position-anywhere (name .kind) (one (name .parent)) amount (nm .naming) (nm .size) (b .refs) o l)
 
     plain : T (sharedKind (name .kind)) → AddFacts nodesize sheet m amount room (always nodesize)
         → AddsShared nodesize sheet m amount room

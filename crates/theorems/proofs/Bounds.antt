@@ -14,7 +14,7 @@ use Rattle.fields.specs.Numbers.{le, areBytes}
 use Rattle.fields.proofs.Lists.{imp-out, sum-append, all-mid}
 use Rattle.fields.proofs.Numbers.{le-bound}
 use Rattle.format.specs.Questions.{Answer, refused, absent, remove, accepted}
-use Rattle.format.specs.References.{counted, weightOf, Ref, ref, refAt, refBytes, refsBytes, Body, readBody, place}
+use Rattle.format.specs.References.{counted, weightOf, Ref, makeRef, refAt, refBytes, refsBytes, Body, readBody, rank}
 use Rattle.format.specs.Bodies.{one}
 use Rattle.format.specs.Items.{Item, readSheet}
 use Rattle.format.specs.Apply.{isRecord}
@@ -97,7 +97,7 @@ ref-item-bound i t = go (eqb (i .key .kind) 178) (eqb (i .key .kind) 184)
     four : T (eqb (length (i .bytes)) 4) → le (i .bytes) < 4294967296
     four h = let e : length (i .bytes) ≡ 4 = eqb→eq _ _ h in rw e at (le-bound (i .bytes) t)
 
-    hash : T (eqb (length (i .bytes)) 28 && eqb (i .key .offset) (place (refAt 178 (i .bytes))))
+    hash : T (eqb (length (i .bytes)) 28 && eqb (i .key .offset) (rank (refAt 178 (i .bytes))))
         → refAt 178 (i .bytes) .weight < 4294967296
     hash h =
         subst (λ (r : Ref). r .weight < 4294967296) (sym (refAt-178 (i .bytes)))
@@ -105,12 +105,12 @@ ref-item-bound i t = go (eqb (i .key .kind) 178) (eqb (i .key .kind) 184)
 
     go : (c d : Bool)
         → sum weightIn (viewEntries (i .key .objectid) (cond c
-        (inForm (eqb (length (i .bytes)) 28 && eqb (i .key .offset) (place (refAt 178 (i .bytes)))) (refAt 178 (i .bytes)))
-        (cond d (inForm (eqb (length (i .bytes)) 4) (ref 184 (one (i .key .offset)) (le (i .bytes))))
-        (inForm (eqb (length (i .bytes)) 0) (ref (i .key .kind) (one (i .key .offset)) 1))))) ≤ 4294967296
+        (inForm (eqb (length (i .bytes)) 28 && eqb (i .key .offset) (rank (refAt 178 (i .bytes)))) (refAt 178 (i .bytes)))
+        (cond d (inForm (eqb (length (i .bytes)) 4) (makeRef 184 (one (i .key .offset)) (le (i .bytes))))
+        (inForm (eqb (length (i .bytes)) 0) (makeRef (i .key .kind) (one (i .key .offset)) 1))))) ≤ 4294967296
     go true d = form-bound (i .key .objectid) _ (refAt 178 (i .bytes)) hash
-    go false true = form-bound (i .key .objectid) _ (ref 184 (one (i .key .offset)) (le (i .bytes))) four
-    go false false = form-bound (i .key .objectid) _ (ref (i .key .kind) (one (i .key .offset)) 1) (λ _. omega arith)
+    go false true = form-bound (i .key .objectid) _ (makeRef 184 (one (i .key .offset)) (le (i .bytes))) four
+    go false false = form-bound (i .key .objectid) _ (makeRef (i .key .kind) (one (i .key .offset)) 1) (λ _. omega arith)
 
 item-bound : (i : Item) → T (areBytes (i .bytes)) → sum weightIn (itemEntries i) ≤ 4294967296 * (21 + length (i .bytes))
 unfolding itemEntries viewOf viewEntries

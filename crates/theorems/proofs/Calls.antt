@@ -11,10 +11,10 @@ use Rattle.fields.specs.Lists.{all}
 use Rattle.fields.specs.Numbers.{areBytes}
 use Rattle.format.specs.declared.Edited.{Edited}
 use Rattle.format.specs.Questions.{Answer, refused, absent, remove, accepted, editedOf, lent, Answered}
-use Rattle.format.specs.History.{Posting, Seen, answerTo, sheetAfter, isAccepted, run, seen, balancedSheet}
-use Rattle.theorems.specs.Demand.{Wides, Decided, no, yes, Correct, AllCorrect as AllPosted, Demand3 as OfPostings}
+use Rattle.format.specs.History.{Posting, Seen, answerTo, sheetAfter, isAccepted, run, allSeen, balancedSheet}
+use Rattle.theorems.specs.Demand.{Wides, Decided, no, yes, Correct, AllCorrect, Demand3}
 use Rattle.theorems.proofs.Demand.{demand-3}
-use Rattle.theorems.specs.Calls.{Call, AllKept, wasWritten, wasDecided, nextSheet, lastSheet, seenBy, postingOf, postingsOf, AllCorrect, Demand3}
+use Rattle.theorems.specs.Calls.{Call, CallsKept, wasWritten, wasDecided, nextSheet, lastSheet, seenBy, postingOf, postingsOf, CallsCorrect, CallsDemand3}
 
 -- what an answer says, the caller sees
 told : (a : Answer (List ℕ)) {r : Edited} {old new : List ℕ} → Answered a r old new → wasWritten r ≡ isAccepted a
@@ -33,20 +33,20 @@ wrote sheet (accepted result) {old = old} {new = new} w =
     ap (λ (r : Edited). nextSheet sheet r new) (w .result) ∙ ap (take (length result)) (w .output)
     ∙ take-append-seam result (drop (length result) old)
 
-pub same-run : (sheet : List ℕ) (calls : List Call) → AllKept sheet calls → lastSheet sheet calls ≡ run sheet (postingsOf calls)
+pub same-run : (sheet : List ℕ) (calls : List Call) → CallsKept sheet calls → lastSheet sheet calls ≡ run sheet (postingsOf calls)
 unfolding answerTo
 same-run sheet [] k = refl
 same-run sheet (c ∷ calls) (k, ks) =
     same-run (nextSheet sheet (c .result) (c .new)) calls ks
     ∙ ap (λ (s : List ℕ). run s (postingsOf calls)) (wrote sheet (answerTo sheet (postingOf c)) k)
 
-pub same-seen : (sheet : List ℕ) (calls : List Call) → AllKept sheet calls → seenBy calls ≡ seen sheet (postingsOf calls)
+pub same-seen : (sheet : List ℕ) (calls : List Call) → CallsKept sheet calls → seenBy calls ≡ allSeen sheet (postingsOf calls)
 unfolding answerTo
 same-seen sheet [] k = refl
 same-seen sheet (c ∷ calls) (k, ks) =
     ap₂ (λ (b : Bool) (l : List Seen). record { change = c .change; accepted = b } ∷ l) (told (answerTo sheet (postingOf c)) k)
     (same-seen (nextSheet sheet (c .result) (c .new)) calls ks
-    ∙ ap (λ (s : List ℕ). seen s (postingsOf calls)) (wrote sheet (answerTo sheet (postingOf c)) k))
+    ∙ ap (λ (s : List ℕ). allSeen s (postingsOf calls)) (wrote sheet (answerTo sheet (postingOf c)) k))
 
 -- no call says absent or remove
 decided-so : (a : Answer (List ℕ)) {r : Edited} {old new : List ℕ} → Decided a → Answered a r old new → T (wasDecided r)
@@ -54,7 +54,7 @@ unfolding editedOf
 decided-so a {r} (no k n e) w = subst (λ (x : Edited). T (wasDecided x)) (sym (w .result ∙ ap editedOf e)) n
 decided-so a {r} (yes s e) w = subst (λ (x : Edited). T (wasDecided x)) (sym (w .result ∙ ap editedOf e)) tt
 
-all-decided : ((s : List ℕ) (p : Posting) → Decided (answerTo s p)) → (sheet : List ℕ) (calls : List Call) → AllKept sheet calls
+all-decided : ((s : List ℕ) (p : Posting) → Decided (answerTo s p)) → (sheet : List ℕ) (calls : List Call) → CallsKept sheet calls
     → T (all (λ (c : Call). wasDecided (c .result)) calls)
 unfolding answerTo
 all-decided d sheet [] k = tt
@@ -63,7 +63,7 @@ all-decided d sheet (c ∷ calls) (k, ks) =
     (all-decided d (nextSheet sheet (c .result) (c .new)) calls ks)
 
 -- what is so of each posting is so of each call
-all-correct : (sheet : List ℕ) (calls : List Call) → AllKept sheet calls → AllPosted sheet (postingsOf calls) → AllCorrect sheet calls
+all-correct : (sheet : List ℕ) (calls : List Call) → CallsKept sheet calls → AllCorrect sheet (postingsOf calls) → CallsCorrect sheet calls
 unfolding answerTo
 all-correct sheet [] k p = tt
 all-correct sheet (c ∷ calls) (k, ks) (p, ps) =
@@ -71,13 +71,13 @@ all-correct sheet (c ∷ calls) (k, ks) (p, ps) =
     let w = wrote sheet a k in (
       subst (λ (b : Bool). Correct sheet (postingOf c) b (nextSheet sheet (c .result) (c .new))) (sym (told a k))
           (subst (Correct sheet (postingOf c) (isAccepted a)) (sym w) p),
-      all-correct (nextSheet sheet (c .result) (c .new)) calls ks (subst (λ (s : List ℕ). AllPosted s (postingsOf calls)) (sym w) ps),
+      all-correct (nextSheet sheet (c .result) (c .new)) calls ks (subst (λ (s : List ℕ). AllCorrect s (postingsOf calls)) (sym w) ps),
     )
 
 pub calls-demand-3 : (sheet : List ℕ) (calls : List Call) → T (areBytes sheet) → T (balancedSheet sheet) → Wides (postingsOf calls)
-    → AllKept sheet calls → Demand3 sheet calls
+    → CallsKept sheet calls → CallsDemand3 sheet calls
 calls-demand-3 sheet calls bytes balance wide kept =
-    let d : OfPostings sheet (postingsOf calls) = demand-3 sheet (postingsOf calls) bytes balance wide in
+    let d : Demand3 sheet (postingsOf calls) = demand-3 sheet (postingsOf calls) bytes balance wide in
     let r = same-run sheet calls kept in
     let v = same-seen sheet calls kept in
     record {

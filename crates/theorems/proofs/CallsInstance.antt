@@ -11,7 +11,7 @@ use Rattle.format.proofs.Computed.{computed}
 use Rattle.format.proofs.Postings.{opening, closing, postings, opens, closes}
 use Rattle.theorems.specs.Demand.{Wides}
 use Rattle.theorems.proofs.Instance.{wide}
-use Rattle.theorems.specs.Calls.{Call, nextSheet, AllKept, lastSheet, postingsOf, Demand3}
+use Rattle.theorems.specs.Calls.{Call, nextSheet, CallsKept, lastSheet, postingsOf, CallsDemand3}
 use Rattle.theorems.proofs.Calls.{same-run, calls-demand-3}
 
 -- a call that keeps its contract, with zeros in the lent output before it
@@ -28,7 +28,7 @@ abbrev callsFor : List ℕ → List Posting → List Call
 callsFor sheet [] = []
 callsFor sheet (p ∷ list) = callFor sheet p ∷ callsFor (nextFor sheet p) list
 
-kept : (sheet : List ℕ) (list : List Posting) → AllKept sheet (callsFor sheet list)
+kept : (sheet : List ℕ) (list : List Posting) → CallsKept sheet (callsFor sheet list)
 kept sheet [] = tt
 kept sheet (p ∷ list) = (record { result = refl; output = refl }, kept (nextFor sheet p) list)
 
@@ -41,7 +41,7 @@ same-postings sheet (p ∷ list) =
 pub calls : List Call
 calls = callsFor opening postings
 
-pub met : Demand3 opening calls
+pub met : CallsDemand3 opening calls
 unfolding computed calls opening
 met = calls-demand-3 opening calls tt opens (subst Wides (sym (same-postings opening postings)) wide) (kept opening postings)
 

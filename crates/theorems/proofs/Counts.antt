@@ -10,12 +10,12 @@ use native.Mathlib.Omega.{arith}
 use lib.Dec.{T, leb, eqb, eqb→eq, leb→le}
 use lib.ListN.{length, getD}
 use mir.Facts.{and-yes, yes-and, or-no, T-not-not, yes-eqb, eqb-no}
-use Rattle.fields.specs.Lists.{sum, all, Cut, cut}
+use Rattle.fields.specs.Lists.{sum, all, Cut, firstCut}
 use Rattle.fields.specs.Numbers.{le, words, areBytes}
 use Rattle.fields.proofs.Lists.{T-eq, lt-or, imp-out, or-left, cond-yes, cond-no, sum-append, all-map, all-mid, all-rest, all-put, cut-some, cut-none}
 use Rattle.format.specs.declared.Change.{Change}
 use Rattle.format.specs.declared.Change.the-variants.{AddBlock, AddData, AddShared, DropBlock, DropData, DropShared}
-use Rattle.format.specs.References.{known, payloadLength, countPosition, counted, fieldCount, rowIn, Ref, ref, refAt, Body, readBody, place, placeOf}
+use Rattle.format.specs.References.{known, payloadLength, countPosition, counted, fieldCount, rowIn, Ref, makeRef, refAt, Body, readBody, rank, rankOf}
 use Rattle.format.specs.Bodies.{named, one, keyedCount}
 use Rattle.format.specs.Items.{Item, keyOf, without}
 use Rattle.format.specs.Apply.{isRecord, recordOf}
@@ -106,8 +106,8 @@ module _ (m : Name) (items : List Item) (c : Cut Item) (b : Body) (H : Here m it
   count-split = sum-split (under m)
 
   -- not both inline and apart
-  pub one-place : (inline m c ≡ 0) ⊎ (apart m c ≡ 0)
-  one-place = go (lt-or 0 (sum (stands m) (entries (c .hit ∷ []))))
+  pub inline-or-apart : (inline m c ≡ 0) ⊎ (apart m c ≡ 0)
+  inline-or-apart = go (lt-or 0 (sum (stands m) (entries (c .hit ∷ []))))
     where
       go : (0 < sum (stands m) (entries (c .hit ∷ []))) ⊎ (sum (stands m) (entries (c .hit ∷ [])) ≤ 0)
           → (inline m c ≡ 0) ⊎ (apart m c ≡ 0)
@@ -181,15 +181,15 @@ form-out v true r e t = tt
 form-out v false r e t = absurd (subst (λ (y : View). T (wellFormed y)) e t)
 
 pub data-form : (i : Item) → i .key .kind ≡ 178 → T (good i)
-    → (length (i .bytes) ≡ 28) × (i .key .offset ≡ placeOf 178 (words 3 (i .bytes)))
-unfolding viewRefItem place
+    → (length (i .bytes) ≡ 28) × (i .key .offset ≡ rankOf 178 (words 3 (i .bytes)))
+unfolding viewRefItem rank
 data-form i e t =
     let d : List ℕ = i .bytes in
-    let f : Bool = eqb (length d) 28 && eqb (i .key .offset) (place (refAt 178 d)) in
+    let f : Bool = eqb (length d) 28 && eqb (i .key .offset) (rank (refAt 178 d)) in
     let u : T f = form-out (viewOf i) f (refAt 178 d)
     (view-item i (is178 e) ∙ cond-yes (eqb (i .key .kind) 178) _ _ (yes-eqb e)) t in
     let h = and-yes (eqb (length d) 28) _ u in
-    (eqb→eq _ _ (h .0), eqb→eq _ _ (h .1) ∙ ap place (refAt-178 d))
+    (eqb→eq _ _ (h .0), eqb→eq _ _ (h .1) ∙ ap rank (refAt-178 d))
 
 pub plain-form : (i : Item) → Naming (i .key .kind) → eqb (i .key .kind) 178 ≡ false → T (good i)
     → length (i .bytes) ≡ cond (eqb (i .key .kind) 184) 4 0
@@ -201,10 +201,10 @@ plain-form i k q t = go (eqb (i .key .kind) 184) refl
 
     go : (c : Bool) → eqb (i .key .kind) 184 ≡ c → length (i .bytes) ≡ cond c 4 0
     go true p =
-        eqb→eq _ _ (form-out (viewOf i) (eqb (length (i .bytes)) 4) (ref 184 (one (i .key .offset)) (le (i .bytes)))
+        eqb→eq _ _ (form-out (viewOf i) (eqb (length (i .bytes)) 4) (makeRef 184 (one (i .key .offset)) (le (i .bytes)))
         (view-item i k ∙ cond-no (eqb (i .key .kind) 178) _ _ n₁ ∙ cond-yes (eqb (i .key .kind) 184) _ _ (subst T (sym p) tt)) t)
     go false p =
-        eqb→eq _ _ (form-out (viewOf i) (eqb (length (i .bytes)) 0) (ref (i .key .kind) (one (i .key .offset)) 1)
+        eqb→eq _ _ (form-out (viewOf i) (eqb (length (i .bytes)) 0) (makeRef (i .key .kind) (one (i .key .offset)) 1)
         (view-item i k ∙ cond-no (eqb (i .key .kind) 178) _ _ n₁ ∙ cond-no (eqb (i .key .kind) 184) _ _
         (subst (λ (c : Bool). T (not c)) (sym p) tt)) t)
 
@@ -279,9 +279,9 @@ module _ (m : Name) (items : List Item) (c : Cut Item) (b : Body) (H : Here m it
     says : sum (stands m) (itemEntries (k .hit)) ≢ 0
 
   says-of : 1 ≤ apart m c → (k : Cut Item) × Says k
-  says-of h = go (cut (λ i. not (notItsOwn m i)) items) refl
+  says-of h = go (firstCut (λ i. not (notItsOwn m i)) items) refl
     where
-      go : (o : Option (Cut Item)) → cut (λ i. not (notItsOwn m i)) items ≡ o → (k : Cut Item) × Says k
+      go : (o : Option (Cut Item)) → firstCut (λ i. not (notItsOwn m i)) items ≡ o → (k : Cut Item) × Says k
       go none e =
           let z = own-out m items c b H bal td
           (all-map (λ i. not (not (notItsOwn m i))) (notItsOwn m) (λ i t. T-not-not (notItsOwn m i) t) items
@@ -328,7 +328,7 @@ module _ (m : Name) (items : List Item) (c : Cut Item) (b : Body) (H : Here m it
   -- of 178: at the hash, with the fields in its data
   pub data-own : m .kind ≡ 178 → 1 ≤ apart m c
       → (k : Cut Item) × Own m items k (keyedCount (k .hit .bytes)) ×
-      (k .hit .key ≡ keyOf (m .extent) 178 (placeOf 178 (m .fields)))
+      (k .hit .key ≡ keyOf (m .extent) 178 (rankOf 178 (m .fields)))
       × (words 3 (k .hit .bytes) ≡ m .fields) × (length (k .hit .bytes) ≡ 28)
   data-own is h =
       let (k, s) = says-of h in
@@ -336,7 +336,7 @@ module _ (m : Name) (items : List Item) (c : Cut Item) (b : Body) (H : Here m it
     where
       go : (k : Cut Item) → Says k → Naming (k .hit .key .kind) → (z : Bool) → eqb (k .hit .key .kind) 178 ≡ z
           → (k : Cut Item) × Own m items k (keyedCount (k .hit .bytes)) ×
-          (k .hit .key ≡ keyOf (m .extent) 178 (placeOf 178 (m .fields)))
+          (k .hit .key ≡ keyOf (m .extent) 178 (rankOf 178 (m .fields)))
           × (words 3 (k .hit .bytes) ≡ m .fields) × (length (k .hit .bytes) ≡ 28)
       go k s n true q =
           let g : T (good (k .hit)) = all-mid good (k .front) (k .hit) (k .back) (rw (s .same) at (bal .goods)) in
@@ -348,7 +348,7 @@ module _ (m : Name) (items : List Item) (c : Cut Item) (b : Body) (H : Here m it
           let fm = data-form (k .hit) kd g in
           let e₁ : k .hit .key .objectid ≡ m .extent = sym (ap (λ (x : Name). x .extent) e) in
           let e₃ : words 3 (k .hit .bytes) ≡ m .fields = sym (ap (λ (x : Name). x .fields) e) in
-          let e₄ : k .hit .key .offset ≡ placeOf 178 (m .fields) = fm .1 ∙ ap (placeOf 178) e₃ in (
+          let e₄ : k .hit .key .offset ≡ rankOf 178 (m .fields) = fm .1 ∙ ap (rankOf 178) e₃ in (
             k,
             own-of m items k w bal (s .same) (kd ∙ sym is) e₁ (en ∙ ap (λ (x : Name). only x (some w)) (sym e)),
             (λ i. record { objectid = e₁ i; kind = kd i; offset = e₄ i }),
@@ -364,9 +364,9 @@ module _ (m : Name) (items : List Item) (c : Cut Item) (b : Body) (H : Here m it
 
 -- ---- the same, from the questions that all changes share
 
-pub two-places : (nodesize : ℕ) (sheet : List ℕ) (n : Name) (items : List Item) (at : Cut Item) → T (areBytes sheet)
+pub inline-and-apart : (nodesize : ℕ) (sheet : List ℕ) (n : Name) (items : List Item) (at : Cut Item) → T (areBytes sheet)
     → UpToFive nodesize sheet (n .extent) items at → (count n items ≡ inline n at + apart n at) × ((inline n at ≡ 0) ⊎ (apart n at ≡ 0))
-two-places nodesize sheet n items at raw d =
+inline-and-apart nodesize sheet n items at raw d =
     let S = sheet-facts sheet items raw (d .reads) (d .balance) in
     let (b, H) = here-of n items at (S .balance) (S .tidied) (d .stands) in
-    (count-split n items at b H (S .balance) (S .tidied), one-place n items at b H (S .balance) (S .tidied))
+    (count-split n items at b H (S .balance) (S .tidied), inline-or-apart n items at b H (S .balance) (S .tidied))

@@ -7,7 +7,7 @@ use mathlib.Core.Option.{Option, none, some}
 use Prim.Native.Nat.{ℕ, zero, suc, _+_, _-_, _^_}
 use lib.Dec.{T, leb, ltb, eqb}
 use lib.ListN.{length}
-use Rattle.fields.specs.Lists.{all, same, Cut, cut}
+use Rattle.fields.specs.Lists.{all, same, Cut, firstCut}
 use Rattle.fields.specs.Numbers.{leBytes, words}
 use Rattle.fields.specs.Parts.{written}
 use Rattle.format.specs.declared.BlockRef.{BlockRef}
@@ -19,8 +19,8 @@ use Rattle.format.specs.declared.Key.{Key}
 use Rattle.format.specs.declared.Change.{Change}
 use Rattle.format.specs.declared.Change.the-variants.{AddBlock, AddData, AddShared, DropBlock, DropData, DropShared}
 use Rattle.format.specs.Questions.{Answer, isRefusal, decides, keeps, refused, absent, remove, accepted, ask, bind, needed, found, ifAbsent, also, held}
-use Rattle.format.specs.References.{counted, Ref, Body, totalOf, readBody, placeOf}
-use Rattle.format.specs.Bodies.{named, one, triple, bodyFits, sharedKind, onBody, onHead, raisedBy, loweredByOne, reducedBy, onTotal, lowerTotal, reduceTotal, dropInline, dropInlineTreeRef, dropInlineDataRef, takeInlineShared, keyedCount, dropKeyedDataRef, Spot, isGap, standingWeight, addAt, addInlineTreeRef, addInlineData, addInlineShared}
+use Rattle.format.specs.References.{counted, Ref, Body, totalOf, readBody, rankOf}
+use Rattle.format.specs.Bodies.{named, one, triple, bodyFits, sharedKind, onBody, onHead, raisedBy, loweredByOne, reducedBy, onTotal, lowerTotal, reduceTotal, dropInline, dropInlineTreeRef, dropInlineDataRef, takeInlineShared, keyedCount, dropKeyedDataRef, RefPosition, isGap, standingWeight, addAt, addInlineTreeRef, addInlineData, addInlineShared}
 use Rattle.format.specs.Items.{Item, keyOf, readSheet, onSheet, nodesizeFits, sheetHolds, heldSheet}
 use Rattle.format.specs.Sheets.{hasKey, deleted}
 use Rattle.format.specs.Apply.{inlineLimit, recordOf, onRecord, replaced, keyedBody, applyKeyedAdd, sharedBody, applySharedAdd, flagged, dropTreeRef}
@@ -87,12 +87,12 @@ decides-reduceTotal : (d : List ℕ) (amount : ℕ) → T (decides (reduceTotal 
 unfolding reduceTotal reducedBy
 decides-reduceTotal d amount = decides-onTotal d (reducedBy amount) (λ n. decides-ask (leb amount n) 14 tt _ tt)
 
-decides-addAt : (b : Body) (r : Ref) (spot : Spot) → T (decides (addAt b r spot))
+decides-addAt : (b : Body) (r : Ref) (position : RefPosition) → T (decides (addAt b r position))
 unfolding addAt raisedBy
-decides-addAt b r spot =
-    decides-ask (counted (r .kind) || isGap spot) 9 tt _
+decides-addAt b r position =
+    decides-ask (counted (r .kind) || isGap position) 9 tt _
     (decides-ask (counted (r .kind) || eqb (r .weight) 1) 10 tt _
-    (decides-ask (ltb (standingWeight spot + r .weight) (2 ^ 32)) 11 tt _
+    (decides-ask (ltb (standingWeight position + r .weight) (2 ^ 32)) 11 tt _
     (decides-bind (ask (ltb (b .total + r .weight) (2 ^ 64)) 12 (accepted (b .total + r .weight))) _
     (decides-ask (ltb (b .total + r .weight) (2 ^ 64)) 12 tt _ tt) (λ t. tt))))
 
@@ -100,7 +100,7 @@ keeps-dropInline : (type : ℕ) (d : List ℕ) (kind : ℕ) (fields : List ℕ) 
 unfolding dropInline loweredByOne
 keeps-dropInline type d kind fields =
     keeps-onBody type d _ (λ b.
-    keeps-bind (found (cut (named kind fields) (b .refs))) _ (keeps-found (cut (named kind fields) (b .refs))) (λ c.
+    keeps-bind (found (firstCut (named kind fields) (b .refs))) _ (keeps-found (firstCut (named kind fields) (b .refs))) (λ c.
     keeps-bind (ask (leb 2 (b .total)) 13 (accepted (b .total - 1))) _ (keeps-ask (leb 2 (b .total)) 13 tt _ tt) (λ t. tt)))
 
 found-dropKeyed : (d : List ℕ) (name : DataRef) → T (finds (dropKeyedDataRef d name))
@@ -121,17 +121,17 @@ decides-onRecord : {A : Type 0} (extent : ℕ) (items : List Item) (next : Cut I
     → T (decides (onRecord extent items next))
 unfolding onRecord
 decides-onRecord extent items next f =
-    decides-bind (needed 5 (cut (recordOf extent) items)) next (decides-needed 5 tt (cut (recordOf extent) items)) f
+    decides-bind (needed 5 (firstCut (recordOf extent) items)) next (decides-needed 5 tt (firstCut (recordOf extent) items)) f
 
 decides-replaced : (key : Key) (d : List ℕ) (items : List Item) → T (decides (replaced key d items))
 unfolding replaced
 decides-replaced key d items =
-    decides-bind (needed 5 (cut (hasKey key) items)) _ (decides-needed 5 tt (cut (hasKey key) items)) (λ c. tt)
+    decides-bind (needed 5 (firstCut (hasKey key) items)) _ (decides-needed 5 tt (firstCut (hasKey key) items)) (λ c. tt)
 
 decides-deleted : (key : Key) (items : List Item) → T (decides (deleted key items))
 unfolding deleted
 decides-deleted key items =
-    decides-bind (needed 5 (cut (hasKey key) items)) _ (decides-needed 5 tt (cut (hasKey key) items)) (λ c. tt)
+    decides-bind (needed 5 (firstCut (hasKey key) items)) _ (decides-needed 5 tt (firstCut (hasKey key) items)) (λ c. tt)
 
 decides-keyedBody : (i : Item) (keyed : Keyed) (amount : ℕ) → T (decides (keyedBody i keyed amount false))
 unfolding keyedBody addInlineTreeRef addInlineData
@@ -182,8 +182,8 @@ decides-dropDataRef d items c =
     decides-ifAbsent _ _
     (keeps-bind (dropInline (c .hit .key .kind) (c .hit .bytes) 178 (triple d)) _
     (keeps-dropInline (c .hit .key .kind) (c .hit .bytes) 178 (triple d)) (λ z. tt))
-    (decides-bind (needed 5 (cut (hasKey (keyOf (c .hit .key .objectid) 178 (placeOf 178 (triple d)))) items)) _
-    (decides-needed 5 tt (cut (hasKey (keyOf (c .hit .key .objectid) 178 (placeOf 178 (triple d)))) items)) (λ k.
+    (decides-bind (needed 5 (firstCut (hasKey (keyOf (c .hit .key .objectid) 178 (rankOf 178 (triple d)))) items)) _
+    (decides-needed 5 tt (firstCut (hasKey (keyOf (c .hit .key .objectid) 178 (rankOf 178 (triple d)))) items)) (λ k.
     decides-bind (lowerTotal (c .hit .bytes)) _ (decides-lowerTotal (c .hit .bytes)) (λ z.
     decides-bind (droppedAt k (dropKeyedDataRef (k .hit .bytes) d)) _
     (decides-droppedAt k _ (found-dropKeyed (k .hit .bytes) d)) (λ others.
@@ -196,8 +196,8 @@ decides-dropSharedRef s items c =
     (keeps-bind (takeInlineShared (c .hit .key .kind) (c .hit .bytes) s) _ (take-keeps (c .hit .key .kind) (c .hit .bytes) s) (λ out.
     keeps-bind (reduceTotal (out .bytes) (out .count)) _
     (decides-keeps (reduceTotal (out .bytes) (out .count)) (decides-reduceTotal (out .bytes) (out .count))) (λ z. tt)))
-    (decides-bind (needed 5 (cut (hasKey (keyOf (c .hit .key .objectid) (s .kind) (s .parent))) items)) _
-    (decides-needed 5 tt (cut (hasKey (keyOf (c .hit .key .objectid) (s .kind) (s .parent))) items)) (λ k.
+    (decides-bind (needed 5 (firstCut (hasKey (keyOf (c .hit .key .objectid) (s .kind) (s .parent))) items)) _
+    (decides-needed 5 tt (firstCut (hasKey (keyOf (c .hit .key .objectid) (s .kind) (s .parent))) items)) (λ k.
     decides-bind (reduceTotal (c .hit .bytes) (sharedCount (k .hit))) _
     (decides-reduceTotal (c .hit .bytes) (sharedCount (k .hit))) (λ z.
     decides-replaced (c .hit .key) z _)))

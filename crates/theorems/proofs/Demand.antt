@@ -13,7 +13,7 @@ use Rattle.format.specs.Questions.{Answer, refused, absent, remove, accepted}
 use Rattle.format.specs.Items.{Item}
 use Rattle.format.specs.Names.{Name, sameName, count}
 use Rattle.format.specs.Ledger.{nameOf}
-use Rattle.format.specs.History.{Posting, answerTo, sheetAfter, isAccepted, run, Seen, seen, Tally, enter, tally, touched, itemsOf, sheetItems, passes, balancedSheet}
+use Rattle.format.specs.History.{Posting, answerTo, sheetAfter, isAccepted, run, Seen, allSeen, Tally, enter, tallyFrom, touched, itemsOf, sheetItems, passes, balancedSheet}
 use Rattle.theorems.specs.Acceptance.{AllYes, Made, Exactly}
 use Rattle.theorems.specs.Demand.{Wide, Wides, Correct, AllCorrect, Demand3}
 use Rattle.theorems.proofs.Decided.{decided}
@@ -59,8 +59,8 @@ record WholeList (s : List ℕ) (items : List Item) (postings : List Posting) : 
   all-correct : AllCorrect s postings
   last : List Item
   on : On (run s postings) last
-  counts : (n : Name) (t : Tally) → Fit (count n items) t → Fit (count n last) (tally n t (seen s postings))
-  others : (x : ℕ) → T (not (touched x (seen s postings))) → itemsOf x last ≡ itemsOf x items
+  counts : (n : Name) (t : Tally) → Fit (count n items) t → Fit (count n last) (tallyFrom n t (allSeen s postings))
+  others : (x : ℕ) → T (not (touched x (allSeen s postings))) → itemsOf x last ≡ itemsOf x items
 
 -- the same, with the first posting's answer at hand
 abbrev seenAt : Posting → Answer (List ℕ) → Seen
@@ -71,8 +71,8 @@ record After (s : List ℕ) (items : List Item) (p : Posting) (postings : List P
   last : List Item
   on : On (run (sheetAfter s a) postings) last
   counts : (n : Name) (t : Tally) → Fit (count n items) t
-      → Fit (count n last) (tally n t (seenAt p a ∷ seen (sheetAfter s a) postings))
-  others : (x : ℕ) → T (not (touched x (seenAt p a ∷ seen (sheetAfter s a) postings))) → itemsOf x last ≡ itemsOf x items
+      → Fit (count n last) (tallyFrom n t (seenAt p a ∷ allSeen (sheetAfter s a) postings))
+  others : (x : ℕ) → T (not (touched x (seenAt p a ∷ allSeen (sheetAfter s a) postings))) → itemsOf x last ≡ itemsOf x items
 
 -- an answer that moves nothing
 unmoved : (s : List ℕ) (items : List Item) (p : Posting) (postings : List Posting) (a : Answer (List ℕ)) → isAccepted a ≡ false
@@ -98,7 +98,7 @@ after-one s items p postings o w ih (accepted t) q =
       on = W .on;
       counts = λ n u h. W .counts n (cond (sameName n (nameOf (p .change))) (enter (p .change) u) u) (P .moved .counts n u h);
       others = λ x h.
-          (let k = or-no (eqb (nameOf (p .change) .extent) x) (touched x (seen t postings)) h in
+          (let k = or-no (eqb (nameOf (p .change) .extent) x) (touched x (allSeen t postings)) h in
           W .others x (k .1) ∙ P .moved .others x (λ e. T-not (eqb (nameOf (p .change) .extent) x) (yes-eqb (sym e)) (k .0)));
     }
 
@@ -112,7 +112,7 @@ whole-list s items (p ∷ postings) o (w, ws) =
 -- ---- demand 3
 
 -- the tally never moves its opening
-opens : (n : Name) (t : Tally) (list : List Seen) → tally n t list .opening ≡ t .opening
+opens : (n : Name) (t : Tally) (list : List Seen) → tallyFrom n t list .opening ≡ t .opening
 unfolding enter
 opens n t [] = refl
 opens n t (v ∷ list) =
@@ -145,7 +145,7 @@ demand-3 sheet postings b t w =
           let c₁ : count n (sheetItems sheet) ≡ count n items = ap (count n) e₁ in
           let c₂ : count n (sheetItems (run sheet postings)) ≡ count n (W .last) = ap (count n) e₂ in
           let f = W .counts n t₀ (omega arith) in
-          let k = opens n t₀ (seen sheet postings) in
+          let k = opens n t₀ (allSeen sheet postings) in
           omega arith);
       balance = on-balanced (run sheet postings) (W .last) (W .on);
       untouched = λ x h. ap (itemsOf x) e₂ ∙ W .others x h ∙ sym (ap (itemsOf x) e₁);

@@ -9,7 +9,7 @@ use mathlib.Core.List.{List, [], _∷_, _++_, append-assoc}
 use lib.ListN.{length, take, drop}
 use lib.Dec.{T, leb, ltb, eqb, eqb→eq, leb→le, ltb→lt, nltb→le}
 use mir.Facts.{and-yes, eqb-no}
-use Rattle.fields.specs.Lists.{all, same, Cut, cut}
+use Rattle.fields.specs.Lists.{all, same, Cut, firstCut}
 use Rattle.fields.specs.Numbers.{le, leBytes, words, wordBytes, areBytes}
 use Rattle.fields.specs.Parts.{written}
 use Rattle.fields.proofs.Lists.{cond-no, all-mid, all-rest, same-yes, Found, cut-some}
@@ -21,7 +21,7 @@ use Rattle.format.specs.declared.SharedRef.{SharedRef}
 use Rattle.format.specs.declared.Key.{Key}
 use Rattle.format.specs.declared.Change.the-variants.{DropBlock, DropData, DropShared}
 use Rattle.format.specs.Questions.{Answer, absent, remove, accepted, ask, bind, needed, found, TakenOut}
-use Rattle.format.specs.References.{Ref, Body, bodyWith, readBody, bodyBytes, placeOf, place}
+use Rattle.format.specs.References.{Ref, Body, bodyWith, readBody, bodyBytes, rankOf, rank}
 use Rattle.format.specs.Bodies.{named, one, triple, weighed, bodyFits, sharedKind, loweredByOne, reducedBy, lowerTotal, reduceTotal, less, dropInline, dropInlineTreeRef, dropInlineDataRef, takeInlineShared, keyedCount, dropKeyedDataRef}
 use Rattle.format.specs.Items.{Item, keyOf, withBytes, putBack, without}
 use Rattle.format.specs.Sheets.{hasKey, deleted}
@@ -58,10 +58,10 @@ module _ (m : Name) (nameOk : NameOk m) (items : List Item) (c : Cut Item) (b : 
   unfolding dropInline less
   drop-inline body e =
       let h₁ =
-      bind-ok (found (cut (named (m .kind) (m .fields)) (b .refs))) _ (on-body (c .hit .key .kind) (c .hit .bytes) b _ (H .reads) e) in
+      bind-ok (found (firstCut (named (m .kind) (m .fields)) (b .refs))) _ (on-body (c .hit .key .kind) (c .hit .bytes) b _ (H .reads) e) in
       let x : Cut Ref = h₁ .0 in
       let f =
-      cut-some (named (m .kind) (m .fields)) (b .refs) (found-ok (cut (named (m .kind) (m .fields)) (b .refs)) (h₁ .1)) in
+      cut-some (named (m .kind) (m .fields)) (b .refs) (found-ok (firstCut (named (m .kind) (m .fields)) (b .refs)) (h₁ .1)) in
       let h₂ = bind-ok (loweredByOne (b .total)) _ (h₁ .2) in
       let (two, te) = lowered-out (b .total) (h₂ .0) (h₂ .1) in
       let q = ap (λ (t : ℕ). bodyBytes (bodyWith b t (x .front ++ (less (x .hit) 1 ++ x .back)))) te ∙ accepted-inj (h₂ .2) in
@@ -90,8 +90,8 @@ unfolding takeInlineShared
 shared-found type d b s out r e =
     let p : Ref → Bool = named (s .kind) (one (s .parent)) in
     let h₃ = ask-ok (sharedKind (s .kind)) 3 _ e in
-    let h = bind-ok (found (cut p (b .refs))) _ (on-body type d b _ r (h₃ .1)) in
-    (h .0, cut-some p (b .refs) (found-ok (cut p (b .refs)) (h .1)), accepted-inj (h .2))
+    let h = bind-ok (found (firstCut p (b .refs))) _ (on-body type d b _ r (h₃ .1)) in
+    (h .0, cut-some p (b .refs) (found-ok (firstCut p (b .refs)) (h .1)), accepted-inj (h .2))
 
 pub sound-without : (type : ℕ) (b : Body) (p : Ref → Bool) (x : Cut Ref) → Sound type b → Found p (b .refs) x
     → Sound type (bodyWith b (b .total) (x .front ++ x .back))
@@ -100,10 +100,10 @@ sound-without type b p x s f =
     (all-rest whole (x .front) (x .hit) (x .back) (rw (f .same) at (s .wholes)))
 
 -- the item of a key
-pub key-found : (key : Key) (items : List Item) (k : Cut Item) → needed 5 (cut (hasKey key) items) ≡ accepted k
+pub key-found : (key : Key) (items : List Item) (k : Cut Item) → needed 5 (firstCut (hasKey key) items) ≡ accepted k
     → (items ≡ k .front ++ k .hit ∷ k .back) × (k .hit .key ≡ key)
 key-found key items k e =
-    let f = cut-some (hasKey key) items (needed-ok 5 (cut (hasKey key) items) e) in
+    let f = cut-some (hasKey key) items (needed-ok 5 (firstCut (hasKey key) items) e) in
     (f .same, sameKey-yes (k .hit .key) key (f .hit))
 
 -- the entry of a reference item without three fields, by its key
@@ -148,7 +148,7 @@ drop-block extent name items after nameOk balance tidies e =
         subst (Step m 0 1 false items) (accepted-inj (h .2)) (drop-inline m nameOk items c b H balance tidies (h .0) (h .1))
     go c b H (inr (_, e)) =
         let h₁ = bind-ok (deleted (keyOf (c .hit .key .objectid) 176 (name .tree)) items) _ e in
-        let h₂ = bind-ok (needed 5 (cut (hasKey (keyOf (c .hit .key .objectid) 176 (name .tree))) items)) _ (h₁ .1) in
+        let h₂ = bind-ok (needed 5 (firstCut (hasKey (keyOf (c .hit .key .objectid) 176 (name .tree))) items)) _ (h₁ .1) in
         let k : Cut Item = h₂ .0 in
         let (same, key) = key-found (keyOf (c .hit .key .objectid) 176 (name .tree)) items k (h₂ .1) in
         let h₃ = bind-ok (lowerTotal (c .hit .bytes)) _ (h₁ .2) in
@@ -206,7 +206,7 @@ dropped-item k d others e =
         inr (omega arith, accepted-inj e)
 
 -- a data item with another count
-module _ (i : Item) (d : DataRef) (kind : i .key .kind ≡ 178) (offset : i .key .offset ≡ placeOf 178 (triple d))
+module _ (i : Item) (d : DataRef) (kind : i .key .kind ≡ 178) (offset : i .key .offset ≡ rankOf 178 (triple d))
     (size : length (i .bytes) ≡ 28)
     (triples : words 3 (i .bytes) ≡ triple d) (small : T (all (λ w. ltb w 18446744073709551616) (triple d)))
     (bytes : T (areBytes (i .bytes)))
@@ -231,10 +231,10 @@ module _ (i : Item) (d : DataRef) (kind : i .key .kind ≡ 178) (offset : i .key
       ap le (part-written 24 4 (leBytes 4 v) (i .bytes) (length-leBytes 4 v) (omega arith)) ∙ le-leBytes 4 v fits
 
   again-good : T (good (withBytes i (written 24 (leBytes 4 v) (i .bytes))))
-  unfolding place
+  unfolding rank
   again-good =
       data-good (withBytes i (written 24 (leBytes 4 v) (i .bytes))) kind again-size
-      (offset ∙ ap (placeOf 178) (sym again-words))
+      (offset ∙ ap (rankOf 178) (sym again-words))
 
   again-entry : itemEntries (withBytes i (written 24 (leBytes 4 v) (i .bytes)))
       ≡ only (record { extent = i .key .objectid; kind = 178; fields = triple d }) (some v)
@@ -259,7 +259,7 @@ drop-data extent name items after nameOk balance tidies e =
 
     item : Cut Item → Answer (List Item)
     item c =
-        bind (needed 5 (cut (hasKey (keyOf (c .hit .key .objectid) 178 (placeOf 178 (triple name)))) items)) (λ k.
+        bind (needed 5 (firstCut (hasKey (keyOf (c .hit .key .objectid) 178 (rankOf 178 (triple name)))) items)) (λ k.
         bind (lowerTotal (c .hit .bytes)) (λ body.
         bind (droppedAt k (dropKeyedDataRef (k .hit .bytes) name)) (λ others. replaced (c .hit .key) body others)))
 
@@ -270,8 +270,8 @@ drop-data extent name items after nameOk balance tidies e =
         let h = bind-ok (dropInline (c .hit .key .kind) (c .hit .bytes) 178 (triple name)) _ e in
         subst (Step m 0 1 false items) (accepted-inj (h .2)) (drop-inline m nameOk items c b H balance tidies (h .0) (h .1))
     go c b H (inr (_, e)) =
-        let at : ℕ = placeOf 178 (triple name) in
-        let h₁ = bind-ok (needed 5 (cut (hasKey (keyOf (c .hit .key .objectid) 178 at)) items)) _ e in
+        let at : ℕ = rankOf 178 (triple name) in
+        let h₁ = bind-ok (needed 5 (firstCut (hasKey (keyOf (c .hit .key .objectid) 178 at)) items)) _ e in
         let k : Cut Item = h₁ .0 in
         let (same, key) = key-found (keyOf (c .hit .key .objectid) 178 at) items k (h₁ .1) in
         let h₂ = bind-ok (lowerTotal (c .hit .bytes)) _ (h₁ .2) in
@@ -300,7 +300,7 @@ drop-data extent name items after nameOk balance tidies e =
       where
         last : (c : Cut Item) (b : Body) → Here m items c b → (k : Cut Item) → items ≡ k .front ++ k .hit ∷ k .back
             → k .hit .key .kind ≡ 178
-            → k .hit .key .objectid ≡ extent → k .hit .key .offset ≡ placeOf 178 (triple name) → T (good (k .hit))
+            → k .hit .key .objectid ≡ extent → k .hit .key .offset ≡ rankOf 178 (triple name) → T (good (k .hit))
             → T (areBytes (k .hit .bytes))
             → length (k .hit .bytes) ≡ 28 → words 3 (k .hit .bytes) ≡ triple name
             → itemEntries (k .hit) ≡ only m (some (keyedCount (k .hit .bytes)))
@@ -357,7 +357,7 @@ drop-shared extent name items after sk nameOk balance tidies e =
 
     item : Cut Item → Answer (List Item)
     item c =
-        bind (needed 5 (cut (hasKey (keyOf (c .hit .key .objectid) (name .kind) (name .parent))) items)) (λ k.
+        bind (needed 5 (firstCut (hasKey (keyOf (c .hit .key .objectid) (name .kind) (name .parent))) items)) (λ k.
         bind (reduceTotal (c .hit .bytes) (sharedCount (k .hit))) (λ body. replaced (c .hit .key) body (without k)))
 
     taken : (c : Cut Item) (b : Body) → Here m items c b → (x : Cut Ref)
@@ -390,7 +390,7 @@ drop-shared extent name items after sk nameOk balance tidies e =
         taken c b H x f (h₁ .0) o (h₂ .0) (h₂ .1) (accepted-inj (h₂ .2))
     go c b H (inr (_, e)) =
         let key₀ : Key = keyOf (c .hit .key .objectid) (name .kind) (name .parent) in
-        let h₁ = bind-ok (needed 5 (cut (hasKey key₀) items)) _ e in
+        let h₁ = bind-ok (needed 5 (firstCut (hasKey key₀) items)) _ e in
         let k : Cut Item = h₁ .0 in
         let (same, key) = key-found key₀ items k (h₁ .1) in
         let w : ℕ = sharedCount (k .hit) in

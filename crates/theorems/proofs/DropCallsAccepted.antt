@@ -9,7 +9,7 @@ use native.Mathlib.Omega.{arith}
 use lib.Dec.{T, leb, ltb, eqb, eqb→eq, leb→le, le→leb, ltb→lt, nltb→le}
 use lib.ListN.{length}
 use mir.Facts.{and-yes, yes-and, yes-eqb, no-eqb, eqb-no}
-use Rattle.fields.specs.Lists.{sum, same, Cut, cut}
+use Rattle.fields.specs.Lists.{sum, same, Cut, firstCut}
 use Rattle.fields.specs.Numbers.{leBytes, words, areBytes}
 use Rattle.fields.specs.Parts.{written}
 use Rattle.fields.proofs.Lists.{cond-yes, cond-no, same-yes, same-refl, all-mid, Found, cut-some, cut-none}
@@ -22,7 +22,7 @@ use Rattle.format.specs.declared.Key.{Key}
 use Rattle.format.specs.declared.Change.{Change}
 use Rattle.format.specs.declared.Change.the-variants.{DropBlock, DropData, DropShared}
 use Rattle.format.specs.Questions.{Answer, absent, remove, accepted, ask, bind, needed, found, ifAbsent, TakenOut}
-use Rattle.format.specs.References.{known, payloadLength, countPosition, counted, fieldCount, rowIn, weightOf, Ref, refsBytes, Body, bodyWith, totalOf, bodyBytes, placeOf}
+use Rattle.format.specs.References.{known, payloadLength, countPosition, counted, fieldCount, rowIn, weightOf, Ref, refsBytes, Body, bodyWith, totalOf, bodyBytes, rankOf}
 use Rattle.format.specs.Bodies.{named, one, triple, weighed, bodyFits, sharedKind, lowerTotal, reduceTotal, less, dropInline, dropInlineTreeRef, dropInlineDataRef, takeInlineShared, keyedCount, dropKeyedDataRef}
 use Rattle.format.specs.Items.{Item, keyOf, dataFits, sheetHolds, withBytes, putBack, without}
 use Rattle.format.specs.Sheets.{hasKey, deleted}
@@ -144,10 +144,10 @@ ask-then r t a k b e q = ap (λ z. bind z k) e ∙ bind-ask t 13 (accepted a) k 
 
 -- the item of a key, where it is known
 needed-yes : {B : Type 0} (key : Key) (items : List Item) (k : Cut Item) (next : Cut Item → Answer B)
-    → cut (hasKey key) items ≡ some k
-    → bind (needed 5 (cut (hasKey key) items)) next ≡ next k
+    → firstCut (hasKey key) items ≡ some k
+    → bind (needed 5 (firstCut (hasKey key) items)) next ≡ next k
 unfolding needed
-needed-yes key items k next e = bind-yes (needed 5 (cut (hasKey key) items)) next (ap (needed 5) e)
+needed-yes key items k next e = bind-yes (needed 5 (firstCut (hasKey key) items)) next (ap (needed 5) e)
 
 -- what is left of a reference that loses one
 less-length : (r : Ref) → T (known (r .kind)) → length (r .fields) ≡ fieldCount (r .kind) → 1 ≤ r .weight
@@ -177,7 +177,7 @@ module _ (sheet : List ℕ) (items : List Item) (S : SheetFacts sheet items) (m 
   fits = length-at sheet items S m c b H
 
   -- where it stands, it is counted
-  inline-counts : (x : Cut Ref) → cut (named (m .kind) (m .fields)) (b .refs) ≡ some x
+  inline-counts : (x : Cut Ref) → firstCut (named (m .kind) (m .fields)) (b .refs) ≡ some x
       → (x .hit .weight ≡ count m items) × (inline m c ≢ 0) × (1 ≤ count m items)
   inline-counts x e =
       let g = cut-some (named (m .kind) (m .fields)) (b .refs) e in
@@ -189,7 +189,7 @@ module _ (sheet : List ℕ) (items : List Item) (S : SheetFacts sheet items) (m 
       (omega arith, λ (z : inline m c ≡ 0). omega arith, omega arith)
 
   item-counts : (field : ℕ) → m .fields ≡ one field → eqb (m .kind) 178 ≡ false → (k : Cut Item)
-      → needed 5 (cut (hasKey (keyOf (c .hit .key .objectid) (m .kind) field)) items) ≡ accepted k → 1 ≤ count m items
+      → needed 5 (firstCut (hasKey (keyOf (c .hit .key .objectid) (m .kind) field)) items) ≡ accepted k → 1 ≤ count m items
   item-counts field fs no178 k e =
       let (same, key) = key-found (keyOf (c .hit .key .objectid) (m .kind) field) items k e in
       let g : T (good (k .hit)) = all-mid good (k .front) (k .hit) (k .back) (rw same at (S .balance .goods)) in
@@ -204,7 +204,7 @@ module _ (sheet : List ℕ) (items : List Item) (S : SheetFacts sheet items) (m 
       omega arith
 
   data-counts : m .kind ≡ 178 → (at : ℕ) (k : Cut Item)
-      → needed 5 (cut (hasKey (keyOf (c .hit .key .objectid) 178 at)) items) ≡ accepted k
+      → needed 5 (firstCut (hasKey (keyOf (c .hit .key .objectid) 178 at)) items) ≡ accepted k
       → words 3 (k .hit .bytes) ≡ m .fields → 1 ≤ count m items
   data-counts is at k e ws =
       let (same, key) = key-found (keyOf (c .hit .key .objectid) 178 at) items k e in
@@ -219,7 +219,7 @@ module _ (sheet : List ℕ) (items : List Item) (S : SheetFacts sheet items) (m 
       omega arith
 
   -- where it does not stand inline, it has an item
-  apart-counts : cut (named (m .kind) (m .fields)) (b .refs) ≡ none → 1 ≤ count m items → (inline m c ≡ 0) × (1 ≤ apart m c)
+  apart-counts : firstCut (named (m .kind) (m .fields)) (b .refs) ≡ none → 1 ≤ count m items → (inline m c ≡ 0) × (1 ≤ apart m c)
   apart-counts e n =
       let z : inline m c ≡ 0 = inline-none m items c b H (S .balance) (S .tidied) (cut-none (named (m .kind) (m .fields)) (b .refs) e) in
       let cs = count-split m items c b H (S .balance) (S .tidied) in
@@ -249,7 +249,7 @@ module _ (sheet : List ℕ) (items : List Item) (S : SheetFacts sheet items) (m 
       )
 
   -- one count off inline
-  less-gives : (x : Cut Ref) → cut (named (m .kind) (m .fields)) (b .refs) ≡ some x → (gone : ℕ)
+  less-gives : (x : Cut Ref) → firstCut (named (m .kind) (m .fields)) (b .refs) ≡ some x → (gone : ℕ)
       → cond (eqb (x .hit .weight) 1) (1 + payloadLength (m .kind)) 0 ≡ gone
       → (put : List ℕ → Answer (List Item)) → ((body : List ℕ) → put body ≡ accepted (putBack c body))
       → (other : Answer (List Item))
@@ -276,7 +276,7 @@ module _ (sheet : List ℕ) (items : List Item) (S : SheetFacts sheet items) (m 
       )
 
   -- not inline: the item decides
-  none-way : cut (named (m .kind) (m .fields)) (b .refs) ≡ none → (put : List ℕ → Answer (List Item)) (other : Answer (List Item))
+  none-way : firstCut (named (m .kind) (m .fields)) (b .refs) ≡ none → (put : List ℕ → Answer (List Item)) (other : Answer (List Item))
       → ifAbsent (bind (dropInline (c .hit .key .kind) (c .hit .bytes) (m .kind) (m .fields)) put) other ≡ other
   none-way e put other =
       absent-way (dropInline (c .hit .key .kind) (c .hit .bytes) (m .kind) (m .fields)) put other
@@ -314,17 +314,17 @@ module _ (sheet : List ℕ) (extent : ℕ) (name : BlockRef) (items : List Item)
 
   block-counts : (after : List Item) → dropTreeRef name false items c ≡ accepted after → 1 ≤ count block-name items
   unfolding dropTreeRef dropInlineTreeRef deleted
-  block-counts after e = go (cut (named 176 (one (name .tree))) (b .refs)) refl
+  block-counts after e = go (firstCut (named 176 (one (name .tree))) (b .refs)) refl
     where
-      go : (o : Option (Cut Ref)) → cut (named 176 (one (name .tree))) (b .refs) ≡ o → 1 ≤ count block-name items
+      go : (o : Option (Cut Ref)) → firstCut (named 176 (one (name .tree))) (b .refs) ≡ o → 1 ≤ count block-name items
       go (some x) q = inline-counts sheet items S block-name block-formed c b H x q .2
       go none q =
           let h₁ = bind-ok (deleted (keyOf (c .hit .key .objectid) 176 (name .tree)) items) _
           (sym (none-way sheet items S block-name block-formed c b H q block-put block-item) ∙ e) in
-          let h₂ = bind-ok (needed 5 (cut (hasKey (keyOf (c .hit .key .objectid) 176 (name .tree))) items)) _ (h₁ .1) in
+          let h₂ = bind-ok (needed 5 (firstCut (hasKey (keyOf (c .hit .key .objectid) 176 (name .tree))) items)) _ (h₁ .1) in
           item-counts sheet items S block-name block-formed c b H (name .tree) refl refl (h₂ .0) (h₂ .1)
 
-  block-by-item : cut (named 176 (one (name .tree))) (b .refs) ≡ none → inline block-name c ≡ 0 → (k : Cut Item)
+  block-by-item : firstCut (named 176 (one (name .tree))) (b .refs) ≡ none → inline block-name c ≡ 0 → (k : Cut Item)
       → Own block-name items k (sharedCount (k .hit))
       → k .hit .key ≡ keyOf extent 176 (name .tree) → length (k .hit .bytes) ≡ 0
       → Gives sheet (leb 2) (freed block-name c 9 21) c (dropTreeRef name false items c)
@@ -335,7 +335,7 @@ module _ (sheet : List ℕ) (extent : ℕ) (name : BlockRef) (items : List Item)
       let long = read-long (c .hit .key .kind) d b (H .reads) in
       let d′ : List ℕ = written 0 (leBytes 8 (totalOf d - 1)) d in
       let key : Key = keyOf (c .hit .key .objectid) 176 (name .tree) in
-      let at : cut (hasKey key) items ≡ some k =
+      let at : firstCut (hasKey key) items ≡ some k =
       key-at sheet items S k (O .same) key (q ∙ ap (λ (x : ℕ). keyOf x 176 (name .tree)) (sym (H .extent))) in
       let g : freed block-name c 9 21 ≡ 21 = cond-yes {A = ℕ} (eqb (inline block-name c) 0) 21 9 (yes-eqb z) in
       let (after, r, short) = kept sheet items S block-name c b H k (O .same) nr [] tt tt (freed block-name c 9 21) (omega arith)
@@ -353,7 +353,7 @@ module _ (sheet : List ℕ) (extent : ℕ) (name : BlockRef) (items : List Item)
 
   block-gives : 1 ≤ count block-name items → Gives sheet (leb 2) (freed block-name c 9 21) c (dropTreeRef name false items c)
   unfolding dropTreeRef dropInlineTreeRef flagged bind counted countPosition payloadLength rowIn weightOf
-  block-gives n = go (cut (named 176 (one (name .tree))) (b .refs)) refl
+  block-gives n = go (firstCut (named 176 (one (name .tree))) (b .refs)) refl
     where
       -- a block reference weighs 1
       weighs : (x : Cut Ref) → Found (named 176 (one (name .tree))) (b .refs) x → x .hit .weight ≡ 1
@@ -362,7 +362,7 @@ module _ (sheet : List ℕ) (extent : ℕ) (name : BlockRef) (items : List Item)
           let w = whole-out (x .hit) (all-mid whole (x .front) (x .hit) (x .back) (rw (f .same) at (H .sound .wholes))) in
           w .weightFixed (subst (λ (z : ℕ). T (not (counted z))) (sym (k .0)) tt) ∙ ap (λ (z : ℕ). weightOf z 0) (k .0)
 
-      go : (o : Option (Cut Ref)) → cut (named 176 (one (name .tree))) (b .refs) ≡ o
+      go : (o : Option (Cut Ref)) → firstCut (named 176 (one (name .tree))) (b .refs) ≡ o
           → Gives sheet (leb 2) (freed block-name c 9 21) c (dropTreeRef name false items c)
       go (some x) e =
           let ne = inline-counts sheet items S block-name block-formed c b H x e .1 in
@@ -448,13 +448,13 @@ module _ (sheet : List ℕ) (extent : ℕ) (name : DataRef) (items : List Item) 
   data-put body = accepted (putBack c body)
 
   abbrev data-key : Key
-  data-key = keyOf (c .hit .key .objectid) 178 (placeOf 178 (triple name))
+  data-key = keyOf (c .hit .key .objectid) 178 (rankOf 178 (triple name))
 
   abbrev data-left : Cut Item → List ℕ → Answer (List Item)
   data-left k body = bind (droppedAt k (dropKeyedDataRef (k .hit .bytes) name)) (λ others. replaced (c .hit .key) body others)
 
   abbrev data-item : Answer (List Item)
-  data-item = bind (needed 5 (cut (hasKey data-key) items)) (λ k. bind (lowerTotal (c .hit .bytes)) (data-left k))
+  data-item = bind (needed 5 (firstCut (hasKey data-key) items)) (λ k. bind (lowerTotal (c .hit .bytes)) (data-left k))
 
   abbrev data-gone : ℕ
   data-gone = cond (eqb (count data-name items) 1) (freed data-name c 29 49) 0
@@ -464,22 +464,22 @@ module _ (sheet : List ℕ) (extent : ℕ) (name : DataRef) (items : List Item) 
 
   data-stands : (after : List Item) → dropDataRef name items c ≡ accepted after → 1 ≤ count data-name items
   unfolding dropDataRef dropInlineDataRef
-  data-stands after e = go (cut (named 178 (triple name)) (b .refs)) refl
+  data-stands after e = go (firstCut (named 178 (triple name)) (b .refs)) refl
     where
-      go : (o : Option (Cut Ref)) → cut (named 178 (triple name)) (b .refs) ≡ o → 1 ≤ count data-name items
+      go : (o : Option (Cut Ref)) → firstCut (named 178 (triple name)) (b .refs) ≡ o → 1 ≤ count data-name items
       go (some x) q = inline-counts sheet items S data-name data-formed c b H x q .2
       go none q =
-          let h₁ = bind-ok (needed 5 (cut (hasKey data-key) items)) _
+          let h₁ = bind-ok (needed 5 (firstCut (hasKey data-key) items)) _
           (sym (none-way sheet items S data-name data-formed c b H q data-put data-item) ∙ e) in
           let h₂ = bind-ok (lowerTotal (c .hit .bytes)) _ (h₁ .2) in
           let h₃ = bind-ok (droppedAt (h₁ .0) (dropKeyedDataRef (h₁ .0 .hit .bytes) name)) _ (h₂ .2) in
-          data-counts sheet items S data-name data-formed c b H refl (placeOf 178 (triple name)) (h₁ .0) (h₁ .1)
+          data-counts sheet items S data-name data-formed c b H refl (rankOf 178 (triple name)) (h₁ .0) (h₁ .1)
           (dropped-triple (h₁ .0) name (h₃ .0) (h₃ .1))
 
   -- the item's own drop, with what stands in its place
-  data-by-item : cut (named 178 (triple name)) (b .refs) ≡ none → inline data-name c ≡ 0 → (k : Cut Item)
+  data-by-item : firstCut (named 178 (triple name)) (b .refs) ≡ none → inline data-name c ≡ 0 → (k : Cut Item)
       → Own data-name items k (keyedCount (k .hit .bytes))
-      → k .hit .key ≡ keyOf extent 178 (placeOf 178 (triple name)) → words 3 (k .hit .bytes) ≡ triple name
+      → k .hit .key ≡ keyOf extent 178 (rankOf 178 (triple name)) → words 3 (k .hit .bytes) ≡ triple name
       → length (k .hit .bytes) ≡ 28
       → Gives sheet (leb 2) data-gone c (dropDataRef name items c)
   unfolding dropDataRef dropInlineDataRef dropKeyedDataRef droppedAt bodyFits dataFits isRecord
@@ -534,9 +534,9 @@ module _ (sheet : List ℕ) (extent : ℕ) (name : DataRef) (items : List Item) 
 
       finish : Left (eqb w 1) → Gives sheet (leb 2) data-gone c (dropDataRef name items c)
       finish (others, after, dr, r, short) =
-          let at : cut (hasKey data-key) items ≡ some k =
+          let at : firstCut (hasKey data-key) items ≡ some k =
           key-at sheet items S k (O .same) data-key
-          (q ∙ ap (λ (x : ℕ). keyOf x 178 (placeOf 178 (triple name))) (sym (H .extent))) in
+          (q ∙ ap (λ (x : ℕ). keyOf x 178 (rankOf 178 (triple name))) (sym (H .extent))) in
           let g : cond (eqb w 1) 49 0 ≡ data-gone =
           ap (λ (x : ℕ). cond (eqb x 1) 49 0) (sym (O .counts))
           ∙ ap (λ (x : ℕ). cond (eqb (count data-name items) 1) x 0)
@@ -552,9 +552,9 @@ module _ (sheet : List ℕ) (extent : ℕ) (name : DataRef) (items : List Item) 
 
   data-gives : 1 ≤ count data-name items → Gives sheet (leb 2) data-gone c (dropDataRef name items c)
   unfolding dropDataRef dropInlineDataRef payloadLength rowIn
-  data-gives n = go (cut (named 178 (triple name)) (b .refs)) refl
+  data-gives n = go (firstCut (named 178 (triple name)) (b .refs)) refl
     where
-      go : (o : Option (Cut Ref)) → cut (named 178 (triple name)) (b .refs) ≡ o
+      go : (o : Option (Cut Ref)) → firstCut (named 178 (triple name)) (b .refs) ≡ o
           → Gives sheet (leb 2) data-gone c (dropDataRef name items c)
       go (some x) e =
           let (w, ne, _) = inline-counts sheet items S data-name data-formed c b H x e in
@@ -640,7 +640,7 @@ module _ (sheet : List ℕ) (extent : ℕ) (name : SharedRef) (sk : T (sharedKin
 
   abbrev shared-by-key : Answer (List Item)
   shared-by-key =
-      bind (needed 5 (cut (hasKey shared-key) items)) (λ k.
+      bind (needed 5 (firstCut (hasKey shared-key) items)) (λ k.
       bind (reduceTotal (c .hit .bytes) (sharedCount (k .hit))) (λ body. replaced (c .hit .key) body (without k)))
 
   abbrev shared-gone : ℕ
@@ -663,7 +663,7 @@ module _ (sheet : List ℕ) (extent : ℕ) (name : SharedRef) (sk : T (sharedKin
     count = x .hit .weight;
   }))
 
-  taken : (o : Option (Cut Ref)) → cut is-shared (b .refs) ≡ o
+  taken : (o : Option (Cut Ref)) → firstCut is-shared (b .refs) ≡ o
       → takeInlineShared (c .hit .key .kind) (c .hit .bytes) name ≡ out-of o
   unfolding takeInlineShared
   taken o e =
@@ -671,21 +671,21 @@ module _ (sheet : List ℕ) (extent : ℕ) (name : SharedRef) (sk : T (sharedKin
       ∙ on-body (c .hit .key .kind) (c .hit .bytes) b _ (fits sheet items S shared-name shared-formed c b H) (H .reads)
       ∙ ap out-of e
 
-  shared-none : cut is-shared (b .refs) ≡ none → dropSharedRef name items c ≡ shared-by-key
+  shared-none : firstCut is-shared (b .refs) ≡ none → dropSharedRef name items c ≡ shared-by-key
   unfolding dropSharedRef found bind
   shared-none e = absent-way (takeInlineShared (c .hit .key .kind) (c .hit .bytes) name) shared-put shared-by-key (taken none e)
 
   shared-stands : (after : List Item) → dropSharedRef name items c ≡ accepted after → 1 ≤ count shared-name items
-  shared-stands after e = go (cut is-shared (b .refs)) refl
+  shared-stands after e = go (firstCut is-shared (b .refs)) refl
     where
-      go : (o : Option (Cut Ref)) → cut is-shared (b .refs) ≡ o → 1 ≤ count shared-name items
+      go : (o : Option (Cut Ref)) → firstCut is-shared (b .refs) ≡ o → 1 ≤ count shared-name items
       go (some x) q = inline-counts sheet items S shared-name shared-formed c b H x q .2
       go none q =
-          let h = bind-ok (needed 5 (cut (hasKey shared-key) items)) _ (sym (shared-none q) ∙ e) in
+          let h = bind-ok (needed 5 (firstCut (hasKey shared-key) items)) _ (sym (shared-none q) ∙ e) in
           item-counts sheet items S shared-name shared-formed c b H (name .parent) refl (not-178 (name .kind) sk) (h .0) (h .1)
 
   -- the body without the reference, then with its total lowered
-  shared-inline : (x : Cut Ref) → cut is-shared (b .refs) ≡ some x → Gives sheet unasked shared-gone c (dropSharedRef name items c)
+  shared-inline : (x : Cut Ref) → firstCut is-shared (b .refs) ≡ some x → Gives sheet unasked shared-gone c (dropSharedRef name items c)
   unfolding dropSharedRef found bind
   shared-inline x e =
       let f = cut-some is-shared (b .refs) e in
@@ -712,7 +712,7 @@ module _ (sheet : List ℕ) (extent : ℕ) (name : SharedRef) (sk : T (sharedKin
         shorter-put sheet items S shared-name shared-formed c b H body shared-gone (omega arith),
       )
 
-  shared-by-item : cut is-shared (b .refs) ≡ none → inline shared-name c ≡ 0 → (k : Cut Item)
+  shared-by-item : firstCut is-shared (b .refs) ≡ none → inline shared-name c ≡ 0 → (k : Cut Item)
       → Own shared-name items k (sharedCount (k .hit))
       → k .hit .key ≡ keyOf extent (name .kind) (name .parent) → length (k .hit .bytes) ≡ cond (eqb (name .kind) 184) 4 0
       → Gives sheet unasked shared-gone c (dropSharedRef name items c)
@@ -725,7 +725,7 @@ module _ (sheet : List ℕ) (extent : ℕ) (name : SharedRef) (sk : T (sharedKin
       let tl : totalOf d ≡ b .total = read-total (c .hit .key .kind) d b (H .reads) in
       let wt : w ≤ totalOf d = omega (arith, shared-most, O .counts) in
       let d′ : List ℕ = written 0 (leBytes 8 (totalOf d - w)) d in
-      let at : cut (hasKey shared-key) items ≡ some k =
+      let at : firstCut (hasKey shared-key) items ≡ some k =
       key-at sheet items S k (O .same) shared-key (q ∙ ap (λ (x : ℕ). keyOf x (name .kind) (name .parent)) (sym (H .extent))) in
       let fr : shared-gone ≡ sharedItem (name .kind) =
       cond-yes {A = ℕ} (eqb (inline shared-name c) 0) (sharedItem (name .kind)) (sharedSize (name .kind)) (yes-eqb z) in
@@ -742,9 +742,9 @@ module _ (sheet : List ℕ) (extent : ℕ) (name : SharedRef) (sk : T (sharedKin
       )
 
   shared-gives : 1 ≤ count shared-name items → Gives sheet unasked shared-gone c (dropSharedRef name items c)
-  shared-gives n = go (cut is-shared (b .refs)) refl
+  shared-gives n = go (firstCut is-shared (b .refs)) refl
     where
-      go : (o : Option (Cut Ref)) → cut is-shared (b .refs) ≡ o → Gives sheet unasked shared-gone c (dropSharedRef name items c)
+      go : (o : Option (Cut Ref)) → firstCut is-shared (b .refs) ≡ o → Gives sheet unasked shared-gone c (dropSharedRef name items c)
       go (some x) e = shared-inline x e
       go none e =
           let (z, a) = apart-counts sheet items S shared-name shared-formed c b H e n in

@@ -8,7 +8,7 @@ use mathlib.Core.Option.{Option, none, some}
 use mathlib.Core.List.{List, [], _∷_, _++_}
 use lib.Dec.{T, eqb}
 use mir.Facts.{and-yes, yes-and, T-not, not-T}
-use Rattle.fields.specs.Lists.{sum, all, Cut, cut}
+use Rattle.fields.specs.Lists.{sum, all, Cut, firstCut}
 use Rattle.fields.specs.Numbers.{areBytes}
 use Rattle.fields.proofs.Lists.{cond-yes, cond-no, some-inj, all-map, all-mid, all-rest, all-put, Found, cut-some}
 use Rattle.format.specs.declared.Key.{Key}
@@ -191,9 +191,9 @@ module _ (m : Name) (items : List Item) (c : Cut Item) (b : Body) (H : Here m it
   unfolding replaced
   finish n within wipe o new nr half tj sums moves nonempty free gone after e =
       let js : List Item = k .front ++ (o ++ k .back) in
-      let h = bind-ok (needed 5 (cut (hasKey (c .hit .key)) js)) _ e in
+      let h = bind-ok (needed 5 (firstCut (hasKey (c .hit .key)) js)) _ e in
       let c′ : Cut Item = h .0 in
-      let f = cut-some (hasKey (c .hit .key)) js (needed-ok 5 (cut (hasKey (c .hit .key)) js) (h .1)) in
+      let f = cut-some (hasKey (c .hit .key)) js (needed-ok 5 (firstCut (hasKey (c .hit .key)) js) (h .1)) in
       let r : c .hit ≡ c′ .hit = same-record o nr c′ f in
       let S = H .sound in
       let b′ : Body = bodyWith b (b .total - n) (b .refs) in

@@ -10,7 +10,7 @@ use lib.Dec.{T, leb, eqb, leb→le, le→leb}
 use lib.ListN.{length, length-append}
 use mir.Facts.{and-yes, yes-and, T-not, not-T, yes-eqb}
 use Rattle.format.proofs.Bodies.{on-body}
-use Rattle.fields.specs.Lists.{sum, all, same, Cut, cut}
+use Rattle.fields.specs.Lists.{sum, all, same, Cut, firstCut}
 use Rattle.fields.specs.Numbers.{leBytes}
 use Rattle.fields.specs.Parts.{written}
 use Rattle.fields.proofs.Lists.{cond-no, some-inj, no-some, sum-append, all-map, all-both, all-left, all-right, all-mid, all-rest, cut-some, cut-none}
@@ -50,17 +50,17 @@ ifAbsent-ask false n a other = refl
 -- one count off inline
 pub inline-found : (type : ℕ) (d : List ℕ) (b : Body) (kind : ℕ) (fields : List ℕ) (x : Cut Ref) → length d ≤ 65535
     → readBody type d ≡ accepted b
-    → cut (named kind fields) (b .refs) ≡ some x
+    → firstCut (named kind fields) (b .refs) ≡ some x
     → dropInline type d kind fields
     ≡ ask (leb 2 (b .total)) 13 (accepted (bodyBytes (bodyWith b (b .total - 1) (x .front ++ (less (x .hit) 1 ++ x .back)))))
 unfolding dropInline loweredByOne found bind
 inline-found type d b kind fields x l r e =
-    on-body type d b _ l r ∙ bind-yes (found (cut (named kind fields) (b .refs))) _ (ap found e)
+    on-body type d b _ l r ∙ bind-yes (found (firstCut (named kind fields) (b .refs))) _ (ap found e)
     ∙ bind-ask (leb 2 (b .total)) 13 (accepted (b .total - 1)) _
 
 pub inline-missing : (type : ℕ) (d : List ℕ) (b : Body) (kind : ℕ) (fields : List ℕ) → length d ≤ 65535
     → readBody type d ≡ accepted b
-    → cut (named kind fields) (b .refs) ≡ none → dropInline type d kind fields ≡ absent
+    → firstCut (named kind fields) (b .refs) ≡ none → dropInline type d kind fields ≡ absent
 unfolding dropInline found bind
 inline-missing type d b kind fields l r e = on-body type d b _ l r ∙ ap (λ (o : Option (Cut Ref)). bind (found o) (λ c.
     bind (loweredByOne (b .total)) (λ total.
@@ -131,10 +131,10 @@ first-none p (x ∷ l) t =
     let h = and-yes (not (p x)) _ t in
     cond-no (p x) (some x) (first p l) (h .0) ∙ first-none p l (h .1)
 
-first-cut : {A : Type 0} (p : A → Bool) (l : List A) (x : A) → first p l ≡ some x → (c : Cut A) × (cut p l ≡ some c) × (c .hit ≡ x)
-first-cut {A} p l x e = go (cut p l) refl
+first-cut : {A : Type 0} (p : A → Bool) (l : List A) (x : A) → first p l ≡ some x → (c : Cut A) × (firstCut p l ≡ some c) × (c .hit ≡ x)
+first-cut {A} p l x e = go (firstCut p l) refl
   where
-    go : (o : Option (Cut A)) → cut p l ≡ o → (c : Cut A) × (cut p l ≡ some c) × (c .hit ≡ x)
+    go : (o : Option (Cut A)) → firstCut p l ≡ o → (c : Cut A) × (firstCut p l ≡ some c) × (c .hit ≡ x)
     go none q = no-some (sym (first-none p l (cut-none p l q)) ∙ e)
     go (some c) q = (c, q, some-inj (sym (first-found p l c (cut-some p l q)) ∙ e))
 
@@ -163,8 +163,8 @@ module _ (sheet : List ℕ) (items : List Item) (S : SheetFacts sheet items) (m 
   unfolding replaced needed dataFits
   kept o t fo gone e lo d ld =
       let others : List Item = k .front ++ (o ++ k .back) in
-      let (c′, cut′, hit′) = first-cut (hasKey (c .hit .key)) others (c .hit) (kept-first o t) in
-      let f = cut-some (hasKey (c .hit .key)) others cut′ in
+      let (c′, firstCut′, hit′) = first-cut (hasKey (c .hit .key)) others (c .hit) (kept-first o t) in
+      let f = cut-some (hasKey (c .hit .key)) others firstCut′ in
       let fits : T (all (λ i. dataFits (i .bytes)) (k .front ++ k .hit ∷ k .back)) = rw ek at (S .fit) in
       let fits′ : T (all (λ i. dataFits (i .bytes)) others) =
       all-both (λ i. dataFits (i .bytes)) (k .front) (o ++ k .back)
@@ -189,13 +189,13 @@ module _ (sheet : List ℕ) (items : List Item) (S : SheetFacts sheet items) (m 
       let n₅ = ap length ek ∙ length-append (k .front) (k .hit ∷ k .back) in
       let n₆ = S .few in (
         putBack c′ d,
-        bind-yes (needed 5 (cut (hasKey (c .hit .key)) others)) _ (ap (needed 5) cut′),
+        bind-yes (needed 5 (firstCut (hasKey (c .hit .key)) others)) _ (ap (needed 5) firstCut′),
         record { size = omega arith; few = omega arith; fit = fit-put c′ d at (omega arith) },
       )
 
 -- the key of an item of a sheet finds it
 pub key-at : (sheet : List ℕ) (items : List Item) → SheetFacts sheet items → (k : Cut Item) → items ≡ k .front ++ k .hit ∷ k .back
     → (key : Key) → k .hit .key ≡ key
-    → cut (hasKey key) items ≡ some k
+    → firstCut (hasKey key) items ≡ some k
 key-at sheet items S k e key q =
-    ap₂ (λ (x : Key) (l : List Item). cut (hasKey x) l) (sym q) e ∙ cut-at-key (k .front) (k .hit) (k .back) (rw e at (S .rise))
+    ap₂ (λ (x : Key) (l : List Item). firstCut (hasKey x) l) (sym q) e ∙ cut-at-key (k .front) (k .hit) (k .back) (rw e at (S .rise))

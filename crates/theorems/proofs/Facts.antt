@@ -17,7 +17,7 @@ use Rattle.fields.proofs.Lists.{T-eq, cond-yes, cond-no, sum-append, all-both}
 use Rattle.fields.proofs.Parts.{length-part}
 use Rattle.fields.proofs.Numbers.{areBytes-part, le-bound}
 use Rattle.format.specs.Questions.{Answer, refused, absent, remove, accepted}
-use Rattle.format.specs.References.{known, payloadLength, countPosition, counted, fieldCount, rowIn, weightOf, Ref, ref, refAt, Body, readBody, bodyBytes, place}
+use Rattle.format.specs.References.{known, payloadLength, countPosition, counted, fieldCount, rowIn, weightOf, Ref, makeRef, refAt, Body, readBody, bodyBytes, rank}
 use Rattle.format.specs.Bodies.{named, one, keyedCount}
 use Rattle.format.specs.Items.{Item, withBytes}
 use Rattle.format.specs.Apply.{isRecord, recordOf}
@@ -189,14 +189,14 @@ plain-entry i k q t = go k
 
     rest : View
     rest =
-        cond (eqb (i .key .kind) 184) (inForm (eqb (length (i .bytes)) 4) (ref 184 (one (i .key .offset)) (le (i .bytes))))
-        (inForm (eqb (length (i .bytes)) 0) (ref (i .key .kind) (one (i .key .offset)) 1))
+        cond (eqb (i .key .kind) 184) (inForm (eqb (length (i .bytes)) 4) (makeRef 184 (one (i .key .offset)) (le (i .bytes))))
+        (inForm (eqb (length (i .bytes)) 0) (makeRef (i .key .kind) (one (i .key .offset)) 1))
 
     fixed : eqb (i .key .kind) 184 ≡ false → eqb (i .key .kind) 172 ≡ false
         → itemEntries i ≡ only (record { extent = i .key .objectid; kind = i .key .kind; fields = one (i .key .offset) }) (some (cond (eqb (i .key .kind) 184) (le (i .bytes)) 1))
     fixed p r =
         let n₂ : T (not (eqb (i .key .kind) 184)) = subst (λ (c : Bool). T (not c)) (sym p) tt in
-        form-entry i (eqb (length (i .bytes)) 0) (ref (i .key .kind) (one (i .key .offset)) 1) k
+        form-entry i (eqb (length (i .bytes)) 0) (makeRef (i .key .kind) (one (i .key .offset)) 1) k
         (cond-no (eqb (i .key .kind) 178) _ _ n₁ ∙ cond-no (eqb (i .key .kind) 184) _ _ n₂) t r
         ∙ ap (λ (w : ℕ). only (record { extent = i .key .objectid; kind = i .key .kind; fields = one (i .key .offset) }) (some w))
         (sym (cond-no (eqb (i .key .kind) 184) (le (i .bytes)) 1 n₂))
@@ -208,14 +208,14 @@ plain-entry i k q t = go k
     go (is182 e) = fixed (rw e refl) (rw e refl)
     go (is184 e) =
         let n₂ : T (eqb (i .key .kind) 184) = yes-eqb e in
-        form-entry i (eqb (length (i .bytes)) 4) (ref 184 (one (i .key .offset)) (le (i .bytes))) k
+        form-entry i (eqb (length (i .bytes)) 4) (makeRef 184 (one (i .key .offset)) (le (i .bytes))) k
         (cond-no (eqb (i .key .kind) 178) _ _ n₁ ∙ cond-yes (eqb (i .key .kind) 184) _ _ n₂) t refl
         ∙ ap₂ (λ (z w : ℕ). only (record { extent = i .key .objectid; kind = z; fields = one (i .key .offset) }) (some w))
         (sym e)
         (sym (cond-yes (eqb (i .key .kind) 184) (le (i .bytes)) 1 n₂))
 
 -- of 178: three words and a count
-pub refAt-178 : (bytes : List ℕ) → refAt 178 bytes ≡ ref 178 (words 3 bytes) (keyedCount bytes)
+pub refAt-178 : (bytes : List ℕ) → refAt 178 bytes ≡ makeRef 178 (words 3 bytes) (keyedCount bytes)
 unfolding refAt keyedCount fieldCount payloadLength counted countPosition rowIn weightOf
 refAt-178 bytes = refl
 
@@ -225,18 +225,18 @@ unfolding viewRefItem
 data-entry i e t =
     let n₁ : T (eqb (i .key .kind) 178) = yes-eqb e in
     let d : List ℕ = i .bytes in
-    let f : Bool = eqb (length d) 28 && eqb (i .key .offset) (place (refAt 178 d)) in
-    form-entry i f (ref 178 (words 3 d) (keyedCount d)) (is178 e)
+    let f : Bool = eqb (length d) 28 && eqb (i .key .offset) (rank (refAt 178 d)) in
+    form-entry i f (makeRef 178 (words 3 d) (keyedCount d)) (is178 e)
     (cond-yes (eqb (i .key .kind) 178) _ _ n₁ ∙ ap (inForm f) (refAt-178 d)) t refl
 
 -- and its form: 28 bytes, at the hash of its words
 pub data-good : (i : Item) → i .key .kind ≡ 178 → length (i .bytes) ≡ 28
-    → i .key .offset ≡ place (ref 178 (words 3 (i .bytes)) (keyedCount (i .bytes))) → T (good i)
+    → i .key .offset ≡ rank (makeRef 178 (words 3 (i .bytes)) (keyedCount (i .bytes))) → T (good i)
 unfolding viewRefItem inForm wellFormed
 data-good i e l o =
     let d : List ℕ = i .bytes in
-    let f : Bool = eqb (length d) 28 && eqb (i .key .offset) (place (refAt 178 d)) in
-    let o′ : i .key .offset ≡ place (refAt 178 d) = o ∙ ap place (sym (refAt-178 d)) in
+    let f : Bool = eqb (length d) 28 && eqb (i .key .offset) (rank (refAt 178 d)) in
+    let o′ : i .key .offset ≡ rank (refAt 178 d) = o ∙ ap rank (sym (refAt-178 d)) in
     let v : viewOf i ≡ reference (refAt 178 d) =
     view-item i (is178 e) ∙ cond-yes (eqb (i .key .kind) 178) _ _ (yes-eqb e)
     ∙ cond-yes f _ _ (yes-and (eqb (length d) 28) _ (yes-eqb l) (yes-eqb o′)) in

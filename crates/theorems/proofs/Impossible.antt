@@ -10,7 +10,7 @@ use native.Mathlib.Omega.{arith}
 use lib.Dec.{T, leb, ltb, eqb, le→leb, ltb→lt, lt→ltb}
 use lib.ListN.{length}
 use mir.Facts.{and-yes}
-use Rattle.fields.specs.Lists.{sum, all, same, Cut, cut}
+use Rattle.fields.specs.Lists.{sum, all, same, Cut, firstCut}
 use Rattle.fields.specs.Numbers.{leBytes, words, areBytes}
 use Rattle.fields.specs.Parts.{written}
 use Rattle.fields.proofs.Lists.{all-map, all-mid}
@@ -23,8 +23,8 @@ use Rattle.format.specs.declared.Key.{Key}
 use Rattle.format.specs.declared.Change.{Change}
 use Rattle.format.specs.declared.Change.the-variants.{AddBlock, AddData, AddShared, DropBlock, DropData, DropShared}
 use Rattle.format.specs.Questions.{Answer, refused, absent, remove, accepted, ask, bind, needed, found, ifAbsent, also, held, TakenOut}
-use Rattle.format.specs.References.{counted, Ref, Body, bodyWith, totalOf, readBody, bodyBytes, placeOf}
-use Rattle.format.specs.Bodies.{named, one, triple, bodyFits, sharedKind, onBody, onHead, raisedBy, loweredByOne, reducedBy, onTotal, lowerTotal, reduceTotal, dropInline, dropInlineTreeRef, dropInlineDataRef, takeInlineShared, keyedCount, dropKeyedDataRef, Spot, isGap, standingWeight, addAt, addInlineTreeRef, addInlineData, addInlineShared}
+use Rattle.format.specs.References.{counted, Ref, Body, bodyWith, totalOf, readBody, bodyBytes, rankOf}
+use Rattle.format.specs.Bodies.{named, one, triple, bodyFits, sharedKind, onBody, onHead, raisedBy, loweredByOne, reducedBy, onTotal, lowerTotal, reduceTotal, dropInline, dropInlineTreeRef, dropInlineDataRef, takeInlineShared, keyedCount, dropKeyedDataRef, RefPosition, isGap, standingWeight, addAt, addInlineTreeRef, addInlineData, addInlineShared}
 use Rattle.format.specs.Items.{Item, keyOf, readSheet, onSheet, nodesizeFits, sheetHolds, heldSheet}
 use Rattle.format.specs.Sheets.{hasKey, deleted}
 use Rattle.format.specs.Apply.{inlineLimit, recordOf, onRecord, replaced, keyedBody, applyKeyedAdd, sharedBody, applySharedAdd, flagged, dropTreeRef}
@@ -166,14 +166,14 @@ unfolding reduceTotal
 clean-reduceTotal type d b amount r h = clean-onTotal type d b (reducedBy amount) r (clean-reduced amount (b .total) h)
 
 -- 12: what passes 11 is small
-clean-addAt : (b : Body) (r : Ref) (spot : Spot) → b .total ≤ 4294967296 * 262144 → T (clean (addAt b r spot))
+clean-addAt : (b : Body) (r : Ref) (position : RefPosition) → b .total ≤ 4294967296 * 262144 → T (clean (addAt b r position))
 unfolding addAt raisedBy allowed
-clean-addAt b r spot h =
-    clean-ask (counted (r .kind) || isGap spot) 9 _ tt (λ _.
+clean-addAt b r position h =
+    clean-ask (counted (r .kind) || isGap position) 9 _ tt (λ _.
     clean-ask (counted (r .kind) || eqb (r .weight) 1) 10 _ tt (λ _.
-    clean-ask (ltb (standingWeight spot + r .weight) (2 ^ 32)) 11 _ tt (λ e.
+    clean-ask (ltb (standingWeight position + r .weight) (2 ^ 32)) 11 _ tt (λ e.
     clean-bind (ask (ltb (b .total + r .weight) (2 ^ 64)) 12 (accepted (b .total + r .weight))) _
-    (let l : standingWeight spot + r .weight < 4294967296 = ltb→lt _ _ e in
+    (let l : standingWeight position + r .weight < 4294967296 = ltb→lt _ _ e in
     let k : b .total + r .weight < 18446744073709551616 = omega arith in
     clean-sure (ltb (b .total + r .weight) (2 ^ 64)) 12 _
     (lt→ltb (b .total + r .weight) 18446744073709551616 k) tt) (λ t _. tt))))
@@ -183,7 +183,7 @@ clean-dropInline : (type : ℕ) (d : List ℕ) (b : Body) (kind : ℕ) (fields :
 unfolding dropInline
 clean-dropInline type d b kind fields r =
     clean-onBody type d b _ r
-    (clean-bind (found (cut (named kind fields) (b .refs))) _ (clean-found (cut (named kind fields) (b .refs))) (λ c _.
+    (clean-bind (found (firstCut (named kind fields) (b .refs))) _ (clean-found (firstCut (named kind fields) (b .refs))) (λ c _.
     clean-bind (loweredByOne (b .total)) _ (clean-lowered (b .total)) (λ t _. tt)))
 
 -- 16: an item that counts
@@ -208,7 +208,7 @@ clean-droppedAt k (accepted d) t = tt
 clean-replaced : (key : Key) (d : List ℕ) (items : List Item) → T (clean (replaced key d items))
 unfolding replaced allowed
 clean-replaced key d items =
-    clean-bind (needed 5 (cut (hasKey key) items)) _ (clean-needed 5 (cut (hasKey key) items) tt) (λ c _. tt)
+    clean-bind (needed 5 (firstCut (hasKey key) items)) _ (clean-needed 5 (firstCut (hasKey key) items) tt) (λ c _. tt)
 
 -- ---- 14: a weight under a name is within its record's total
 
@@ -248,9 +248,9 @@ module _ (items : List Item) (balance : Balanced items) (tidies : T (all tidy it
       → T (clean (onRecord (m .extent) items next))
   unfolding onRecord allowed
   clean-onRecord m next f =
-      clean-bind (needed 5 (cut (recordOf (m .extent)) items)) next (clean-needed 5 (cut (recordOf (m .extent)) items) tt)
+      clean-bind (needed 5 (firstCut (recordOf (m .extent)) items)) next (clean-needed 5 (firstCut (recordOf (m .extent)) items) tt)
       (λ c e.
-      let (b, H) = here-of m items c balance tidies (needed-ok 5 (cut (recordOf (m .extent)) items) e) in f c b H)
+      let (b, H) = here-of m items c balance tidies (needed-ok 5 (firstCut (recordOf (m .extent)) items) e) in f c b H)
 
   clean-keyedBody : (m : Name) (c : Cut Item) (b : Body) → Here m items c b → (keyed : Keyed) (amount : ℕ)
       → T (clean (keyedBody (c .hit) keyed amount false))
@@ -293,8 +293,8 @@ module _ (items : List Item) (balance : Balanced items) (tidies : T (all tidy it
       (clean-dropInline (c .hit .key .kind) (c .hit .bytes) b 176 (one (block .tree)) (H .reads)) (λ d _.
       clean-bind (accepted d) _ tt (λ z _. tt)))
       (clean-bind (deleted (keyOf (c .hit .key .objectid) 176 (block .tree)) items) _
-      (clean-bind (needed 5 (cut (hasKey (keyOf (c .hit .key .objectid) 176 (block .tree))) items)) _
-      (clean-needed 5 (cut (hasKey (keyOf (c .hit .key .objectid) 176 (block .tree))) items) tt) (λ k _. tt)) (λ others _.
+      (clean-bind (needed 5 (firstCut (hasKey (keyOf (c .hit .key .objectid) 176 (block .tree))) items)) _
+      (clean-needed 5 (firstCut (hasKey (keyOf (c .hit .key .objectid) 176 (block .tree))) items) tt) (λ k _. tt)) (λ others _.
       clean-bind (lowerTotal (c .hit .bytes)) _ (clean-lowerTotal (c .hit .key .kind) (c .hit .bytes) b (H .reads)) (λ d _.
       clean-bind (accepted d) _ tt (λ z _. clean-replaced (c .hit .key) z others))))
 
@@ -304,18 +304,18 @@ module _ (items : List Item) (balance : Balanced items) (tidies : T (all tidy it
       clean-ifAbsent _ _
       (clean-bind (dropInline (c .hit .key .kind) (c .hit .bytes) 178 (triple d)) _
       (clean-dropInline (c .hit .key .kind) (c .hit .bytes) b 178 (triple d) (H .reads)) (λ z _. tt))
-      (clean-bind (needed 5 (cut (hasKey (keyOf (c .hit .key .objectid) 178 (placeOf 178 (triple d)))) items)) _
-      (clean-needed 5 (cut (hasKey (keyOf (c .hit .key .objectid) 178 (placeOf 178 (triple d)))) items) tt) (λ k e.
+      (clean-bind (needed 5 (firstCut (hasKey (keyOf (c .hit .key .objectid) 178 (rankOf 178 (triple d)))) items)) _
+      (clean-needed 5 (firstCut (hasKey (keyOf (c .hit .key .objectid) 178 (rankOf 178 (triple d)))) items) tt) (λ k e.
       clean-bind (lowerTotal (c .hit .bytes)) _ (clean-lowerTotal (c .hit .key .kind) (c .hit .bytes) b (H .reads)) (λ z _.
       clean-bind (droppedAt k (dropKeyedDataRef (k .hit .bytes) d)) _
       (clean-droppedAt k _ (clean-dropKeyed (k .hit .bytes) d (count-at k e))) (λ others _.
       clean-replaced (c .hit .key) z others))))
     where
       count-at : (k : Cut Item)
-          → needed 5 (cut (hasKey (keyOf (c .hit .key .objectid) 178 (placeOf 178 (triple d)))) items) ≡ accepted k
+          → needed 5 (firstCut (hasKey (keyOf (c .hit .key .objectid) 178 (rankOf 178 (triple d)))) items) ≡ accepted k
           → 1 ≤ keyedCount (k .hit .bytes)
       count-at k e =
-          let (same, key) = key-found (keyOf (c .hit .key .objectid) 178 (placeOf 178 (triple d))) items k e in
+          let (same, key) = key-found (keyOf (c .hit .key .objectid) 178 (rankOf 178 (triple d))) items k e in
           let kind : k .hit .key .kind ≡ 178 = ap (λ (key : Key). key .kind) key in
           let g : T (good (k .hit)) = all-mid good (k .front) (k .hit) (k .back) (rw same at (balance .goods)) in
           item-counts items balance k same
@@ -330,10 +330,10 @@ module _ (items : List Item) (balance : Balanced items) (tidies : T (all tidy it
       (clean-bind (takeInlineShared (c .hit .key .kind) (c .hit .bytes) s) _
       (clean-ask (sharedKind (s .kind)) 3 _ tt (λ _.
       clean-onBody (c .hit .key .kind) (c .hit .bytes) b _ (H .reads)
-      (clean-bind (found (cut p (b .refs))) _ (clean-found (cut p (b .refs))) (λ x _. tt)))) (λ out e.
+      (clean-bind (found (firstCut p (b .refs))) _ (clean-found (firstCut p (b .refs))) (λ x _. tt)))) (λ out e.
       clean-bind (reduceTotal (out .bytes) (out .count)) _ (reduce-at out e) (λ z _. tt)))
-      (clean-bind (needed 5 (cut (hasKey (keyOf (c .hit .key .objectid) (s .kind) (s .parent))) items)) _
-      (clean-needed 5 (cut (hasKey (keyOf (c .hit .key .objectid) (s .kind) (s .parent))) items) tt) (λ k e.
+      (clean-bind (needed 5 (firstCut (hasKey (keyOf (c .hit .key .objectid) (s .kind) (s .parent))) items)) _
+      (clean-needed 5 (firstCut (hasKey (keyOf (c .hit .key .objectid) (s .kind) (s .parent))) items) tt) (λ k e.
       clean-bind (reduceTotal (c .hit .bytes) (sharedCount (k .hit))) _
       (clean-reduceTotal (c .hit .key .kind) (c .hit .bytes) b (sharedCount (k .hit)) (H .reads) (count-at k e)) (λ z _.
       clean-replaced (c .hit .key) z _)))
@@ -356,7 +356,7 @@ module _ (items : List Item) (balance : Balanced items) (tidies : T (all tidy it
           (inline-within m items c b H balance tidies (shared-naming (s .kind) sk) x (f .same) (f .hit)))
 
       count-at : (k : Cut Item)
-          → needed 5 (cut (hasKey (keyOf (c .hit .key .objectid) (s .kind) (s .parent))) items) ≡ accepted k
+          → needed 5 (firstCut (hasKey (keyOf (c .hit .key .objectid) (s .kind) (s .parent))) items) ≡ accepted k
           → sharedCount (k .hit) ≤ b .total
       count-at k e =
           let (same, key) = key-found (keyOf (c .hit .key .objectid) (s .kind) (s .parent)) items k e in

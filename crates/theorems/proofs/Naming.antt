@@ -6,7 +6,7 @@ use native.Mathlib.Omega.{arith}
 use mathlib.Core.Bool.{false, not}
 use lib.Dec.{T, eqb, eqb→eq}
 use mir.Facts.{or-yes}
-use Rattle.format.specs.References.{known, payloadLength, countPosition, counted, fieldCount, rowIn, weightOf, placeOf}
+use Rattle.format.specs.References.{known, payloadLength, countPosition, counted, fieldCount, rowIn, weightOf, rankOf}
 use Rattle.format.specs.Bodies.{one, sharedKind}
 use Rattle.format.specs.Items.{Item}
 use Rattle.format.specs.Apply.{isRecord}
@@ -76,10 +76,10 @@ shared-field kind t = go (or-yes (eqb kind 182) (eqb kind 184) t)
     go (inl h) = let e : kind ≡ 182 = eqb→eq _ _ h in rw e refl
     go (inr h) = let e : kind ≡ 184 = eqb→eq _ _ h in rw e refl
 
-pub shared-place : (kind parent : ℕ) → T (sharedKind kind) → placeOf kind (one parent) ≡ parent
-unfolding sharedKind placeOf
-shared-place kind parent t = go (or-yes (eqb kind 182) (eqb kind 184) t)
+pub shared-rank : (kind parent : ℕ) → T (sharedKind kind) → rankOf kind (one parent) ≡ parent
+unfolding sharedKind rankOf
+shared-rank kind parent t = go (or-yes (eqb kind 182) (eqb kind 184) t)
   where
-    go : T (eqb kind 182) ⊎ T (eqb kind 184) → placeOf kind (one parent) ≡ parent
+    go : T (eqb kind 182) ⊎ T (eqb kind 184) → rankOf kind (one parent) ≡ parent
     go (inl h) = let e : kind ≡ 182 = eqb→eq _ _ h in rw e refl
     go (inr h) = let e : kind ≡ 184 = eqb→eq _ _ h in rw e refl

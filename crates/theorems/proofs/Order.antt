@@ -10,10 +10,10 @@ use mathlib.Core.List.{List, [], _∷_, _++_, append-nil}
 use lib.ListN.{length, getD}
 use lib.Dec.{T, leb, ltb, eqb, eqb→eq, leb→le, le→leb, ltb→lt, lt→ltb}
 use mir.Facts.{and-yes, yes-and, or-yes, or-no, T-not, not-T, yes-eqb, no-eqb}
-use Rattle.fields.specs.Lists.{all, same, Cut, cut}
+use Rattle.fields.specs.Lists.{all, same, Cut, firstCut}
 use Rattle.fields.proofs.Lists.{or-left, or-right, lt-or, all-left, all-both, all-map, all-two, same-yes, same-refl, Found, cut-some, cut-none}
-use Rattle.format.specs.References.{fieldCount, Ref, ref, placeOf, place, falls, follows, leads, ordered}
-use Rattle.format.specs.Bodies.{named, weighed, Spot, gap, standing, stops, gapAt, insertPosition, standingOr, spotAnywhere, scanned, spotByScan}
+use Rattle.format.specs.References.{fieldCount, Ref, makeRef, rankOf, rank, falls, follows, leads, ordered}
+use Rattle.format.specs.Bodies.{named, weighed, RefPosition, gap, standing, stops, gapAt, insertPosition, standingOr, positionAnywhere, scanned, positionByScan}
 use Rattle.theorems.proofs.Naming.{Naming, above-172, not-172, one-field}
 
 -- ---- the order
@@ -38,12 +38,12 @@ falls-strict k x y h = go (eqb k 172) (eqb k 178)
     go false false = lt→ltb y x h
 
 pub follows-out : (r s : Ref) → T (follows r s)
-    → (r .kind < s .kind) ⊎ ((r .kind ≡ s .kind) × T (falls (r .kind) (place r) (place s)))
+    → (r .kind < s .kind) ⊎ ((r .kind ≡ s .kind) × T (falls (r .kind) (rank r) (rank s)))
 unfolding follows
 follows-out r s t = go (or-yes (ltb (r .kind) (s .kind)) _ t)
   where
-    go : T (ltb (r .kind) (s .kind)) ⊎ T (eqb (r .kind) (s .kind) && falls (r .kind) (place r) (place s))
-        → (r .kind < s .kind) ⊎ ((r .kind ≡ s .kind) × T (falls (r .kind) (place r) (place s)))
+    go : T (ltb (r .kind) (s .kind)) ⊎ T (eqb (r .kind) (s .kind) && falls (r .kind) (rank r) (rank s))
+        → (r .kind < s .kind) ⊎ ((r .kind ≡ s .kind) × T (falls (r .kind) (rank r) (rank s)))
     go (inl h) = inl (ltb→lt _ _ h)
     go (inr h) = let k = and-yes (eqb (r .kind) (s .kind)) _ h in inr (eqb→eq _ _ (k .0), k .1)
 
@@ -51,20 +51,20 @@ pub follows-lt : (r s : Ref) → r .kind < s .kind → T (follows r s)
 unfolding follows
 follows-lt r s h = or-left (ltb (r .kind) (s .kind)) _ (lt→ltb _ _ h)
 
-pub follows-eq : (r s : Ref) → r .kind ≡ s .kind → T (falls (r .kind) (place r) (place s)) → T (follows r s)
+pub follows-eq : (r s : Ref) → r .kind ≡ s .kind → T (falls (r .kind) (rank r) (rank s)) → T (follows r s)
 unfolding follows
 follows-eq r s e t = or-right (ltb (r .kind) (s .kind)) _ (yes-and (eqb (r .kind) (s .kind)) _ (yes-eqb e) t)
 
 pub follows-trans : (r s u : Ref) → T (follows r s) → T (follows s u) → T (follows r u)
 follows-trans r s u p q = go (follows-out r s p) (follows-out s u q)
   where
-    go : (r .kind < s .kind) ⊎ ((r .kind ≡ s .kind) × T (falls (r .kind) (place r) (place s)))
-        → (s .kind < u .kind) ⊎ ((s .kind ≡ u .kind) × T (falls (s .kind) (place s) (place u))) → T (follows r u)
+    go : (r .kind < s .kind) ⊎ ((r .kind ≡ s .kind) × T (falls (r .kind) (rank r) (rank s)))
+        → (s .kind < u .kind) ⊎ ((s .kind ≡ u .kind) × T (falls (s .kind) (rank s) (rank u))) → T (follows r u)
     go (inl h) (inl k) = follows-lt r u (omega arith)
     go (inl h) (inr k) = follows-lt r u (omega arith)
     go (inr h) (inl k) = follows-lt r u (omega arith)
     go (inr h) (inr k) =
-        follows-eq r u (h .0 ∙ k .0) (falls-trans (r .kind) (place r) (place s) (place u) (h .1) (rw (h .0) (k .1)))
+        follows-eq r u (h .0 ∙ k .0) (falls-trans (r .kind) (rank r) (rank s) (rank u) (h .1) (rw (h .0) (k .1)))
 
 pub ordered-drop : (a : List Ref) (x : Ref) (b : List Ref) → T (ordered (a ++ x ∷ b)) → T (ordered (a ++ b))
 ordered-drop [] x b t = and-yes (leads x b) _ t .1
@@ -91,11 +91,11 @@ ordered-put (r ∷ s ∷ a) n b t f h =
     yes-and (follows r s) _ (k .0) (ordered-put (s ∷ a) n b (k .1) (and-yes (follows r n) _ f .1) h)
 
 follows-weighed : (r x : Ref) (w : ℕ) → follows r (weighed x w) ≡ follows r x
-unfolding follows place
+unfolding follows rank
 follows-weighed r x w = refl
 
 leads-weighed : (x : Ref) (w : ℕ) (b : List Ref) → leads (weighed x w) b ≡ leads x b
-unfolding follows place
+unfolding follows rank
 leads-weighed x w [] = refl
 leads-weighed x w (y ∷ b) = refl
 
@@ -136,12 +136,12 @@ same-first (x ∷ []) (y ∷ []) p q e = ap (λ (n : ℕ). n ∷ []) e
 same-first (x ∷ []) (y ∷ z ∷ b) p q e = absurd (omega arith)
 same-first (x ∷ w ∷ a) (y ∷ b) p q e = absurd (omega arith)
 
--- away from 178, the type and the place are the name
-place-fields : (kind : ℕ) (a b : List ℕ) → Naming kind → length a ≡ fieldCount kind → length b ≡ fieldCount kind
+-- away from 178, the type and the rank are the name
+rank-fields : (kind : ℕ) (a b : List ℕ) → Naming kind → length a ≡ fieldCount kind → length b ≡ fieldCount kind
     → eqb kind 178 ≡ false
-    → placeOf kind a ≡ placeOf kind b → a ≡ b
-unfolding placeOf
-place-fields kind a b k p q f e =
+    → rankOf kind a ≡ rankOf kind b → a ≡ b
+unfolding rankOf
+rank-fields kind a b k p q f e =
     let o = one-field kind k f in
     let e′ : getD a 0 0 ≡ getD b 0 0 = rw f at e in
     same-first a b (p ∙ o) (q ∙ o) e′
@@ -149,35 +149,35 @@ place-fields kind a b k p q f e =
 -- ---- where a reference of that type, those fields and any weight goes
 
 module _ (kind : ℕ) (fields : List ℕ) (weight : ℕ) (naming : Naming kind) (size : length fields ≡ fieldCount kind) where
-  place-new : place (ref kind fields weight) ≡ placeOf kind fields
-  unfolding place
-  place-new = refl
+  rank-new : rank (makeRef kind fields weight) ≡ rankOf kind fields
+  unfolding rank
+  rank-new = refl
 
-  place-named : (r : Ref) → T (named kind fields r) → place r ≡ placeOf kind fields
-  unfolding place
-  place-named r t = let h = named-yes kind fields r t in ap₂ placeOf (h .0) (h .1)
+  rank-named : (r : Ref) → T (named kind fields r) → rank r ≡ rankOf kind fields
+  unfolding rank
+  rank-named r t = let h = named-yes kind fields r t in ap₂ rankOf (h .0) (h .1)
 
-  stop-out : (r : Ref) → T (stops kind (placeOf kind fields) r)
-      → (kind < r .kind) ⊎ ((kind ≡ r .kind) × (place r < placeOf kind fields))
+  stop-out : (r : Ref) → T (stops kind (rankOf kind fields) r)
+      → (kind < r .kind) ⊎ ((kind ≡ r .kind) × (rank r < rankOf kind fields))
   unfolding stops
   stop-out r t =
-      go (or-yes (ltb kind (r .kind)) (eqb kind (r .kind) && ltb (place r) (placeOf kind fields)) (and-yes (not (eqb (r .kind) 172)) _ t .1))
+      go (or-yes (ltb kind (r .kind)) (eqb kind (r .kind) && ltb (rank r) (rankOf kind fields)) (and-yes (not (eqb (r .kind) 172)) _ t .1))
     where
-      go : T (ltb kind (r .kind)) ⊎ T (eqb kind (r .kind) && ltb (place r) (placeOf kind fields))
-          → (kind < r .kind) ⊎ ((kind ≡ r .kind) × (place r < placeOf kind fields))
+      go : T (ltb kind (r .kind)) ⊎ T (eqb kind (r .kind) && ltb (rank r) (rankOf kind fields))
+          → (kind < r .kind) ⊎ ((kind ≡ r .kind) × (rank r < rankOf kind fields))
       go (inl h) = inl (ltb→lt _ _ h)
       go (inr h) = let k = and-yes (eqb kind (r .kind)) _ h in inr (eqb→eq _ _ (k .0), ltb→lt _ _ (k .1))
 
   no-owner : (r : Ref) → kind ≤ r .kind → T (not (eqb (r .kind) 172))
   no-owner r h = let a = above-172 kind naming in no-eqb (λ (e : r .kind ≡ 172). omega arith)
 
-  stop-lt : (r : Ref) → kind < r .kind → T (stops kind (placeOf kind fields) r)
+  stop-lt : (r : Ref) → kind < r .kind → T (stops kind (rankOf kind fields) r)
   unfolding stops
   stop-lt r h =
       let g : kind ≤ r .kind = omega arith in
       yes-and (not (eqb (r .kind) 172)) _ (no-owner r g) (or-left (ltb kind (r .kind)) _ (lt→ltb _ _ h))
 
-  stop-eq : (r : Ref) → kind ≡ r .kind → place r < placeOf kind fields → T (stops kind (placeOf kind fields) r)
+  stop-eq : (r : Ref) → kind ≡ r .kind → rank r < rankOf kind fields → T (stops kind (rankOf kind fields) r)
   unfolding stops
   stop-eq r e h =
       let g : kind ≤ r .kind = omega arith in
@@ -185,171 +185,171 @@ module _ (kind : ℕ) (fields : List ℕ) (weight : ℕ) (naming : Naming kind) 
       (or-right (ltb kind (r .kind)) _ (yes-and (eqb kind (r .kind)) _ (yes-eqb e) (lt→ltb _ _ h)))
 
   -- the new one may stand before what stops the scan
-  stop-follows : (r : Ref) → T (stops kind (placeOf kind fields) r) → T (follows (ref kind fields weight) r)
+  stop-follows : (r : Ref) → T (stops kind (rankOf kind fields) r) → T (follows (makeRef kind fields weight) r)
   stop-follows r t = go (stop-out r t)
     where
-      go : (kind < r .kind) ⊎ ((kind ≡ r .kind) × (place r < placeOf kind fields)) → T (follows (ref kind fields weight) r)
-      go (inl h) = follows-lt (ref kind fields weight) r h
+      go : (kind < r .kind) ⊎ ((kind ≡ r .kind) × (rank r < rankOf kind fields)) → T (follows (makeRef kind fields weight) r)
+      go (inl h) = follows-lt (makeRef kind fields weight) r h
       go (inr h) =
-          follows-eq (ref kind fields weight) r (h .0)
-          (falls-strict kind (place (ref kind fields weight)) (place r) (rw place-new (h .1)))
+          follows-eq (makeRef kind fields weight) r (h .0)
+          (falls-strict kind (rank (makeRef kind fields weight)) (rank r) (rw rank-new (h .1)))
 
   -- what stops the scan has another name
-  stop-other : (r : Ref) → T (stops kind (placeOf kind fields) r) → T (not (named kind fields r))
+  stop-other : (r : Ref) → T (stops kind (rankOf kind fields) r) → T (not (named kind fields r))
   stop-other r t = not-T (named kind fields r) (λ u. go u (stop-out r t))
     where
-      go : T (named kind fields r) → (kind < r .kind) ⊎ ((kind ≡ r .kind) × (place r < placeOf kind fields)) → ⊥
+      go : T (named kind fields r) → (kind < r .kind) ⊎ ((kind ≡ r .kind) × (rank r < rankOf kind fields)) → ⊥
       go u (inl h) = let e = named-yes kind fields r u .0 in omega arith
-      go u (inr h) = let k = h .1 in omega (arith, place-named r u)
+      go u (inr h) = let k = h .1 in omega (arith, rank-named r u)
 
   -- and whatever follows it stops the scan too
-  stop-up : (r s : Ref) → T (stops kind (placeOf kind fields) r) → T (follows r s) → T (stops kind (placeOf kind fields) s)
+  stop-up : (r s : Ref) → T (stops kind (rankOf kind fields) r) → T (follows r s) → T (stops kind (rankOf kind fields) s)
   unfolding falls
   stop-up r s t f = go (stop-out r t) (follows-out r s f)
     where
-      weak : (c d : Bool) → c ≡ false → T (cond c true (cond d (leb (place s) (place r)) (ltb (place s) (place r))))
-          → place s ≤ place r
+      weak : (c d : Bool) → c ≡ false → T (cond c true (cond d (leb (rank s) (rank r)) (ltb (rank s) (rank r))))
+          → rank s ≤ rank r
       weak true d q t = absurd (subst T q tt)
       weak false true q t = leb→le _ _ t
-      weak false false q t = let h : place s < place r = ltb→lt _ _ t in omega arith
+      weak false false q t = let h : rank s < rank r = ltb→lt _ _ t in omega arith
 
-      go : (kind < r .kind) ⊎ ((kind ≡ r .kind) × (place r < placeOf kind fields))
-          → (r .kind < s .kind) ⊎ ((r .kind ≡ s .kind) × T (falls (r .kind) (place r) (place s)))
-          → T (stops kind (placeOf kind fields) s)
+      go : (kind < r .kind) ⊎ ((kind ≡ r .kind) × (rank r < rankOf kind fields))
+          → (r .kind < s .kind) ⊎ ((r .kind ≡ s .kind) × T (falls (r .kind) (rank r) (rank s)))
+          → T (stops kind (rankOf kind fields) s)
       go (inl h) (inl k) = stop-lt s (omega arith)
       go (inl h) (inr k) = let e = k .0 in stop-lt s (omega arith)
       go (inr h) (inl k) = let e = h .0 in stop-lt s (omega arith)
       go (inr h) (inr k) =
           let q : eqb (r .kind) 172 ≡ false = ap (λ (n : ℕ). eqb n 172) (sym (h .0)) ∙ not-172 kind naming in
-          let w : place s ≤ place r = weak (eqb (r .kind) 172) (eqb (r .kind) 178) q (k .1) in
+          let w : rank s ≤ rank r = weak (eqb (r .kind) 172) (eqb (r .kind) 178) q (k .1) in
           let v = h .1 in
           stop-eq s (h .0 ∙ k .0) (omega arith)
 
   -- what the scan passes, and has another name, may stand before the new one
-  pass-follows : (r : Ref) → T (not (stops kind (placeOf kind fields) r)) → T (long r && not (named kind fields r))
-      → T (follows r (ref kind fields weight))
-  unfolding falls long place
+  pass-follows : (r : Ref) → T (not (stops kind (rankOf kind fields) r)) → T (long r && not (named kind fields r))
+      → T (follows r (makeRef kind fields weight))
+  unfolding falls long rank
   pass-follows r t lu = kinds (lt-or (r .kind) kind)
     where
-      no-eq : r .kind ≡ kind → eqb (r .kind) 178 ≡ false → place (ref kind fields weight) ≢ place r
+      no-eq : r .kind ≡ kind → eqb (r .kind) 178 ≡ false → rank (makeRef kind fields weight) ≢ rank r
       no-eq e q p =
           let h = and-yes (eqb (length (r .fields)) (fieldCount (r .kind))) _ lu in
           let sz : length (r .fields) ≡ fieldCount kind = eqb→eq _ _ (h .0) ∙ ap fieldCount e in
           let q′ : eqb kind 178 ≡ false = ap (λ (n : ℕ). eqb n 178) (sym e) ∙ q in
-          let p′ : placeOf kind (r .fields) ≡ placeOf kind fields = ap (λ (n : ℕ). placeOf n (r .fields)) (sym e) ∙ sym p in
-          T-not (named kind fields r) (yes-named kind fields r e (place-fields kind (r .fields) fields naming sz size q′ p′))
+          let p′ : rankOf kind (r .fields) ≡ rankOf kind fields = ap (λ (n : ℕ). rankOf n (r .fields)) (sym e) ∙ sym p in
+          T-not (named kind fields r) (yes-named kind fields r e (rank-fields kind (r .fields) fields naming sz size q′ p′))
           (h .1)
 
-      down : (c d : Bool) → eqb (r .kind) 178 ≡ d → r .kind ≡ kind → place (ref kind fields weight) ≤ place r
-          → T (cond c true (cond d (leb (place (ref kind fields weight)) (place r)) (ltb (place (ref kind fields weight)) (place r))))
+      down : (c d : Bool) → eqb (r .kind) 178 ≡ d → r .kind ≡ kind → rank (makeRef kind fields weight) ≤ rank r
+          → T (cond c true (cond d (leb (rank (makeRef kind fields weight)) (rank r)) (ltb (rank (makeRef kind fields weight)) (rank r))))
       down true d q e h = tt
       down false true q e h = le→leb _ _ h
       down false false q e h =
-          let ne : place (ref kind fields weight) ≢ place r = no-eq e q in
-          lt→ltb (place (ref kind fields weight)) (place r) (omega arith)
+          let ne : rank (makeRef kind fields weight) ≢ rank r = no-eq e q in
+          lt→ltb (rank (makeRef kind fields weight)) (rank r) (omega arith)
 
-      kinds : (r .kind < kind) ⊎ (kind ≤ r .kind) → T (follows r (ref kind fields weight))
-      kinds (inl h) = follows-lt r (ref kind fields weight) h
-      kinds (inr h) = places (lt-or (place r) (place (ref kind fields weight))) (lt-or kind (r .kind))
+      kinds : (r .kind < kind) ⊎ (kind ≤ r .kind) → T (follows r (makeRef kind fields weight))
+      kinds (inl h) = follows-lt r (makeRef kind fields weight) h
+      kinds (inr h) = ranks (lt-or (rank r) (rank (makeRef kind fields weight))) (lt-or kind (r .kind))
         where
-          places : (place r < place (ref kind fields weight)) ⊎ (place (ref kind fields weight) ≤ place r)
-              → (kind < r .kind) ⊎ (r .kind ≤ kind) → T (follows r (ref kind fields weight))
-          places x (inl k) = absurd (T-not (stops kind (placeOf kind fields) r) (stop-lt r k) t)
-          places (inl x) (inr k) =
-              absurd (T-not (stops kind (placeOf kind fields) r) (stop-eq r (omega arith) (rw place-new at x)) t)
-          places (inr x) (inr k) =
+          ranks : (rank r < rank (makeRef kind fields weight)) ⊎ (rank (makeRef kind fields weight) ≤ rank r)
+              → (kind < r .kind) ⊎ (r .kind ≤ kind) → T (follows r (makeRef kind fields weight))
+          ranks x (inl k) = absurd (T-not (stops kind (rankOf kind fields) r) (stop-lt r k) t)
+          ranks (inl x) (inr k) =
+              absurd (T-not (stops kind (rankOf kind fields) r) (stop-eq r (omega arith) (rw rank-new at x)) t)
+          ranks (inr x) (inr k) =
               let e : r .kind ≡ kind = omega arith in
-              follows-eq r (ref kind fields weight) e (down (eqb (r .kind) 172) (eqb (r .kind) 178) refl e x)
+              follows-eq r (makeRef kind fields weight) e (down (eqb (r .kind) 172) (eqb (r .kind) 178) refl e x)
 
   -- from what stops the scan on, all stop it
-  stop-rest : (r : Ref) (l : List Ref) → T (ordered (r ∷ l)) → T (stops kind (placeOf kind fields) r)
-      → T (all (stops kind (placeOf kind fields)) (r ∷ l))
-  stop-rest r [] o t = yes-and (stops kind (placeOf kind fields) r) _ t tt
+  stop-rest : (r : Ref) (l : List Ref) → T (ordered (r ∷ l)) → T (stops kind (rankOf kind fields) r)
+      → T (all (stops kind (rankOf kind fields)) (r ∷ l))
+  stop-rest r [] o t = yes-and (stops kind (rankOf kind fields) r) _ t tt
   stop-rest r (s ∷ l) o t =
       let h = and-yes (follows r s) _ o in
-      yes-and (stops kind (placeOf kind fields) r) _ t (stop-rest s l (h .1) (stop-up r s t (h .0)))
+      yes-and (stops kind (rankOf kind fields) r) _ t (stop-rest s l (h .1) (stop-up r s t (h .0)))
 
-  -- a spot for the reference in a list: a gap that keeps the order, where no other has the name, or one that has it
-  pub data SpotOk (l : List Ref) : Spot → Type 0 where
-    at-gap : {p q : List Ref} → l ≡ p ++ q → T (ordered (p ++ ref kind fields weight ∷ q))
+  -- a position for the reference in a list: a gap that keeps the order, where no other has the name, or one that has it
+  pub data PositionOk (l : List Ref) : RefPosition → Type 0 where
+    at-gap : {p q : List Ref} → l ≡ p ++ q → T (ordered (p ++ makeRef kind fields weight ∷ q))
         → T (all (λ r. not (named kind fields r)) l)
-        → SpotOk l (gap p q)
-    at-standing : {x : Cut Ref} → l ≡ x .front ++ x .hit ∷ x .back → T (named kind fields (x .hit)) → SpotOk l (standing x)
+        → PositionOk l (gap p q)
+    at-standing : {x : Cut Ref} → l ≡ x .front ++ x .hit ∷ x .back → T (named kind fields (x .hit)) → PositionOk l (standing x)
 
   pass-all : (l : List Ref) → T (all long l) → T (all (λ r. not (named kind fields r)) l)
-      → T (all (λ r. not (stops kind (placeOf kind fields) r)) l) → T (all (λ r. follows r (ref kind fields weight)) l)
+      → T (all (λ r. not (stops kind (rankOf kind fields) r)) l) → T (all (λ r. follows r (makeRef kind fields weight)) l)
   pass-all l lo t u =
-      all-two (λ r. not (stops kind (placeOf kind fields) r)) (λ r. long r && not (named kind fields r))
-      (λ r. follows r (ref kind fields weight)) pass-follows l u
+      all-two (λ r. not (stops kind (rankOf kind fields) r)) (λ r. long r && not (named kind fields r))
+      (λ r. follows r (makeRef kind fields weight)) pass-follows l u
       (all-two long (λ r. not (named kind fields r)) (λ r. long r && not (named kind fields r)) (λ r a b. yes-and (long r) _ a b) l lo t)
 
-  -- the place of the scan, where the list up to it has other names
+  -- the position of the scan, where the list up to it has other names
   new-end : (l : List Ref) → T (ordered l) → T (all long l) → T (all (λ r. not (named kind fields r)) l)
-      → T (all (λ r. not (stops kind (placeOf kind fields) r)) l) → SpotOk l (gap l [])
+      → T (all (λ r. not (stops kind (rankOf kind fields) r)) l) → PositionOk l (gap l [])
   new-end l o lo t u =
-      at-gap (sym (append-nil l)) (ordered-put l (ref kind fields weight) [] (rw (append-nil l) o) (pass-all l lo t u) tt) t
+      at-gap (sym (append-nil l)) (ordered-put l (makeRef kind fields weight) [] (rw (append-nil l) o) (pass-all l lo t u) tt) t
 
   new-at : (l : List Ref) (x : Cut Ref) → l ≡ x .front ++ x .hit ∷ x .back → T (ordered l) → T (all long l)
-      → T (all (λ r. not (named kind fields r)) (x .front)) → T (all (λ r. not (stops kind (placeOf kind fields) r)) (x .front))
-      → T (stops kind (placeOf kind fields) (x .hit)) → SpotOk l (gap (x .front) (x .hit ∷ x .back))
+      → T (all (λ r. not (named kind fields r)) (x .front)) → T (all (λ r. not (stops kind (rankOf kind fields) r)) (x .front))
+      → T (stops kind (rankOf kind fields) (x .hit)) → PositionOk l (gap (x .front) (x .hit ∷ x .back))
   new-at l x e o lo t u h =
       let o′ : T (ordered (x .front ++ x .hit ∷ x .back)) = rw e at o in
       let lo′ : T (all long (x .front)) = all-left long (x .front) (x .hit ∷ x .back) (rw e at lo) in
-      let s : T (all (stops kind (placeOf kind fields)) (x .hit ∷ x .back)) =
+      let s : T (all (stops kind (rankOf kind fields)) (x .hit ∷ x .back)) =
       stop-rest (x .hit) (x .back) (ordered-back (x .front) (x .hit ∷ x .back) o′) h in
       at-gap e
-      (ordered-put (x .front) (ref kind fields weight) (x .hit ∷ x .back) o′ (pass-all (x .front) lo′ t u) (stop-follows (x .hit) h))
+      (ordered-put (x .front) (makeRef kind fields weight) (x .hit ∷ x .back) o′ (pass-all (x .front) lo′ t u) (stop-follows (x .hit) h))
       (rw e (all-both (λ r. not (named kind fields r)) (x .front) (x .hit ∷ x .back) t
-      (all-map (stops kind (placeOf kind fields)) (λ r. not (named kind fields r)) stop-other (x .hit ∷ x .back) s)))
+      (all-map (stops kind (rankOf kind fields)) (λ r. not (named kind fields r)) stop-other (x .hit ∷ x .back) s)))
 
   -- an equal one anywhere, else the insert position
-  anywhere-ok : (l : List Ref) → T (ordered l) → T (all long l) → (o : Option (Cut Ref)) → cut (named kind fields) l ≡ o
-      → SpotOk l (standingOr o (insertPosition kind (placeOf kind fields) l))
+  anywhere-ok : (l : List Ref) → T (ordered l) → T (all long l) → (o : Option (Cut Ref)) → firstCut (named kind fields) l ≡ o
+      → PositionOk l (standingOr o (insertPosition kind (rankOf kind fields) l))
   unfolding standingOr insertPosition gapAt
-  anywhere-ok l o lo none e = go (cut (stops kind (placeOf kind fields)) l) refl
+  anywhere-ok l o lo none e = go (firstCut (stops kind (rankOf kind fields)) l) refl
     where
       t : T (all (λ r. not (named kind fields r)) l)
       t = cut-none (named kind fields) l e
 
-      go : (y : Option (Cut Ref)) → cut (stops kind (placeOf kind fields)) l ≡ y → SpotOk l (gapAt l y)
-      go none q = new-end l o lo t (cut-none (stops kind (placeOf kind fields)) l q)
+      go : (y : Option (Cut Ref)) → firstCut (stops kind (rankOf kind fields)) l ≡ y → PositionOk l (gapAt l y)
+      go none q = new-end l o lo t (cut-none (stops kind (rankOf kind fields)) l q)
       go (some x) q =
-          let f = cut-some (stops kind (placeOf kind fields)) l q in
+          let f = cut-some (stops kind (rankOf kind fields)) l q in
           new-at l x (f .same) o lo (all-left (λ r. not (named kind fields r)) (x .front) (x .hit ∷ x .back) (rw (f .same) at t)) (f .miss) (f .hit)
   anywhere-ok l o lo (some x) e = let f = cut-some (named kind fields) l e in at-standing (f .same) (f .hit)
 
-  pub spot-anywhere : (l : List Ref) → T (ordered l) → T (all long l)
-      → SpotOk l (spotAnywhere kind fields (placeOf kind fields) l)
-  unfolding spotAnywhere
-  spot-anywhere l o lo = anywhere-ok l o lo (cut (named kind fields) l) refl
+  pub position-anywhere : (l : List Ref) → T (ordered l) → T (all long l)
+      → PositionOk l (positionAnywhere kind fields (rankOf kind fields) l)
+  unfolding positionAnywhere
+  position-anywhere l o lo = anywhere-ok l o lo (firstCut (named kind fields) l) refl
 
   -- one scan
   scan-ok : (l : List Ref) → T (ordered l) → T (all long l) → (o : Option (Cut Ref))
-      → cut (λ r. named kind fields r || stops kind (placeOf kind fields) r) l ≡ o → SpotOk l (scanned kind fields l o)
+      → firstCut (λ r. named kind fields r || stops kind (rankOf kind fields) r) l ≡ o → PositionOk l (scanned kind fields l o)
   unfolding scanned
   scan-ok l o lo none e =
-      let p : Ref → Bool = (λ r. not (named kind fields r || stops kind (placeOf kind fields) r)) in
-      let t = cut-none (λ r. named kind fields r || stops kind (placeOf kind fields) r) l e in
-      new-end l o lo (all-map p (λ r. not (named kind fields r)) (λ r h. or-no (named kind fields r) (stops kind (placeOf kind fields) r) h .0) l t)
-      (all-map p (λ r. not (stops kind (placeOf kind fields) r)) (λ r h. or-no (named kind fields r) (stops kind (placeOf kind fields) r) h .1) l t)
+      let p : Ref → Bool = (λ r. not (named kind fields r || stops kind (rankOf kind fields) r)) in
+      let t = cut-none (λ r. named kind fields r || stops kind (rankOf kind fields) r) l e in
+      new-end l o lo (all-map p (λ r. not (named kind fields r)) (λ r h. or-no (named kind fields r) (stops kind (rankOf kind fields) r) h .0) l t)
+      (all-map p (λ r. not (stops kind (rankOf kind fields) r)) (λ r h. or-no (named kind fields r) (stops kind (rankOf kind fields) r) h .1) l t)
   scan-ok l o lo (some x) e = go (named kind fields (x .hit)) refl
     where
       p : Ref → Bool
-      p r = not (named kind fields r || stops kind (placeOf kind fields) r)
+      p r = not (named kind fields r || stops kind (rankOf kind fields) r)
 
-      f : Found (λ r. named kind fields r || stops kind (placeOf kind fields) r) l x
-      f = cut-some (λ r. named kind fields r || stops kind (placeOf kind fields) r) l e
+      f : Found (λ r. named kind fields r || stops kind (rankOf kind fields) r) l x
+      f = cut-some (λ r. named kind fields r || stops kind (rankOf kind fields) r) l e
 
-      go : (c : Bool) → named kind fields (x .hit) ≡ c → SpotOk l (cond c (standing x) (gap (x .front) (x .hit ∷ x .back)))
+      go : (c : Bool) → named kind fields (x .hit) ≡ c → PositionOk l (cond c (standing x) (gap (x .front) (x .hit ∷ x .back)))
       go true q = at-standing (f .same) (subst T (sym q) tt)
       go false q =
           new-at l x (f .same) o lo
-          (all-map (λ r. not (named kind fields r || stops kind (placeOf kind fields) r)) (λ r. not (named kind fields r))
-          (λ r h. or-no (named kind fields r) (stops kind (placeOf kind fields) r) h .0) (x .front) (f .miss))
-          (all-map (λ r. not (named kind fields r || stops kind (placeOf kind fields) r)) (λ r. not (stops kind (placeOf kind fields) r))
-          (λ r h. or-no (named kind fields r) (stops kind (placeOf kind fields) r) h .1) (x .front) (f .miss))
-          (subst (λ (c : Bool). T (c || stops kind (placeOf kind fields) (x .hit))) q (f .hit))
+          (all-map (λ r. not (named kind fields r || stops kind (rankOf kind fields) r)) (λ r. not (named kind fields r))
+          (λ r h. or-no (named kind fields r) (stops kind (rankOf kind fields) r) h .0) (x .front) (f .miss))
+          (all-map (λ r. not (named kind fields r || stops kind (rankOf kind fields) r)) (λ r. not (stops kind (rankOf kind fields) r))
+          (λ r h. or-no (named kind fields r) (stops kind (rankOf kind fields) r) h .1) (x .front) (f .miss))
+          (subst (λ (c : Bool). T (c || stops kind (rankOf kind fields) (x .hit))) q (f .hit))
 
-  pub spot-by-scan : (l : List Ref) → T (ordered l) → T (all long l) → SpotOk l (spotByScan kind fields l)
-  unfolding spotByScan
-  spot-by-scan l o lo = scan-ok l o lo (cut (λ r. named kind fields r || stops kind (placeOf kind fields) r) l) refl
+  pub position-by-scan : (l : List Ref) → T (ordered l) → T (all long l) → PositionOk l (positionByScan kind fields l)
+  unfolding positionByScan
+  position-by-scan l o lo = scan-ok l o lo (firstCut (λ r. named kind fields r || stops kind (rankOf kind fields) r) l) refl

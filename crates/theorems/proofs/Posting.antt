@@ -9,7 +9,7 @@ use native.Mathlib.Omega.{arith}
 use lib.Dec.{T, leb, leb→le, le→leb}
 use lib.ListN.{length, length-append}
 use mir.Facts.{and-yes, yes-and}
-use Rattle.fields.specs.Lists.{sum, all, Cut, cut}
+use Rattle.fields.specs.Lists.{sum, all, Cut, firstCut}
 use Rattle.fields.specs.Numbers.{areBytes}
 use Rattle.fields.proofs.Lists.{sum-append, all-map, all-rest, all-put}
 use Rattle.format.specs.declared.Change.{Change}
@@ -204,7 +204,7 @@ sheet-facts sheet items raw reads balance =
 
 pub record AtRecord (m : Name) (items : List Item) (next : Cut Item → Answer (List Item)) (after : List Item) : Type 0 where
   pub at : Cut Item
-  pub stands : cut (recordOf (m .extent)) items ≡ some at
+  pub stands : firstCut (recordOf (m .extent)) items ≡ some at
   pub body : Body
   pub here : Here m items at body
   pub then : next at ≡ accepted after
@@ -213,13 +213,13 @@ pub record-out : (sheet : List ℕ) (m : Name) (items after : List Item) (next :
     → onRecord (m .extent) items next ≡ accepted after → AtRecord m items next after
 unfolding onRecord
 record-out sheet m items after next s e =
-    let h = bind-ok (needed 5 (cut (recordOf (m .extent)) items)) next e in
-    let k = needed-ok 5 (cut (recordOf (m .extent)) items) (h .1) in
+    let h = bind-ok (needed 5 (firstCut (recordOf (m .extent)) items)) next e in
+    let k = needed-ok 5 (firstCut (recordOf (m .extent)) items) (h .1) in
     let (b, H) = here-of m items (h .0) (s .balance) (s .tidied) k in
     record { at = h .0; stands = k; body = b; here = H; then = h .2 }
 
 pub record-in : (extent : ℕ) (items : List Item) (next : Cut Item → Answer (List Item)) (c : Cut Item)
-    → cut (recordOf extent) items ≡ some c
+    → firstCut (recordOf extent) items ≡ some c
     → onRecord extent items next ≡ next c
 unfolding onRecord needed
-record-in extent items next c e = bind-yes (needed 5 (cut (recordOf extent) items)) next (ap (needed 5) e)
+record-in extent items next c e = bind-yes (needed 5 (firstCut (recordOf extent) items)) next (ap (needed 5) e)

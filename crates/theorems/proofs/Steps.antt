@@ -8,7 +8,7 @@ use mathlib.Core.List.{List, _∷_, _++_}
 use lib.ListN.{length}
 use lib.Dec.{T, leb, ltb, eqb→eq, leb→le, ltb→lt, lt→ltb}
 use mir.Facts.{and-yes, yes-and, yes-eqb}
-use Rattle.fields.specs.Lists.{sum, all, Cut, cut}
+use Rattle.fields.specs.Lists.{sum, all, Cut, firstCut}
 use Rattle.fields.specs.Numbers.{leBytes, areBytes}
 use Rattle.fields.specs.Parts.{written}
 use Rattle.fields.proofs.Lists.{T-eq, imp-out, all-map, all-mid, all-rest, all-put, Found, cut-some}
@@ -107,7 +107,7 @@ pub record Here (m : Name) (items : List Item) (c : Cut Item) (b : Body) : Type 
 
 -- on a balanced sheet the record that is found reads
 pub here-of : (m : Name) (items : List Item) (c : Cut Item) → Balanced items → T (all tidy items)
-    → cut (recordOf (m .extent)) items ≡ some c
+    → firstCut (recordOf (m .extent)) items ≡ some c
     → (b : Body) × Here m items c b
 here-of m items c balance tidies e =
     let f = cut-some (recordOf (m .extent)) items e in
@@ -134,8 +134,8 @@ pub on-record : (m : Name) (items after : List Item) (next : Cut Item → Answer
     → (c : Cut Item) × (b : Body) × Here m items c b × (next c ≡ accepted after)
 unfolding onRecord
 on-record m items after next balance tidies e =
-    let h = bind-ok (needed 5 (cut (recordOf (m .extent)) items)) next e in
-    let (b, H) = here-of m items (h .0) balance tidies (needed-ok 5 (cut (recordOf (m .extent)) items) (h .1)) in
+    let h = bind-ok (needed 5 (firstCut (recordOf (m .extent)) items)) next e in
+    let (b, H) = here-of m items (h .0) balance tidies (needed-ok 5 (firstCut (recordOf (m .extent)) items) (h .1)) in
     (h .0, b, H, h .2)
 
 -- ---- calls on a body that reads

@@ -8,7 +8,7 @@ use mathlib.Core.Option.{some}
 use Prim.Native.Nat.{ℕ, _+_, _-_, _^_, _≤_, _<_}
 use lib.Dec.{T, eqb}
 use lib.ListN.{length}
-use Rattle.fields.specs.Lists.{Cut, cut}
+use Rattle.fields.specs.Lists.{Cut, firstCut}
 use Rattle.fields.specs.Numbers.{areBytes}
 use Rattle.format.specs.declared.Change.{Change}
 use Rattle.format.specs.declared.Change.the-variants.{AddBlock, AddData, AddShared, DropBlock, DropData, DropShared}
@@ -28,7 +28,7 @@ pub record UpToFive (nodesize : ℕ) (sheet : List ℕ) (extent : ℕ) (items : 
   pub least : 501 ≤ nodesize  -- 3
   pub most : nodesize ≤ 65536  -- 3
   pub balance : T (balanced items)  -- 4
-  pub stands : cut (recordOf extent) items ≡ some at  -- 5
+  pub stands : firstCut (recordOf extent) items ≡ some at  -- 5
 
 -- what a name counts inline, in the extent's record alone, and what it counts as an item of its own; at most one is not 0, and
 -- together they are what the name counts

@@ -25,8 +25,8 @@ pub record Call : Type 0 where
   pub new : List ℕ
   pub result : Edited
 
-abbrev pub Kept : List ℕ → Call → Type 0
-Kept sheet c = Answered (posted (c .nodesize) sheet (c .change) (length (c .old))) (c .result) (c .old) (c .new)
+abbrev pub CallKept : List ℕ → Call → Type 0
+CallKept sheet c = Answered (posted (c .nodesize) sheet (c .change) (length (c .old))) (c .result) (c .old) (c .new)
 
 -- "accepted", as the caller sees it
 abbrev pub wasWritten : Edited → Bool
@@ -51,9 +51,9 @@ nextSheet sheet (Refused number) new = sheet
 
 -- ---- a list of calls
 
-abbrev pub AllKept : List ℕ → List Call → Type 0
-AllKept sheet [] = Unit {0}
-AllKept sheet (c ∷ calls) = Kept sheet c × AllKept (nextSheet sheet (c .result) (c .new)) calls
+abbrev pub CallsKept : List ℕ → List Call → Type 0
+CallsKept sheet [] = Unit {0}
+CallsKept sheet (c ∷ calls) = CallKept sheet c × CallsKept (nextSheet sheet (c .result) (c .new)) calls
 
 abbrev pub lastSheet : List ℕ → List Call → List ℕ
 lastSheet sheet [] = sheet
@@ -77,14 +77,14 @@ tallyBy n sheet calls = history n (count n (sheetItems sheet)) (seenBy calls)
 
 -- ---- demand 3 of what the calls answered and wrote
 
-abbrev pub AllCorrect : List ℕ → List Call → Type 0
-AllCorrect sheet [] = Unit {0}
-AllCorrect sheet (c ∷ calls) =
+abbrev pub CallsCorrect : List ℕ → List Call → Type 0
+CallsCorrect sheet [] = Unit {0}
+CallsCorrect sheet (c ∷ calls) =
     Correct sheet (postingOf c) (wasWritten (c .result)) (nextSheet sheet (c .result) (c .new))
-    × AllCorrect (nextSheet sheet (c .result) (c .new)) calls
+    × CallsCorrect (nextSheet sheet (c .result) (c .new)) calls
 
-pub record Demand3 (sheet : List ℕ) (calls : List Call) : Type 0 where
-  pub correct : AllCorrect sheet calls
+pub record CallsDemand3 (sheet : List ℕ) (calls : List Call) : Type 0 where
+  pub correct : CallsCorrect sheet calls
   pub counts : (n : Name)
       → count n (sheetItems (lastSheet sheet calls)) + tallyBy n sheet calls .taken
       ≡ count n (sheetItems sheet) + tallyBy n sheet calls .given

@@ -11,7 +11,7 @@ use Rattle.format.specs.declared.Change.{Change}
 use Rattle.format.specs.Questions.{Answer, refused, accepted, isRefusal}
 use Rattle.format.specs.Names.{Name, count}
 use Rattle.format.specs.Ledger.{nameOf}
-use Rattle.format.specs.History.{Posting, answerTo, sheetAfter, isAccepted, run, seen, historyOf, touched, itemsOf, sheetItems, balancedSheet}
+use Rattle.format.specs.History.{Posting, answerTo, sheetAfter, isAccepted, run, allSeen, historyOf, touched, itemsOf, sheetItems, balancedSheet}
 use Rattle.theorems.specs.Acceptance.{AllYes, Made, Exactly}
 
 -- ---- what the types of the numbers give
@@ -57,7 +57,7 @@ pub record Demand3 (sheet : List ℕ) (postings : List Posting) : Type 0 where
   -- the sheet is still balanced
   pub balance : T (balancedSheet (run sheet postings))
   -- an extent that no accepted change named has the items that it opened with, in the same order
-  pub untouched : (extent : ℕ) → T (not (touched extent (seen sheet postings)))
+  pub untouched : (extent : ℕ) → T (not (touched extent (allSeen sheet postings)))
       → itemsOf extent (sheetItems (run sheet postings)) ≡ itemsOf extent (sheetItems sheet)
   -- a posting to any sheet, balanced or not, is refused or accepted, never absent or remove
   pub decided : (s : List ℕ) (p : Posting) → Decided (answerTo s p)

@@ -1,4 +1,4 @@
--- The calls that add a reference, from the record's place and the planned body. Assumes nothing.
+-- The calls that add a reference, from the record's position and the planned body. Assumes nothing.
 use mathlib.Core.Path.{_≡_, sym, ap, _∙_}
 use mathlib.Core.Bool.{Bool, true, false, _&&_}
 use mathlib.Core.List.{List}

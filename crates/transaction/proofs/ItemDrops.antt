@@ -22,12 +22,12 @@ use Rattle.format.proofs.Outputs.{answered-refused}
 use Rattle.backref.specs.declared.plan.Outcome.{Outcome}
 use Rattle.backref.specs.declared.plan.Outcome.the-variants.{Edit, Absent, Remove, Refused}
 use Rattle.backref.specs.declared.plan.Plan.{Plan}
-use Rattle.backref.specs.Plans.{edited, planned, planAnswer, Planned}
+use Rattle.backref.specs.Plans.{edited, planOutcome, planAnswer, Planned}
 use Rattle.backref.proofs.plan.Outcome.{the-type}
 use Rattle.backref.proofs.Outcomes.{plan-is}
 use Rattle.record_edit.specs.declared.RecordAt.{RecordAt}
 use Rattle.record_edit.specs.Records.{dataOf, nothing, editedSheet, heldEdit}
-use Rattle.transaction.specs.Edits.{gone, counts, heldPlan, heldAt}
+use Rattle.transaction.specs.Edits.{gone, newCount, heldPlan, heldAt}
 use Rattle.transaction.proofs.Rewrites.{last-four}
 
 -- ---- the item's own drop
@@ -59,21 +59,21 @@ module _ (s : List ℕ) (target : RecordAt) (from to : ℕ) (name : DataRef) (ro
   answer = bind (lowerTotal (dataOf s (target .start) (target .end))) (heldAt room s target from to (dropKeyedDataRef (dataOf s from to) name))
 
   -- as the item's plan answers
-  by-plan : {o : Outcome} → q .outcome ≡ o → bind (planAnswer p (dataOf s (target .start) (target .end))) (heldAt room s target from to (planned o q (dataOf s from to))) ≡ answer
+  by-plan : {o : Outcome} → q .outcome ≡ o → bind (planAnswer p (dataOf s (target .start) (target .end))) (heldAt room s target from to (planOutcome o q (dataOf s from to))) ≡ answer
   by-plan e =
       ap₂ (λ (a b : Answer (List ℕ)). bind a (heldAt room s target from to b)) (total .says) (sym (plan-is q (dataOf s from to) e) ∙ item .says)
 
   edits : p .outcome ≡ Edit → planAnswer p (dataOf s (target .start) (target .end)) ≡ accepted (edited p (dataOf s (target .start) (target .end)))
-  unfolding planned
+  unfolding planOutcome
   edits e = plan-is p (dataOf s (target .start) (target .end)) e
 
   pub item-refused : (k : ℕ) (old : List ℕ) → p .outcome ≡ Edit → q .outcome ≡ Refused k → Answered answer (Denied k) old old
-  unfolding planned bind heldAt
+  unfolding planOutcome bind heldAt
   item-refused k old e f =
       answered-refused old (sym (by-plan f) ∙ ap (λ (a : Answer (List ℕ)). bind a (heldAt room s target from to (refused k))) (edits e))
 
   pub item-absent : (old : List ℕ) → p .outcome ≡ Edit → q .outcome ≡ Absent → Answered answer NoMatch old old
-  unfolding planned bind heldAt lent editedOf
+  unfolding planOutcome bind heldAt lent editedOf
   item-absent old e f =
       subst (λ (a : Answer (List ℕ)). Answered a NoMatch old old)
       (ap (λ (a : Answer (List ℕ)). bind a (heldAt room s target from to absent)) (sym (edits e)) ∙ by-plan f)
@@ -81,16 +81,16 @@ module _ (s : List ℕ) (target : RecordAt) (from to : ℕ) (name : DataRef) (ro
 
   pub item-goes : (r : Edited) (old new : List ℕ) → q .outcome ≡ Remove → Answered (heldPlan room (target .«item_count» - 1) s target p (gone from to)) r old new
       → Answered answer r old new
-  unfolding planned heldAt
+  unfolding planOutcome heldAt
   item-goes r old new f w = subst (λ (a : Answer (List ℕ)). Answered a r old new) (by-plan f) w
 
   pub item-counts : (count : ℕ) (r : Edited) (old new : List ℕ) → q .outcome ≡ Edit → count ≡ le (part (to - 4) 4 s)
-      → Answered (heldPlan room (target .«item_count») s target p (counts to (count - 1))) r old new
+      → Answered (heldPlan room (target .«item_count») s target p (newCount to (count - 1))) r old new
       → Answered answer r old new
-  unfolding planned heldAt
+  unfolding planOutcome heldAt
   item-counts count r old new f e w =
       subst (λ (a : Answer (List ℕ)). Answered a r old new)
-      (ap (λ (n : ℕ). heldPlan room (target .«item_count») s target p (counts to (n - 1))) e ∙ by-plan f) w
+      (ap (λ (n : ℕ). heldPlan room (target .«item_count») s target p (newCount to (n - 1))) e ∙ by-plan f) w
 
 -- a total that is not lowered: the item is not read
 pub total-refused : (s : List ℕ) (target : RecordAt) (room : ℕ) (next : List ℕ → Answer (List ℕ)) (p : Plan) (r : Edited) (old new : List ℕ)
@@ -98,7 +98,7 @@ pub total-refused : (s : List ℕ) (target : RecordAt) (room : ℕ) (next : List
     → (tagOf the-type (p .outcome) ≡ 1) ⊎ ((tagOf the-type (p .outcome) ≡ 2) ⊎ (tagOf the-type (p .outcome) ≡ 3))
     → Answered (bind (planAnswer p (dataOf s (target .start) (target .end))) (heldEdit room (target .«item_count») 65564 (editedSheet s target (nothing (length s))))) r old new
     → Answered (bind (lowerTotal (dataOf s (target .start) (target .end))) next) r old new
-unfolding bind planned
+unfolding bind planOutcome
 total-refused s target room next p r old new total tag w =
     subst (λ (a : Answer (List ℕ)). Answered a r old new) (go (p .outcome) refl tag ∙ ap (λ (a : Answer (List ℕ)). bind a next) (total .says)) w
   where
@@ -114,7 +114,7 @@ total-refused s target room next p r old new total tag w =
 -- what stands there counts at least one
 pub one-counted : (s : List ℕ) (from to count : ℕ) (name : DataRef) (q : Plan) → from + 21 ≤ to → to ≤ length s
     → Planned q (dataOf s from to) (dropKeyedDataRef (dataOf s from to) name) → q .outcome ≡ Edit → count ≡ le (part (to - 4) 4 s) → 1 ≤ count
-unfolding planned
+unfolding planOutcome
 one-counted s from to count name q a b h e is =
     let k = keyed-out (dataOf s from to) name (sym (h .says) ∙ plan-is q (dataOf s from to) e) in
     let c = count-is s from to a b (k .0) in

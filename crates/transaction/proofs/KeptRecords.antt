@@ -15,12 +15,12 @@ use Rattle.format.specs.Items.{Item, keyOf, readSheet, onSheet, heldSheet}
 use Rattle.format.specs.Sheets.{hasKey}
 use Rattle.format.specs.Apply.{isRecord, dropTreeRef, dropKeptTreeRef, dropKeptTreeRefFrom}
 use Rattle.format.proofs.Keys.{sameKey-yes}
-use Rattle.inline_refs.specs.declared.wanted.Wanted.the-variants.{Block}
+use Rattle.inline_refs.specs.declared.ref_name.RefName.the-variants.{Block}
 use Rattle.item_list.specs.declared.Sought.the-variants.{Present, Absent}
-use Rattle.item_list.specs.Steps.{itemsOf}
+use Rattle.item_list.specs.Steps.{listItems}
 use Rattle.item_list.specs.Seeks.{seekIn}
 use Rattle.item_list.proofs.Reading.{Counted}
-use Rattle.item_list.proofs.Places.{Sits, sits, no-cut, Inside, inside}
+use Rattle.item_list.proofs.Positions.{Sits, sits, no-cut, Inside, inside}
 use Rattle.record_edit.specs.Stands.{StandsAt, onKey}
 use Rattle.transaction.specs.Drops.{dropRef}
 
@@ -33,25 +33,25 @@ module _ (s : List ℕ) (bytenr level : ℕ) (name : BlockRef) (own : Bool) wher
     abbrev key : Key
     key = keyOf bytenr 169 level
 
-    kept-is : dropKeptTreeRefFrom s bytenr level name own ≡ onKey key (itemsOf s) (dropTreeRef name own (itemsOf s))
+    kept-is : dropKeptTreeRefFrom s bytenr level name own ≡ onKey key (listItems s) (dropTreeRef name own (listItems s))
     unfolding dropKeptTreeRefFrom dropKeptTreeRef onSheet onKey bind ask
     kept-is = ap (λ (x : Answer (List Item)). bind x (λ items. ask true 3 (dropKeptTreeRef bytenr level name own items))) (counted .reads)
 
-    pub kept-none : (at : ℕ) → seekIn key 1 (itemsOf s) ≡ Absent at → dropKeptTreeRefFrom s bytenr level name own ≡ refused 5
+    pub kept-none : (at : ℕ) → seekIn key 1 (listItems s) ≡ Absent at → dropKeptTreeRefFrom s bytenr level name own ≡ refused 5
     unfolding onKey bind needed
     kept-none at e =
-        kept-is ∙ ap (λ (o : Option (Cut Item)). bind (needed 5 o) (dropTreeRef name own (itemsOf s))) (no-cut key 1 (itemsOf s) at (counted .rises) e)
+        kept-is ∙ ap (λ (o : Option (Cut Item)). bind (needed 5 o) (dropTreeRef name own (listItems s))) (no-cut key 1 (listItems s) at (counted .rises) e)
 
     -- the item of that key is a record
-    pub kept-stands : (start end : ℕ) → seekIn key 1 (itemsOf s) ≡ Present start end
+    pub kept-stands : (start end : ℕ) → seekIn key 1 (listItems s) ≡ Present start end
         → StandsAt s (record { key = key; start = start; end = end; «item_count» = n })
     unfolding isRecord
     kept-stands start end e =
-        let t : Sits key (itemsOf s) 1 start end = sits key 1 (itemsOf s) start end e in
+        let t : Sits key (listItems s) 1 start end = sits key 1 (listItems s) start end e in
         let d : Cut Item = t .at-cut in
-        let f : Found (hasKey key) (itemsOf s) d = cut-some (hasKey key) (itemsOf s) (t .is) in
+        let f : Found (hasKey key) (listItems s) d = cut-some (hasKey key) (listItems s) (t .is) in
         let i : Inside s (d .front) (d .hit) start end =
-        inside s (itemsOf s) (d .front) (d .hit) (d .back) start end (counted .bytes-are) (f .same) (t .stands) in
+        inside s (listItems s) (d .front) (d .hit) (d .back) start end (counted .bytes-are) (f .same) (t .stands) in
         let key-is : d .hit .key ≡ key = sameKey-yes (d .hit .key) key (f .hit) in
         record {
           reads = counted .reads;
@@ -65,14 +65,14 @@ module _ (s : List ℕ) (bytenr level : ℕ) (name : BlockRef) (own : Bool) wher
 
     -- by the flag that code tested
     pub kept-told : (flag : Bool) (room : ℕ) (r : Edited) (old new : List ℕ) → own ≡ flag
-        → Answered (heldSheet room (onKey key (itemsOf s) (dropTreeRef name flag (itemsOf s)))) r old new
+        → Answered (heldSheet room (onKey key (listItems s) (dropTreeRef name flag (listItems s)))) r old new
         → Answered (heldSheet room (dropKeptTreeRefFrom s bytenr level name own)) r old new
     kept-told flag room r old new e w =
         subst (λ (a : Answer (List Item)). Answered (heldSheet room a) r old new)
-        (ap (λ (b : Bool). onKey key (itemsOf s) (dropTreeRef name b (itemsOf s))) (sym e) ∙ sym kept-is) w
+        (ap (λ (b : Bool). onKey key (listItems s) (dropTreeRef name b (listItems s))) (sym e) ∙ sym kept-is) w
 
     pub kept-plain : (room : ℕ) (r : Edited) (old new : List ℕ) → own ≡ false
-        → Answered (heldSheet room (onKey key (itemsOf s) (dropRef (Block name) (itemsOf s)))) r old new
+        → Answered (heldSheet room (onKey key (listItems s) (dropRef (Block name) (listItems s)))) r old new
         → Answered (heldSheet room (dropKeptTreeRefFrom s bytenr level name own)) r old new
     unfolding dropRef
     kept-plain room r old new e w = kept-told false room r old new e w

@@ -1,4 +1,4 @@
--- apply_keyed_add, from the record's place and the planned body. Assumes nothing.
+-- apply_keyed_add, from the record's position and the planned body. Assumes nothing.
 use mathlib.Core.Path.{_≡_, refl, sym, ap, _∙_}
 use mathlib.Core.Logic.{_⊎_, inl, inr}
 use mathlib.Core.Bool.{Bool, true, false, _||_}
@@ -19,7 +19,7 @@ use Rattle.format.specs.Questions.{Answer, accepted, ask, bind, Answered, refus
 use Rattle.format.specs.Bodies.{raiseTotal, addInlineTreeRef, addInlineData}
 use Rattle.format.specs.Items.{Item, nodesizeFits, heldSheet, putBack}
 use Rattle.format.specs.Apply.{inlineLimit, keyedBody, applyKeyedAdd, applyKeyedAddTo}
-use Rattle.item_list.specs.Steps.{itemsOf}
+use Rattle.item_list.specs.Steps.{listItems}
 use Rattle.item_list.specs.ItemWrites.{heldBytes}
 use Rattle.item_list.proofs.ItemWrites.{answered-no, answered-by}
 use Rattle.backref.specs.declared.plan.Plan.{Plan}
@@ -149,7 +149,7 @@ module _ (nodesize room : ℕ) (keyed : Keyed) (count : ℕ) (asItem : Bool) whe
     unfolding bind ask
     keyed-add-kept r old new e w =
         let fits : test (hit .bytes) ≡ true = rw (le-leb (length (hit .bytes)) (length (hit .bytes)) (omega arith)) refl in
-        answered-by _ room (target .«item_count») (itemsOf s) s r old new
+        answered-by _ room (target .«item_count») (listItems s) s r old new
         (keyed-is ∙ ap (λ (a : Answer (List ℕ)). bind a (λ body. ask (test body) 17 (accepted (putBack c body)))) (body-unread hit keyed count asItem e)
         ∙ ap (λ (b : Bool). ask b 17 (accepted (putBack c (hit .bytes)))) fits
         ∙ ap accepted (sym (st .same)))

@@ -11,7 +11,7 @@ pub mod KeptRecords
 pub mod Plans
 pub mod Turns
 pub mod Rewrites
-pub mod Behind
+pub mod BehindRecord
 pub mod Puts
 pub mod Records
 pub mod Additions

@@ -71,7 +71,7 @@ module _ (root ino : ℕ) (offsets : List ℕ) (flags : ℕ) where
   held-body : (total : ℕ) (fixed : List ℕ) (x : Answer (List Ref)) → heldIn root ino offsets total flags x
       ≡ heldBy root ino offsets flags (bind x (λ refs. accepted (record { total = total; fixed = fixed; refs = refs })))
   unfolding heldIn heldBy bind allOf sumOf addsAt isOurs isOnce isCounted
-  held-body total fixed (refused number) = no-read total (refused number) refl
+  held-body total fixed (refused refusal) = no-read total (refused refusal) refl
   held-body total fixed absent = no-read total absent refl
   held-body total fixed remove = no-read total remove refl
   held-body total fixed (accepted refs) = refl
@@ -79,7 +79,7 @@ module _ (root ino : ℕ) (offsets : List ℕ) (flags : ℕ) where
   not-read : (d : List ℕ) (n : ℕ) (y : Answer Body) → length d ≤ 65535
       → ask (bodyFits d) 3 (bind y (λ b. accepted (b .refs))) ≡ refused n → false ≡ heldBy root ino offsets flags y
   unfolding heldBy bind ask bodyFits
-  not-read d n (refused number) h e = refl
+  not-read d n (refused refusal) h e = refl
   not-read d n absent h e = refl
   not-read d n remove h e = refl
   not-read d n (accepted b) h e = refused-not (sym (rw (le-leb _ _ h) at e))

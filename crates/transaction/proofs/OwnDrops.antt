@@ -7,7 +7,7 @@ use Prim.Native.Nat.{ℕ, _+_, _-_, _≤_}
 use native.Mathlib.Omega.{arith}
 use lib.Dec.{T, leb, ltb, leb→le}
 use lib.ListN.{length, length-append}
-use Rattle.fields.specs.Lists.{Cut, cut}
+use Rattle.fields.specs.Lists.{Cut, firstCut}
 use Rattle.fields.specs.Numbers.{leBytes, wordBytes, areBytes}
 use Rattle.fields.proofs.Lists.{Found, cut-some}
 use Rattle.fields.proofs.Numbers.{length-leBytes, areBytes-part}
@@ -23,18 +23,18 @@ use Rattle.format.specs.Apply.{replaced, flagged, dropTreeRef}
 use Rattle.format.proofs.Answers.{ask-ok, bind-ok, found-ok, accepted-inj, refused-not, remove-not}
 use Rattle.format.proofs.Refs.{refsBytes-append}
 use Rattle.format.proofs.Bodies.{fixed-long, length-bodyBytes, read-sound, bodyBytes-read}
-use Rattle.inline_refs.specs.declared.wanted.Wanted.the-variants.{Block}
+use Rattle.inline_refs.specs.declared.ref_name.RefName.the-variants.{Block}
 use Rattle.item_list.specs.declared.Sought.{Sought}
 use Rattle.item_list.specs.declared.Sought.the-variants.{Present, Absent}
-use Rattle.item_list.specs.Steps.{itemsOf}
+use Rattle.item_list.specs.Steps.{listItems}
 use Rattle.item_list.specs.Seeks.{seekIn}
-use Rattle.item_list.proofs.Places.{no-cut}
+use Rattle.item_list.proofs.Positions.{no-cut}
 use Rattle.record_edit.specs.declared.RecordAt.{RecordAt}
 use Rattle.record_edit.specs.Stands.{StandsAt, onKey}
 use Rattle.transaction.specs.Drops.{dropRef}
 use Rattle.record_edit.proofs.Stands.{Stands, stands, on-key}
 use Rattle.transaction.proofs.Turns.{accepted-absent, stays}
-use Rattle.transaction.proofs.Behind.{BehindAt, rises, stands-at}
+use Rattle.transaction.proofs.BehindRecord.{BehindAt, rises, stands-at}
 use Rattle.transaction.proofs.Puts.{replaced-without}
 use Rattle.transaction.proofs.Owned.{Owned, Headed, with-own, own-bind}
 
@@ -84,9 +84,9 @@ drop-headed type d name bytes rest e =
     let q = ask-ok (leb (length d) 65535) 3 _ e in
     let read = bind-ok (readBody type d) _ (q .1) in
     let b : Body = read .0 in
-    let hit = bind-ok (found (cut (named 176 (one (name .tree))) (b .refs))) _ (read .2) in
+    let hit = bind-ok (found (firstCut (named 176 (one (name .tree))) (b .refs))) _ (read .2) in
     let c : Cut Ref = hit .0 in
-    let k : Found (named 176 (one (name .tree))) (b .refs) c = cut-some (named 176 (one (name .tree))) (b .refs) (found-ok (cut (named 176 (one (name .tree))) (b .refs)) (hit .1)) in
+    let k : Found (named 176 (one (name .tree))) (b .refs) c = cut-some (named 176 (one (name .tree))) (b .refs) (found-ok (firstCut (named 176 (one (name .tree))) (b .refs)) (hit .1)) in
     let total = bind-ok (loweredByOne (b .total)) _ (hit .2) in
     let l = drop-long type d bytes b (read .1) (total .0) c (k .same) in
     let is = ap length (accepted-inj (total .2)) in
@@ -122,9 +122,9 @@ module _ {s : List ℕ} {c : Cut Item} {target : RecordAt} (st : Stands s c targ
       bind (lowerTotal (c .hit .bytes)) (λ rest. bind (flagged own rest) (λ body. replaced (c .hit .key) body others))
 
   abbrev other : Bool → Answer (List Item)
-  other own = bind (deleted key (itemsOf s)) (after own)
+  other own = bind (deleted key (listItems s)) (after own)
 
-  other-none : (own : Bool) → cut (hasKey key) (itemsOf s) ≡ none → other own ≡ refused 5
+  other-none : (own : Bool) → firstCut (hasKey key) (listItems s) ≡ none → other own ≡ refused 5
   unfolding deleted bind needed
   other-none own e = ap (λ (o : Option (Cut Item)). bind (bind (needed 5 o) (λ k. accepted (without k))) (after own)) e
 
@@ -139,11 +139,11 @@ module _ {s : List ℕ} {c : Cut Item} {target : RecordAt} (st : Stands s c targ
 
   other-owned : Owned (target .start + 37) (heldSheet room (other false)) (heldSheet room (other true))
   unfolding flagged bind heldSheet held
-  other-owned = go (seekIn key 1 (itemsOf s)) refl
+  other-owned = go (seekIn key 1 (listItems s)) refl
     where
-      go : (f : Sought) → seekIn key 1 (itemsOf s) ≡ f → Owned (target .start + 37) (heldSheet room (other false)) (heldSheet room (other true))
+      go : (f : Sought) → seekIn key 1 (listItems s) ≡ f → Owned (target .start + 37) (heldSheet room (other false)) (heldSheet room (other true))
       go (Absent at) e =
-          let gone : cut (hasKey key) (itemsOf s) ≡ none = no-cut key 1 (itemsOf s) at (rises st) e in
+          let gone : firstCut (hasKey key) (listItems s) ≡ none = no-cut key 1 (listItems s) at (rises st) e in
           owned-by (ap (heldSheet room) (other-none false gone)) (ap (heldSheet room) (other-none true gone))
           (record { same = refl; long = λ l f. refused-not f })
       go (Present from to) e =
@@ -154,7 +154,7 @@ module _ {s : List ℕ} {c : Cut Item} {target : RecordAt} (st : Stands s c targ
   abbrev call : Bool → Answer (List ℕ) → Answer (List Item)
   call own a = ifAbsent (bind a (λ rest. bind (flagged own rest) (λ body. accepted (putBack c body)))) (other own)
 
-  drop-owned : Owned (target .start + 37) (heldSheet room (dropTreeRef name false (itemsOf s) c)) (heldSheet room (dropTreeRef name true (itemsOf s) c))
+  drop-owned : Owned (target .start + 37) (heldSheet room (dropTreeRef name false (listItems s) c)) (heldSheet room (dropTreeRef name true (listItems s) c))
   unfolding dropTreeRef ifAbsent bind flagged heldSheet held
   drop-owned =
       go (dropInlineTreeRef (c .hit .key .kind) (c .hit .bytes) name)
@@ -172,8 +172,8 @@ module _ {s : List ℕ} {c : Cut Item} {target : RecordAt} (st : Stands s c targ
 
 -- at the record's key
 pub key-owned : {s : List ℕ} {target : RecordAt} → T (areBytes s) → StandsAt s target → (name : BlockRef) (room : ℕ)
-    → Owned (target .start + 37) (heldSheet room (onKey (target .key) (itemsOf s) (dropRef (Block name) (itemsOf s))))
-    (heldSheet room (onKey (target .key) (itemsOf s) (dropTreeRef name true (itemsOf s))))
+    → Owned (target .start + 37) (heldSheet room (onKey (target .key) (listItems s) (dropRef (Block name) (listItems s))))
+    (heldSheet room (onKey (target .key) (listItems s) (dropTreeRef name true (listItems s))))
 unfolding dropRef
 key-owned bytes h name room =
     owned-by (ap (heldSheet room) (on-key h _)) (ap (heldSheet room) (on-key h _)) (drop-owned (stands bytes h) bytes name room)

@@ -23,7 +23,7 @@ use Rattle.format.proofs.Answers.{ask-yes, accepted-inj, refused-not, absent-no
 use Rattle.format.proofs.Items.{length-itemBytes}
 use Rattle.format.proofs.Splices.{sheet-join, sheet-data}
 use Rattle.record_edit.specs.declared.RecordAt.{RecordAt}
-use Rattle.transaction.specs.Edits.{ownAt}
+use Rattle.transaction.specs.Edits.{withOwnFlag}
 use Rattle.record_edit.proofs.Stands.{Stands}
 use Rattle.transaction.proofs.Rewrites.{sheet-part, part-inside}
 
@@ -31,10 +31,10 @@ use Rattle.transaction.proofs.Rewrites.{sheet-part, part-inside}
 
 -- what the flag makes of an answer, and that the flags stand inside a list that was accepted
 pub record Owned (at : ℕ) (plain own : Answer (List ℕ)) : Type 0 where
-  pub same : own ≡ bind plain (λ bytes. accepted (ownAt at bytes))
+  pub same : own ≡ bind plain (λ bytes. accepted (withOwnFlag at bytes))
   pub long : (bytes : List ℕ) → plain ≡ accepted bytes → at + 8 ≤ length bytes
 
-own-append : (at : ℕ) (bytes more : List ℕ) → at + 8 ≤ length bytes → ownAt at (bytes ++ more) ≡ ownAt at bytes ++ more
+own-append : (at : ℕ) (bytes more : List ℕ) → at + 8 ≤ length bytes → withOwnFlag at (bytes ++ more) ≡ withOwnFlag at bytes ++ more
 own-append at bytes more h =
     let x : List ℕ = leBytes 8 (bitOr (le (part at 8 bytes)) 256) in
     let n : length x ≡ 8 = length-leBytes 8 (bitOr (le (part at 8 bytes)) 256) in
@@ -47,7 +47,7 @@ own-append at bytes more h =
     ∙ ap₂ (λ (a b : List ℕ). a ++ x ++ b) (take-append-le at bytes more at≤) (drop-append-le (at + length x) bytes more to≤)
     ∙ sym (append-assoc (take at bytes ++ x) (drop (at + length x) bytes) more)
 
-length-own : (at : ℕ) (bytes : List ℕ) → at + 8 ≤ length bytes → length (ownAt at bytes) ≡ length bytes
+length-own : (at : ℕ) (bytes : List ℕ) → at + 8 ≤ length bytes → length (withOwnFlag at bytes) ≡ length bytes
 length-own at bytes h =
     let x : List ℕ = leBytes 8 (bitOr (le (part at 8 bytes)) 256) in
     let n : length x ≡ 8 = length-leBytes 8 (bitOr (le (part at 8 bytes)) 256) in
@@ -66,7 +66,7 @@ module _ {at : ℕ} {own : Answer (List ℕ)} where
 
   -- written, then the flag
   pub own-written : (plain : Answer (List ℕ)) (q : Edited) (n : ℕ) (old mid new : List ℕ) → q ≡ Written n → Owned at plain own → Answered plain q old mid
-      → new ≡ ownAt at mid
+      → new ≡ withOwnFlag at mid
       → Answered own (Written n) old new
   unfolding editedOf lent bind
   own-written (refused k) q n old mid new is o w e = let f = sym is ∙ w .result in let z : _≡_ {A = ℕ} 0 1 = cc in absurd (omega arith)
@@ -74,12 +74,12 @@ module _ {at : ℕ} {own : Answer (List ℕ)} where
   own-written remove q n old mid new is o w e = let f = sym is ∙ w .result in let z : _≡_ {A = ℕ} 0 1 = cc in absurd (omega arith)
   own-written (accepted bytes) q n old mid new is o w e =
       let h : at + 8 ≤ length bytes = o .long bytes refl in
-      let l : length (ownAt at bytes) ≡ length bytes = length-own at bytes h in
+      let l : length (withOwnFlag at bytes) ≡ length bytes = length-own at bytes h in
       subst (λ (a : Answer (List ℕ)). Answered a (Written n) old new) (sym (o .same))
       (record {
         result = sym is ∙ w .result ∙ ap Written (sym l);
-        output = e ∙ ap (ownAt at) (w .output) ∙ own-append at bytes (drop (length bytes) old) h
-            ∙ ap (λ (k : ℕ). ownAt at bytes ++ drop k old) (sym l);
+        output = e ∙ ap (withOwnFlag at) (w .output) ∙ own-append at bytes (drop (length bytes) old) h
+            ∙ ap (λ (k : ℕ). withOwnFlag at bytes ++ drop k old) (sym l);
       })
 
   -- nothing written
@@ -143,7 +143,7 @@ module _ {s : List ℕ} {c : Cut Item} {target : RecordAt} (st : Stands s c targ
     inside = let n = length-leBytes 8 (bitOr (flagsOf rest) 256) in let l = whole .0 in omega arith
 
     -- the bytes of the list
-    put-own : sheetBytes (put (marked rest)) ≡ ownAt (target .start + 37) (sheetBytes (put rest))
+    put-own : sheetBytes (put (marked rest)) ≡ withOwnFlag (target .start + 37) (sheetBytes (put rest))
     unfolding flagsOf
     put-own =
         let i : Item = withBytes (c .hit) rest in
@@ -188,7 +188,7 @@ module _ {s : List ℕ} {c : Cut Item} {target : RecordAt} (st : Stands s c targ
       where
         go : (b : Bool)
             → bind (ask b 21 (accepted (put (marked rest)))) (λ items. accepted (sheetBytes items))
-            ≡ bind (bind (ask b 21 (accepted (put rest))) (λ items. accepted (sheetBytes items))) (λ bytes. accepted (ownAt (target .start + 37) bytes))
+            ≡ bind (bind (ask b 21 (accepted (put rest))) (λ items. accepted (sheetBytes items))) (λ bytes. accepted (withOwnFlag (target .start + 37) bytes))
         go true = ap accepted put-own
         go false = refl
 

@@ -10,9 +10,9 @@ use Rattle.format.specs.Questions.{Answer, ask, bind, Answered}
 use Rattle.backref.specs.declared.plan.Outcome.{Outcome}
 use Rattle.backref.specs.declared.plan.Outcome.the-variants.{Edit, Absent, Remove, Refused}
 use Rattle.backref.specs.declared.plan.Plan.{Plan}
-use Rattle.backref.specs.Plans.{edited, planned, planAnswer, EditIn, PlanIn}
+use Rattle.backref.specs.Plans.{edited, planOutcome, planAnswer, EditIn, PlanIn}
 use Rattle.backref.proofs.Outcomes.{plan-is, inside-edit, length-edited}
-use Rattle.record_edit.specs.declared.Behind.{Behind}
+use Rattle.record_edit.specs.declared.SecondEdit.{SecondEdit}
 use Rattle.record_edit.specs.declared.RecordAt.{RecordAt}
 use Rattle.record_edit.specs.Records.{dataOf, editedSheet, heldRecord, heldEdit}
 use Rattle.transaction.specs.Edits.{heldPlan}
@@ -30,7 +30,7 @@ module _ (p : Plan) (body : List ℕ) (inside : PlanIn p body) (room count : ℕ
       rw (le-leb (length (edited p body)) 65564 z)
 
   no-limit : bind (planAnswer p body) (heldEdit room count 65564 sheet) ≡ bind (planAnswer p body) (λ d. heldRecord room count (length d) (sheet d))
-  unfolding bind planned
+  unfolding bind planOutcome
   no-limit = go (p .outcome) refl
     where
       go : (o : Outcome) → p .outcome ≡ o
@@ -40,7 +40,7 @@ module _ (p : Plan) (body : List ℕ) (inside : PlanIn p body) (room count : ℕ
       go Remove e = rw (plan-is p body e)
       go (Refused n) e = rw (plan-is p body e)
 
-pub put-held : (s : List ℕ) (target : RecordAt) (p : Plan) (b : Behind) (room count : ℕ) (r : Edited) (old new : List ℕ)
+pub put-held : (s : List ℕ) (target : RecordAt) (p : Plan) (b : SecondEdit) (room count : ℕ) (r : Edited) (old new : List ℕ)
     → PlanIn p (dataOf s (target .start) (target .end))
     → Answered (bind (planAnswer p (dataOf s (target .start) (target .end))) (heldEdit room count 65564 (editedSheet s target b))) r old new
     → Answered (heldPlan room count s target p b) r old new

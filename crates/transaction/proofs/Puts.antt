@@ -20,30 +20,30 @@ use Rattle.format.specs.Items.{Item, rising, itemBytes, sheetBytes, dataFits, h
 use Rattle.format.specs.Apply.{replaced}
 use Rattle.format.proofs.Keys.{rising-drop, rising-swap, cut-at-key}
 use Rattle.format.proofs.Splices.{sheet-replace, sheet-remove, sheet-data}
-use Rattle.item_list.specs.Steps.{itemsOf}
+use Rattle.item_list.specs.Steps.{listItems}
 use Rattle.backref.specs.declared.plan.Outcome.the-variants.{Absent}
 use Rattle.backref.specs.declared.plan.Plan.{Plan}
 use Rattle.backref.specs.Plans.{planAnswer}
-use Rattle.record_edit.specs.declared.Behind.{Behind}
+use Rattle.record_edit.specs.declared.SecondEdit.{SecondEdit}
 use Rattle.record_edit.specs.declared.RecordAt.{RecordAt}
 use Rattle.record_edit.specs.Records.{dataOf, editedSheet, heldRecord, nothing}
 use Rattle.record_edit.proofs.Held.{held-items, held-bind, all-but}
-use Rattle.transaction.specs.Edits.{gone, counts, heldPlan}
+use Rattle.transaction.specs.Edits.{gone, newCount, heldPlan}
 use Rattle.record_edit.proofs.Stands.{Stands}
 use Rattle.transaction.proofs.Turns.{not-absent, stays}
 use Rattle.transaction.proofs.Rewrites.{sheet-part}
-use Rattle.transaction.proofs.Behind.{BehindAt, rises}
+use Rattle.transaction.proofs.BehindRecord.{BehindAt, rises}
 
 module _ {s : List ℕ} {c : Cut Item} {target : RecordAt} (st : Stands s c target) where
   -- ---- with other items behind the record
 
   -- the second edit turns what stands behind the record into these items, and makes a list of m
-  pub record Second (rest : List Item) (b : Behind) (m : ℕ) : Type 0 where
+  pub record Second (rest : List Item) (b : SecondEdit) (m : ℕ) : Type 0 where
     pub inner : sheetBytes (c .front ++ c .hit ∷ rest) ≡ spliced (b .from) (b .to) (take (b .size) (b .new)) s
     pub many : length (c .front ++ c .hit ∷ rest) ≡ m
     pub fit : T (all (λ i. dataFits (i .bytes)) (c .front ++ rest))
 
-  module _ {rest : List Item} {b : Behind} {m : ℕ} (second : Second rest b m) (room : ℕ) where
+  module _ {rest : List Item} {b : SecondEdit} {m : ℕ} (second : Second rest b m) (room : ℕ) where
     pub held-second : (d : List ℕ)
         → heldSheet room (accepted (c .front ++ withBytes (c .hit) d ∷ rest)) ≡ heldRecord room m (length d) (editedSheet s target b d)
     unfolding editedSheet dataFits
@@ -115,7 +115,7 @@ module _ {s : List ℕ} {c : Cut Item} {target : RecordAt} (st : Stands s c targ
         let a = k .stands .starts in
         let b = k .stands .ends in
         let size : length (i .hit .bytes) ≡ to - (from + 21) = omega arith in
-        sym (sheet-data (itemsOf s) (i .front) (i .hit) (i .back) (k .same)) ∙ (λ j. part (k .stands .starts j + 21) (size j) (st .bytes-are j))
+        sym (sheet-data (listItems s) (i .front) (i .hit) (i .back) (k .same)) ∙ (λ j. part (k .stands .starts j + 21) (size j) (st .bytes-are j))
 
     -- it goes
     pub without-it : Second (k .parts .mid ++ i .back) (gone from to) (target .«item_count» - 1)
@@ -123,7 +123,7 @@ module _ {s : List ℕ} {c : Cut Item} {target : RecordAt} (st : Stands s c targ
         let l₁ = sym (st .count) ∙ ap length (k .same) ∙ length-append (i .front) (i .hit ∷ i .back) in
         let l₂ = length-append (i .front) (i .back) in
         record {
-          inner = ap sheetBytes (sym (joined (i .back))) ∙ sheet-remove (itemsOf s) (i .front) (i .hit) (i .back) (k .same)
+          inner = ap sheetBytes (sym (joined (i .back))) ∙ sheet-remove (listItems s) (i .front) (i .hit) (i .back) (k .same)
               ∙ (λ j. spliced (k .stands .starts j) (k .stands .ends j) [] (st .bytes-are j));
           many = ap length (sym (joined (i .back))) ∙ l₂ ∙ omega (arith, l₁);
           fit = all-rest (λ i. dataFits (i .bytes)) (c .front) (c .hit) (k .parts .mid ++ i .back)
@@ -153,13 +153,13 @@ module _ {s : List ℕ} {c : Cut Item} {target : RecordAt} (st : Stands s c targ
           let f = four in
           let a = k .stands .starts in
           let b = k .stands .ends in
-          let place : from + 21 + at ≡ to - 4 = omega arith in
+          let position : from + 21 + at ≡ to - 4 = omega arith in
           let to-is : from + 21 + at + length (leBytes 4 count) ≡ to = omega arith in
           let all-four : take 4 (leBytes 4 count) ≡ leBytes 4 count = take-all 4 (leBytes 4 count) (omega arith) in
-          sheet-part (itemsOf s) (i .front) (i .hit) at (leBytes 4 count) (i .back) (k .same) fits-it
+          sheet-part (listItems s) (i .front) (i .hit) at (leBytes 4 count) (i .back) (k .same) fits-it
           ∙ (λ j. written (k .stands .starts j + 21 + at) (leBytes 4 count) (st .bytes-are j))
           ∙ sym (spliced-written (from + 21 + at) to (leBytes 4 count) s to-is)
-          ∙ ap₂ (λ (n : ℕ) (l : List ℕ). spliced n to l s) place (sym all-four)
+          ∙ ap₂ (λ (n : ℕ) (l : List ℕ). spliced n to l s) position (sym all-four)
 
       counted-fits : T (dataFits (with-count .bytes))
       unfolding dataFits
@@ -167,7 +167,7 @@ module _ {s : List ℕ} {c : Cut Item} {target : RecordAt} (st : Stands s c targ
           let l = length-written at (leBytes 4 count) (i .hit .bytes) fits-it in
           subst (λ (n : ℕ). T (leb n 65535)) (sym l) (all-mid (λ i. leb (length (i .bytes)) 65535) (i .front) (i .hit) (i .back) fit-at)
 
-      pub counted-it : Second (k .parts .mid ++ with-count ∷ i .back) (counts to count) (target .«item_count»)
+      pub counted-it : Second (k .parts .mid ++ with-count ∷ i .back) (newCount to count) (target .«item_count»)
       counted-it =
           let e = joined (with-count ∷ i .back) in
           record {

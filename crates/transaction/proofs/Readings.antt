@@ -22,21 +22,21 @@ more r x = bind x (λ refs. accepted (r ∷ refs))
 
 all-more : (p : Ref → Bool) (r : Ref) (x : Answer (List Ref)) → allOf p (more r x) ≡ p r && allOf p x
 unfolding allOf bind
-all-more p r (refused number) = sym (and-false (p r))
+all-more p r (refused refusal) = sym (and-false (p r))
 all-more p r absent = sym (and-false (p r))
 all-more p r remove = sym (and-false (p r))
 all-more p r (accepted refs) = refl
 
 reads-more : (r : Ref) (x : Answer (List Ref)) → reads (more r x) ≡ reads x
 unfolding reads bind
-reads-more r (refused number) = refl
+reads-more r (refused refusal) = refl
 reads-more r absent = refl
 reads-more r remove = refl
 reads-more r (accepted refs) = refl
 
 sum-more : (f : Ref → ℕ) (r : Ref) (x : Answer (List Ref)) → T (reads x) → sumOf f (more r x) ≡ f r + sumOf f x
 unfolding sumOf reads bind
-sum-more f r (refused number) t = absurd t
+sum-more f r (refused refusal) t = absurd t
 sum-more f r absent t = absurd t
 sum-more f r remove t = absurd t
 sum-more f r (accepted refs) t = refl
@@ -82,7 +82,7 @@ module _ (x : Answer (List Ref)) where
 
 pub all-reads : (m : Ref → Bool) (x : Answer (List Ref)) → allOf m x ≡ true → T (reads x)
 unfolding allOf reads
-all-reads m (refused number) e = subst T (sym e) tt
+all-reads m (refused refusal) e = subst T (sym e) tt
 all-reads m absent e = subst T (sym e) tt
 all-reads m remove e = subst T (sym e) tt
 all-reads m (accepted refs) e = tt

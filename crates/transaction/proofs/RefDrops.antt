@@ -11,7 +11,7 @@ use lib.ListN.{length}
 use lib.Seq.{take-all}
 use borrow.Author.Tests.{eqb-true}
 use denote.Enum.Declared.{tagOf}
-use Rattle.fields.specs.Lists.{all, Cut, cut}
+use Rattle.fields.specs.Lists.{all, Cut, firstCut}
 use Rattle.fields.specs.Numbers.{le, areBytes}
 use Rattle.fields.specs.Parts.{part}
 use Rattle.fields.proofs.Lists.{all-mid, cut-some}
@@ -22,7 +22,7 @@ use Rattle.format.specs.declared.Key.{Key}
 use Rattle.format.specs.declared.Edited.{Edited}
 use Rattle.format.specs.declared.Edited.the-variants.{Refused as Denied}
 use Rattle.format.specs.Questions.{Answer, refused, absent, remove, accepted, bind, needed, ifAbsent, held, TakenOut, Answered}
-use Rattle.format.specs.References.{known, rowIn, placeOf, ref}
+use Rattle.format.specs.References.{known, rowIn, rankOf, makeRef}
 use Rattle.format.specs.Bodies.{one, lowerTotal, reduceTotal, dropInlineTreeRef, dropInlineDataRef, keyedCount, dropKeyedDataRef, takeInlineShared}
 use Rattle.format.specs.Items.{Item, keyOf, heldSheet, putBack, without}
 use Rattle.format.specs.Sheets.{hasKey, deleted}
@@ -31,12 +31,12 @@ use Rattle.format.specs.Names.{isRefItem, inForm, viewRefItem, viewOf, wellForm
 use Rattle.format.specs.Ledger.{droppedAt, dropDataRef, sharedCount, dropSharedRef}
 use Rattle.format.proofs.Answers.{bind-next, remove-not}
 use Rattle.format.proofs.Keys.{sameKey-yes}
-use Rattle.inline_refs.specs.declared.wanted.Wanted.{Wanted}
-use Rattle.inline_refs.specs.declared.wanted.Wanted.the-variants.{Block, Data, SharedBlock, SharedData}
+use Rattle.inline_refs.specs.declared.ref_name.RefName.{RefName}
+use Rattle.inline_refs.specs.declared.ref_name.RefName.the-variants.{Block, Data, SharedBlock, SharedData}
 use Rattle.inline_refs.specs.Scans.{kindOf, fieldsOf}
-use Rattle.inline_refs.proofs.wanted.Wanted.{the-type}
+use Rattle.inline_refs.proofs.ref_name.RefName.{the-type}
 use Rattle.item_list.specs.declared.Sought.the-variants.{Present, Absent as Missing}
-use Rattle.item_list.specs.Steps.{itemsOf, itemsFrom}
+use Rattle.item_list.specs.Steps.{listItems, listItemsFrom}
 use Rattle.item_list.specs.Seeks.{seekIn}
 use Rattle.item_list.proofs.ItemWrites.{answered-no}
 use Rattle.backref.specs.declared.plan.Outcome.the-variants.{Absent}
@@ -50,11 +50,11 @@ use Rattle.backref.proofs.Takings.{taken-whole}
 use Rattle.record_edit.specs.declared.RecordAt.{RecordAt}
 use Rattle.record_edit.specs.Records.{dataOf, editedSheet, heldRecord, nothing, heldEdit}
 use Rattle.record_edit.proofs.Held.{held-bind}
-use Rattle.transaction.specs.Edits.{gone, counts, heldPlan, heldAt}
-use Rattle.transaction.specs.Drops.{dropRef, InForm, takenWhole, droppedInline, loweredTotal, itemDrop, CountFits}
+use Rattle.transaction.specs.Edits.{gone, newCount, heldPlan, heldAt}
+use Rattle.transaction.specs.Drops.{dropRef, SharedInForm, takenWhole, droppedInline, loweredTotal, itemDrop, CountFits}
 use Rattle.record_edit.proofs.Stands.{Stands}
 use Rattle.transaction.proofs.Turns.{is-absent, turns}
-use Rattle.transaction.proofs.Behind.{BehindAt, behind-at, behind-none}
+use Rattle.transaction.proofs.BehindRecord.{BehindAt, behind-at, behind-none}
 use Rattle.transaction.proofs.Puts.{inline-answered, held-second, item-bytes, without-it, replaced-without, counted-it, replaced-counted}
 use Rattle.transaction.proofs.ItemDrops.{keyed-out, count-is}
 use Rattle.transaction.proofs.Plans.{put-held}
@@ -81,18 +81,18 @@ plan-taken type body name taken r bytes p reduces =
       inside = d .inside;
     }
 
-pub four-long : (w : Wanted) (item : List ℕ) (parent : ℕ) → w ≡ SharedData parent → CountFits w item → length item ≡ 4
-four-long w item parent e f = subst (λ (x : Wanted). CountFits x item) e f
+pub four-long : (w : RefName) (item : List ℕ) (parent : ℕ) → w ≡ SharedData parent → CountFits w item → length item ≡ 4
+four-long w item parent e f = subst (λ (x : RefName). CountFits x item) e f
 
-module _ (w : Wanted) (p : Plan) (body : List ℕ) where
+module _ (w : RefName) (p : Plan) (body : List ℕ) where
   module _ (type : ℕ) where
     pub inline-block : (name : BlockRef) → w ≡ Block name → Planned p body (dropNamed type body w) → Planned p body (droppedInline w type body)
     unfolding droppedInline
-    inline-block name e h = rw e (subst (λ (x : Wanted). Planned p body (dropNamed type body x)) e h)
+    inline-block name e h = rw e (subst (λ (x : RefName). Planned p body (dropNamed type body x)) e h)
 
     pub inline-data : (name : DataRef) → w ≡ Data name → Planned p body (dropNamed type body w) → Planned p body (droppedInline w type body)
     unfolding droppedInline
-    inline-data name e h = rw e (subst (λ (x : Wanted). Planned p body (dropNamed type body x)) e h)
+    inline-data name e h = rw e (subst (λ (x : RefName). Planned p body (dropNamed type body x)) e h)
 
     pub inline-shared-block : (parent : ℕ) → w ≡ SharedBlock parent → Planned p body (takenWhole type body (sharedRef 182 parent)) → Planned p body (droppedInline w type body)
     unfolding droppedInline
@@ -126,14 +126,14 @@ module _ (w : Wanted) (p : Plan) (body : List ℕ) where
 -- ---- at the item
 
 -- of a data reference
-pub at-data : (w : Wanted) (name : DataRef) (s : List ℕ) (target : RecordAt) (from to room : ℕ) (r : Edited) (old new : List ℕ) → w ≡ Data name
+pub at-data : (w : RefName) (name : DataRef) (s : List ℕ) (target : RecordAt) (from to room : ℕ) (r : Edited) (old new : List ℕ) → w ≡ Data name
     → Answered (bind (lowerTotal (dataOf s (target .start) (target .end))) (heldAt room s target from to (dropKeyedDataRef (dataOf s from to) name))) r old new
     → Answered (bind (loweredTotal w (dataOf s from to) (dataOf s (target .start) (target .end))) (heldAt room s target from to (itemDrop w (dataOf s from to)))) r old new
 unfolding loweredTotal itemDrop
 at-data w name s target from to room r old new e h = rw e h
 
 -- of another one
-item-goes : (w : Wanted) (item : List ℕ) → (tagOf the-type w ≡ 0) ⊎ ((tagOf the-type w ≡ 2) ⊎ (tagOf the-type w ≡ 3)) → itemDrop w item ≡ remove
+item-goes : (w : RefName) (item : List ℕ) → (tagOf the-type w ≡ 0) ⊎ ((tagOf the-type w ≡ 2) ⊎ (tagOf the-type w ≡ 3)) → itemDrop w item ≡ remove
 unfolding itemDrop
 item-goes (Block name) item h = refl
 item-goes (Data name) item (inl z) = absurd (let y : _≡_ {A = ℕ} 1 0 = z in omega arith)
@@ -142,7 +142,7 @@ item-goes (Data name) item (inr (inr z)) = absurd (let y : _≡_ {A = ℕ} 1 3 =
 item-goes (SharedBlock parent) item h = refl
 item-goes (SharedData parent) item h = refl
 
-pub at-other : (w : Wanted) (s : List ℕ) (target : RecordAt) (from to room : ℕ) (q : Plan) (r : Edited) (old new : List ℕ)
+pub at-other : (w : RefName) (s : List ℕ) (target : RecordAt) (from to room : ℕ) (q : Plan) (r : Edited) (old new : List ℕ)
     → (tagOf the-type w ≡ 0) ⊎ ((tagOf the-type w ≡ 2) ⊎ (tagOf the-type w ≡ 3))
     → Planned q (dataOf s (target .start) (target .end)) (loweredTotal w (dataOf s from to) (dataOf s (target .start) (target .end)))
     → Answered (heldPlan room (target .«item_count» - 1) s target q (gone from to)) r old new
@@ -154,7 +154,7 @@ at-other w s target from to room q r old new tag h written =
 
 -- ---- the definition in one form
 
-pub kind-high : (w : Wanted) → 170 ≤ kindOf w
+pub kind-high : (w : RefName) → 170 ≤ kindOf w
 unfolding kindOf
 kind-high (Block name) = omega arith
 kind-high (Data name) = omega arith
@@ -172,7 +172,7 @@ unfolding bind needed
 same-found none f g h = refl
 same-found (some k) f g h = h k refl
 
-kind-found : (items : List Item) (key : Key) (k : Cut Item) → cut (hasKey key) items ≡ some k → k .hit .key .kind ≡ key .kind
+kind-found : (items : List Item) (key : Key) (k : Cut Item) → firstCut (hasKey key) items ≡ some k → k .hit .key .kind ≡ key .kind
 kind-found items key k e = ap (λ (x : Key). x .kind) (sameKey-yes (k .hit .key) key (cut-some (hasKey key) items e .hit))
 
 count-block : (i : Item) → i .key .kind ≡ 182 → sharedCount i ≡ 1
@@ -184,31 +184,31 @@ unfolding sharedCount
 count-data i e = rw e
 
 module _ (items : List Item) (c : Cut Item) where
-  abbrev at-item : Wanted → Cut Item → Answer (List Item)
+  abbrev at-item : RefName → Cut Item → Answer (List Item)
   at-item w k =
       bind (loweredTotal w (k .hit .bytes) (c .hit .bytes)) (λ body.
       bind (droppedAt k (itemDrop w (k .hit .bytes))) (λ others. replaced (c .hit .key) body others))
 
-  abbrev own-key : Wanted → Key
-  own-key w = keyOf (c .hit .key .objectid) (kindOf w) (placeOf (kindOf w) (fieldsOf w))
+  abbrev own-key : RefName → Key
+  own-key w = keyOf (c .hit .key .objectid) (kindOf w) (rankOf (kindOf w) (fieldsOf w))
 
-  abbrev in-one : Wanted → Answer (List Item)
+  abbrev in-one : RefName → Answer (List Item)
   in-one w =
       ifAbsent (bind (droppedInline w (c .hit .key .kind) (c .hit .bytes)) (λ body. accepted (putBack c body)))
-      (bind (needed 5 (cut (hasKey (own-key w)) items)) (at-item w))
+      (bind (needed 5 (firstCut (hasKey (own-key w)) items)) (at-item w))
 
   one-block : (name : BlockRef) → dropTreeRef name false items c ≡ in-one (Block name)
-  unfolding dropTreeRef flagged deleted droppedAt droppedInline loweredTotal itemDrop kindOf fieldsOf placeOf bind
+  unfolding dropTreeRef flagged deleted droppedAt droppedInline loweredTotal itemDrop kindOf fieldsOf rankOf bind
   one-block name =
       ap (ifAbsent (bind (dropInlineTreeRef (c .hit .key .kind) (c .hit .bytes) name) (λ body. accepted (putBack c body))))
-      (deleted-next (cut (hasKey (keyOf (c .hit .key .objectid) 176 (name .tree))) items)
+      (deleted-next (firstCut (hasKey (keyOf (c .hit .key .objectid) 176 (name .tree))) items)
       (λ others. bind (lowerTotal (c .hit .bytes)) (λ body. replaced (c .hit .key) body others)))
 
   one-data : (name : DataRef) → dropDataRef name items c ≡ in-one (Data name)
   unfolding dropDataRef droppedInline loweredTotal itemDrop kindOf fieldsOf
   one-data name = refl
 
-  one-shared : (name : SharedRef) (w : Wanted) → droppedInline w (c .hit .key .kind) (c .hit .bytes) ≡ takenWhole (c .hit .key .kind) (c .hit .bytes) name
+  one-shared : (name : SharedRef) (w : RefName) → droppedInline w (c .hit .key .kind) (c .hit .bytes) ≡ takenWhole (c .hit .key .kind) (c .hit .bytes) name
       → own-key w ≡ keyOf (c .hit .key .objectid) (name .kind) (name .parent)
       → ((k : Cut Item) → k .hit .key .kind ≡ name .kind
       → bind (reduceTotal (c .hit .bytes) (sharedCount (k .hit))) (λ body. replaced (c .hit .key) body (without k)) ≡ at-item w k)
@@ -219,11 +219,11 @@ module _ (items : List Item) (c : Cut Item) where
       ap₂ (λ (a b : Answer (List Item)). ifAbsent a b)
       (bind-next (takeInlineShared (c .hit .key .kind) (c .hit .bytes) name) (λ out. reduceTotal (out .bytes) (out .count)) (λ body. accepted (putBack c body))
       ∙ ap (λ (a : Answer (List ℕ)). bind a (λ body. accepted (putBack c body))) (sym inl-is))
-      (same-found (cut (hasKey key) items) _ (at-item w) (λ k e. at k (kind-found items key k e))
-      ∙ ap (λ (x : Key). bind (needed 5 (cut (hasKey x) items)) (at-item w)) (sym key-is))
+      (same-found (firstCut (hasKey key) items) _ (at-item w) (λ k e. at k (kind-found items key k e))
+      ∙ ap (λ (x : Key). bind (needed 5 (firstCut (hasKey x) items)) (at-item w)) (sym key-is))
 
-  in-one-form : (w : Wanted) → dropRef w items c ≡ in-one w
-  unfolding dropRef droppedInline loweredTotal itemDrop droppedAt kindOf fieldsOf placeOf bind
+  in-one-form : (w : RefName) → dropRef w items c ≡ in-one w
+  unfolding dropRef droppedInline loweredTotal itemDrop droppedAt kindOf fieldsOf rankOf bind
   in-one-form (Block name) = one-block name
   in-one-form (Data name) = one-data name
   in-one-form (SharedBlock parent) =
@@ -240,7 +240,7 @@ four-bytes : (i : Item) → i .key .kind ≡ 184 → T (good i) → length (i .b
 unfolding viewOf isRecord isRefItem known rowIn viewRefItem inForm wellFormed
 four-bytes i e t = go (eqb (length (i .bytes)) 4) refl (rw e at t)
   where
-    go : (b : Bool) → eqb (length (i .bytes)) 4 ≡ b → T (wellFormed (inForm b (ref 184 (one (i .key .offset)) (le (i .bytes))))) → length (i .bytes) ≡ 4
+    go : (b : Bool) → eqb (length (i .bytes)) 4 ≡ b → T (wellFormed (inForm b (makeRef 184 (one (i .key .offset)) (le (i .bytes))))) → length (i .bytes) ≡ 4
     go true h u = eqb-true _ _ h
     go false h u = absurd u
 
@@ -249,7 +249,7 @@ unfolding kindOf
 shared-kind parent = refl
 
 -- an item that counts less is a data reference's
-left-over : (w : Wanted) (item : List ℕ) {bytes : List ℕ} → itemDrop w item ≡ accepted bytes → (name : DataRef) × (dropKeyedDataRef item name ≡ accepted bytes)
+left-over : (w : RefName) (item : List ℕ) {bytes : List ℕ} → itemDrop w item ≡ accepted bytes → (name : DataRef) × (dropKeyedDataRef item name ≡ accepted bytes)
 unfolding itemDrop
 left-over (Block name) item e = remove-not e
 left-over (Data name) item e = (name, e)
@@ -258,7 +258,7 @@ left-over (SharedData parent) item e = remove-not e
 
 -- ---- the call
 
-module _ {s : List ℕ} {c : Cut Item} {target : RecordAt} (st : Stands s c target) (w : Wanted) (p : Plan)
+module _ {s : List ℕ} {c : Cut Item} {target : RecordAt} (st : Stands s c target) (w : RefName) (p : Plan)
     (planned : Planned p (dataOf s (target .start) (target .end)) (droppedInline w (target .key .kind) (dataOf s (target .start) (target .end)))) (room : ℕ) where
   hit-is : record { key = target .key; bytes = dataOf s (target .start) (target .end) } ≡ c .hit
   hit-is = sym (st .hit-is)
@@ -267,17 +267,17 @@ module _ {s : List ℕ} {c : Cut Item} {target : RecordAt} (st : Stands s c targ
   says = planned .says ∙ ap (λ (i : Item). droppedInline w (i .key .kind) (i .bytes)) hit-is
 
   abbrev other : Answer (List Item)
-  other = bind (needed 5 (cut (hasKey (own-key (itemsOf s) c w)) (itemsOf s))) (at-item (itemsOf s) c w)
+  other = bind (needed 5 (firstCut (hasKey (own-key (listItems s) c w)) (listItems s))) (at-item (listItems s) c w)
 
   pub drop-inline : (p .outcome ≡ Absent → ⊥) → (r : Edited) (old new : List ℕ)
       → Answered (bind (planAnswer p (dataOf s (target .start) (target .end))) (heldEdit room (target .«item_count») 65564 (editedSheet s target (nothing (length s))))) r old new
-      → Answered (heldSheet room (dropRef w (itemsOf s) c)) r old new
+      → Answered (heldSheet room (dropRef w (listItems s) c)) r old new
   drop-inline there r old new h =
-      subst (λ (a : Answer (List Item)). Answered (heldSheet room a) r old new) (sym (in-one-form (itemsOf s) c w))
+      subst (λ (a : Answer (List Item)). Answered (heldSheet room a) r old new) (sym (in-one-form (listItems s) c w))
       (inline-answered st p (droppedInline w (c .hit .key .kind) (c .hit .bytes)) other room r old new there says
       (put-held s target p (nothing (length s)) room (target .«item_count») r old new (planned .inside) h))
 
-  module _ (out : p .outcome ≡ Absent) (kind rank : ℕ) (kind-is : kind ≡ kindOf w) (rank-is : rank ≡ placeOf (kindOf w) (fieldsOf w)) where
+  module _ (out : p .outcome ≡ Absent) (kind rank : ℕ) (kind-is : kind ≡ kindOf w) (rank-is : rank ≡ rankOf (kindOf w) (fieldsOf w)) where
     abbrev item-key : Key
     item-key = keyOf (target .key .objectid) kind rank
 
@@ -287,18 +287,18 @@ module _ {s : List ℕ} {c : Cut Item} {target : RecordAt} (st : Stands s c targ
     high : 170 ≤ kind
     high = subst (λ (n : ℕ). 170 ≤ n) (sym kind-is) (kind-high w)
 
-    key-same : item-key ≡ own-key (itemsOf s) c w
+    key-same : item-key ≡ own-key (listItems s) c w
     key-same = λ j. keyOf (extent j) (kind-is j) (rank-is j)
 
-    turned : (o : Option (Cut Item)) → cut (hasKey item-key) (itemsOf s) ≡ o → dropRef w (itemsOf s) c ≡ bind (needed 5 o) (at-item (itemsOf s) c w)
+    turned : (o : Option (Cut Item)) → firstCut (hasKey item-key) (listItems s) ≡ o → dropRef w (listItems s) c ≡ bind (needed 5 o) (at-item (listItems s) c w)
     turned o e =
-        in-one-form (itemsOf s) c w
+        in-one-form (listItems s) c w
         ∙ turns (droppedInline w (c .hit .key .kind) (c .hit .bytes)) _ other (sym says ∙ is-absent p (dataOf s (target .start) (target .end)) out)
-        ∙ ap (λ (k : Key). bind (needed 5 (cut (hasKey k) (itemsOf s))) (at-item (itemsOf s) c w)) (sym key-same)
-        ∙ ap (λ (x : Option (Cut Item)). bind (needed 5 x) (at-item (itemsOf s) c w)) e
+        ∙ ap (λ (k : Key). bind (needed 5 (firstCut (hasKey k) (listItems s))) (at-item (listItems s) c w)) (sym key-same)
+        ∙ ap (λ (x : Option (Cut Item)). bind (needed 5 x) (at-item (listItems s) c w)) e
 
-    pub drop-none : (at : ℕ) (old : List ℕ) → seekIn item-key (target .end) (itemsFrom s (target .end)) ≡ Missing at
-        → Answered (heldSheet room (dropRef w (itemsOf s) c)) (Denied 5) old old
+    pub drop-none : (at : ℕ) (old : List ℕ) → seekIn item-key (target .end) (listItemsFrom s (target .end)) ≡ Missing at
+        → Answered (heldSheet room (dropRef w (listItems s) c)) (Denied 5) old old
     unfolding bind needed
     drop-none at old e = answered-no _ room 5 old (turned none (behind-none st item-key extent high at e))
 
@@ -321,17 +321,17 @@ module _ {s : List ℕ} {c : Cut Item} {target : RecordAt} (st : Stands s c targ
           ap (λ (l : List ℕ). heldSheet room (replaced (c .hit .key) body (putBack i l))) (h .2)
           ∙ ap (heldSheet room) (replaced-counted st k 24 (sym (h .0)) count body)
           ∙ held-second st (counted-it st k 24 (sym (h .0)) count) room body
-          ∙ ap (λ (m : ℕ). heldRecord room (target .«item_count») (length body) (editedSheet s target (counts to m) body)) same-count
+          ∙ ap (λ (m : ℕ). heldRecord room (target .«item_count») (length body) (editedSheet s target (newCount to m) body)) same-count
 
-    pub drop-item : (from to : ℕ) (r : Edited) (old new : List ℕ) → seekIn item-key (target .end) (itemsFrom s (target .end)) ≡ Present from to
+    pub drop-item : (from to : ℕ) (r : Edited) (old new : List ℕ) → seekIn item-key (target .end) (listItemsFrom s (target .end)) ≡ Present from to
         → Answered (bind (loweredTotal w (dataOf s from to) (dataOf s (target .start) (target .end))) (heldAt room s target from to (itemDrop w (dataOf s from to)))) r old new
-        → Answered (heldSheet room (dropRef w (itemsOf s) c)) r old new
+        → Answered (heldSheet room (dropRef w (listItems s) c)) r old new
     unfolding bind needed
     drop-item from to r old new e written =
         let k : BehindAt s c (target .end) item-key from to = behind-at st item-key extent high from to e in
         let item : List ℕ = k .item .hit .bytes in
         let put : List ℕ → Answer (List ℕ) = heldAt room s target from to (itemDrop w item) in
-        let h : heldSheet room (dropRef w (itemsOf s) c) ≡ bind (loweredTotal w item (c .hit .bytes)) put =
+        let h : heldSheet room (dropRef w (listItems s) c) ≡ bind (loweredTotal w item (c .hit .bytes)) put =
         ap (heldSheet room) (turned (some (k .item)) (k .finds))
         ∙ held-bind room (loweredTotal w item (c .hit .bytes)) _ put (λ body f. held-at k (itemDrop w item) refl body) in
         subst (λ (a : Answer (List ℕ)). Answered a r old new)
@@ -339,17 +339,17 @@ module _ {s : List ℕ} {c : Cut Item} {target : RecordAt} (st : Stands s c targ
         (ap (λ (i : Item). i .bytes) hit-is) (sym (item-bytes st k)) ∙ sym h) written
 
     -- the item of shared data is its count
-    pub count-fits : (from to : ℕ) → seekIn item-key (target .end) (itemsFrom s (target .end)) ≡ Present from to → InForm w (itemsOf s) → CountFits w (dataOf s from to)
+    pub count-fits : (from to : ℕ) → seekIn item-key (target .end) (listItemsFrom s (target .end)) ≡ Present from to → SharedInForm w (listItems s) → CountFits w (dataOf s from to)
     count-fits from to e form =
         let k : BehindAt s c (target .end) item-key from to = behind-at st item-key extent high from to e in
         go w refl form k
       where
-        go : (v : Wanted) → w ≡ v → InForm v (itemsOf s) → BehindAt s c (target .end) item-key from to → CountFits v (dataOf s from to)
+        go : (v : RefName) → w ≡ v → SharedInForm v (listItems s) → BehindAt s c (target .end) item-key from to → CountFits v (dataOf s from to)
         go (Block name) e f k = tt
         go (Data name) e f k = tt
         go (SharedBlock parent) e f k = tt
         go (SharedData parent) e f k =
-            let kind-184 : k .item .hit .key .kind ≡ 184 = kind-found (itemsOf s) item-key (k .item) (k .finds) ∙ kind-is ∙ ap kindOf e ∙ shared-kind parent in
+            let kind-184 : k .item .hit .key .kind ≡ 184 = kind-found (listItems s) item-key (k .item) (k .finds) ∙ kind-is ∙ ap kindOf e ∙ shared-kind parent in
             ap length (sym (item-bytes st k))
             ∙ four-bytes (k .item .hit) kind-184
             (all-mid good (k .item .front) (k .item .hit) (k .item .back) (subst (λ (l : List Item). T (all good l)) (k .same) f))

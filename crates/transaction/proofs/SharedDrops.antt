@@ -1,4 +1,4 @@
--- apply_shared_drop, from the record's place and the planned body. Assumes nothing.
+-- apply_shared_drop, from the record's position and the planned body. Assumes nothing.
 use mathlib.Core.Path.{_≡_, sym, ap, _∙_}
 use mathlib.Core.Bool.{Bool, true, false}
 use mathlib.Core.List.{List}

@@ -15,7 +15,7 @@ use Rattle.fields.specs.Parts.{part}
 use Rattle.format.specs.References.{rowIn, payloadLength, countPosition, counted, fieldCount, Ref, refAt}
 use Rattle.format.specs.Bodies.{named, times, offsetOf}
 use Rattle.format.proofs.Rows.{Kind, k172, k176, k178, k182, k184}
-use Rattle.inline_refs.specs.declared.wanted.Wanted.the-variants.{Data}
+use Rattle.inline_refs.specs.declared.ref_name.RefName.the-variants.{Data}
 use Rattle.inline_refs.specs.Scans.{kindOf, fieldsOf}
 use Rattle.inline_refs.proofs.Tests.{triple-words}
 use Rattle.transaction.specs.Counts.{isOurs, addsAt}

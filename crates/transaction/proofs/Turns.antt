@@ -9,7 +9,7 @@ use Rattle.format.specs.Questions.{Answer, refused, absent, remove, accepted, b
 use Rattle.backref.specs.declared.plan.Outcome.{Outcome}
 use Rattle.backref.specs.declared.plan.Outcome.the-variants.{Edit, Absent, Remove, Refused}
 use Rattle.backref.specs.declared.plan.Plan.{Plan}
-use Rattle.backref.specs.Plans.{planned, planAnswer}
+use Rattle.backref.specs.Plans.{planOutcome, planAnswer}
 use Rattle.backref.proofs.plan.Outcome.{the-type}
 use Rattle.backref.proofs.Outcomes.{plan-is}
 
@@ -36,7 +36,7 @@ other-outcome o h e = go (subst (λ (x : Outcome). (tagOf the-type x ≡ 0) ⊎ 
     go (inr (inr z)) = absurd (omega arith)
 
 pub not-absent : (p : Plan) (body : List ℕ) → (p .outcome ≡ Absent → ⊥) → planAnswer p body ≡ absent → ⊥
-unfolding planned
+unfolding planOutcome
 not-absent p body other e = go (p .outcome) refl
   where
     go : (o : Outcome) → p .outcome ≡ o → ⊥
@@ -46,7 +46,7 @@ not-absent p body other e = go (p .outcome) refl
     go (Refused n) h = refused-absent (sym (plan-is p body h) ∙ e)
 
 pub is-absent : (p : Plan) (body : List ℕ) → p .outcome ≡ Absent → planAnswer p body ≡ absent
-unfolding planned
+unfolding planOutcome
 is-absent p body e = plan-is p body e
 
 -- the first decides

@@ -10,19 +10,19 @@ use Rattle.format.specs.References.{Ref}
 use Rattle.format.specs.Bodies.{named, times, offsetOf}
 
 unfoldable pub reads : Answer (List Ref) → Bool
-reads (refused number) = false
+reads (refused refusal) = false
 reads absent = false
 reads remove = false
 reads (accepted refs) = true
 
 unfoldable pub allOf : (Ref → Bool) → Answer (List Ref) → Bool
-allOf p (refused number) = false
+allOf p (refused refusal) = false
 allOf p absent = false
 allOf p remove = false
 allOf p (accepted refs) = all p refs
 
 unfoldable pub sumOf : (Ref → ℕ) → Answer (List Ref) → ℕ
-sumOf f (refused number) = 0
+sumOf f (refused refusal) = 0
 sumOf f absent = 0
 sumOf f remove = 0
 sumOf f (accepted refs) = sum f refs

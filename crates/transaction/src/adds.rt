@@ -3,11 +3,12 @@ use super::limit;
 use backref::Plan;
 use backref::TotalChange;
 use format::Edited;
+use format::ITEM_HEAD;
 use format::Key;
 use format::Keyed;
 use format::SharedRef;
-use inline_refs::OwnPlace;
-use inline_refs::Wanted;
+use inline_refs::OwnRank;
+use inline_refs::RefName;
 use record_edit::FoundRecord;
 ghost use mathlib.Core.Path.{_≡_};
 ghost use mathlib.Core.Bool.{_&&_};
@@ -72,13 +73,19 @@ pub fn apply_shared_add(
 {
     let found = record_edit::find_record(sheet, bytenr, shared_fits(nodesize, name.kind));
     match found {
-        FoundRecord::Refused(number) => return Edited::Refused(number),
+        FoundRecord::Refused(refusal) => return Edited::Refused(refusal),
         FoundRecord::Missing => return Edited::Refused(5),
         FoundRecord::At { index: _, target } => {
             let start = target.start;
             let end = target.end;
-            let plan = plan_shared(target.key, &sheet[start + 21..end], name, count, as_item);
-            let limit = limit_for(nodesize, end - (start + 21), false);
+            let plan = plan_shared(
+                target.key,
+                &sheet[start + ITEM_HEAD..end],
+                name,
+                count,
+                as_item,
+            );
+            let limit = limit_for(nodesize, end - (start + ITEM_HEAD), false);
             return record_edit::put_record(sheet, target, plan, limit, out);
         }
     }
@@ -106,10 +113,10 @@ fn plan_keyed(key: Key, body: &[u8], keyed: Keyed, count: u32, as_item: bool) ->
     }
     match keyed {
         Keyed::Block(name) => {
-            backref::plan_add(key.kind, body, Wanted::Block(name), OwnPlace::Unknown, 1)
+            backref::plan_add(key.kind, body, RefName::Block(name), OwnRank::Unknown, 1)
         }
         Keyed::Data(name) => {
-            backref::plan_add(key.kind, body, Wanted::Data(name), OwnPlace::Unknown, count)
+            backref::plan_add(key.kind, body, RefName::Data(name), OwnRank::Unknown, count)
         }
     }
 }
@@ -128,7 +135,7 @@ pub fn apply_keyed_add(
 {
     let found = record_edit::find_record(sheet, bytenr, item_list::nodesize_fits(nodesize));
     match found {
-        FoundRecord::Refused(number) => return Edited::Refused(number),
+        FoundRecord::Refused(refusal) => return Edited::Refused(refusal),
         FoundRecord::Missing => return Edited::Refused(5),
         FoundRecord::At { index: _, target } => {
             if is_unread(keyed, count, as_item) {
@@ -136,8 +143,14 @@ pub fn apply_keyed_add(
             }
             let start = target.start;
             let end = target.end;
-            let plan = plan_keyed(target.key, &sheet[start + 21..end], keyed, count, as_item);
-            let limit = limit_for(nodesize, end - (start + 21), true);
+            let plan = plan_keyed(
+                target.key,
+                &sheet[start + ITEM_HEAD..end],
+                keyed,
+                count,
+                as_item,
+            );
+            let limit = limit_for(nodesize, end - (start + ITEM_HEAD), true);
             return record_edit::put_record(sheet, target, plan, limit, out);
         }
     }

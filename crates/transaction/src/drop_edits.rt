@@ -1,16 +1,17 @@
 // What a drop at an item writes: the record with a planned body, and behind it the item gone, or with another count.
 use backref::Plan;
 use format::Edited;
-use record_edit::Behind;
 use record_edit::RecordAt;
+use record_edit::SecondEdit;
 ghost use mathlib.Core.Path.{_≡_};
 ghost use Prim.Native.Nat.{_+_, _-_, _≤_};
 ghost use lib.ListN.{length};
 ghost use Rattle.fields.specs.Numbers.{leBytes};
+ghost use Rattle.format.specs.Constants.{itemHead, mostSheet};
 ghost use Rattle.format.specs.Questions.{Answered};
 ghost use Rattle.backref.specs.Plans.{PlanIn};
 ghost use Rattle.record_edit.specs.Records.{dataOf};
-ghost use Rattle.transaction.specs.Edits.{gone, counts, heldPlan};
+ghost use Rattle.transaction.specs.Edits.{gone, newCount, heldPlan};
 
 fn one_less(items: usize) -> usize
     ensures { λ r. ⌜ r ≡ items - 1 ⌝ }
@@ -31,10 +32,10 @@ pub fn put_without(
     out: &mut [u8],
 ) -> Edited
     requires { ⌜ PlanIn plan (dataOf (now sheet) (target .start) (target .end)) ⌝ }
-    requires { ⌜ (target .start + 21 ≤ target .end) × (target .end ≤ from) × (from ≤ to) × (to ≤ length (now sheet)) × (length (now sheet) ≤ 262144) ⌝ }
+    requires { ⌜ (target .start + itemHead ≤ target .end) × (target .end ≤ from) × (from ≤ to) × (to ≤ length (now sheet)) × (length (now sheet) ≤ mostSheet) ⌝ }
     ensures { λ r. ⌜ Answered (heldPlan (length (now (out .entry))) (target .«item_count» - 1) (now (sheet .entry)) target plan (gone from to)) r (now (out .entry)) (now (out .exit)) ⌝ }
 {
-    let behind = Behind {
+    let behind = SecondEdit {
         from,
         to,
         new: [0; 4],
@@ -63,10 +64,10 @@ pub fn put_count(
     out: &mut [u8],
 ) -> Edited
     requires { ⌜ PlanIn plan (dataOf (now sheet) (target .start) (target .end)) ⌝ }
-    requires { ⌜ (target .start + 21 ≤ target .end) × (target .end + 4 ≤ to) × (to ≤ length (now sheet)) × (length (now sheet) ≤ 262144) ⌝ }
-    ensures { λ r. ⌜ Answered (heldPlan (length (now (out .entry))) (target .«item_count») (now (sheet .entry)) target plan (counts to count)) r (now (out .entry)) (now (out .exit)) ⌝ }
+    requires { ⌜ (target .start + itemHead ≤ target .end) × (target .end + 4 ≤ to) × (to ≤ length (now sheet)) × (length (now sheet) ≤ mostSheet) ⌝ }
+    ensures { λ r. ⌜ Answered (heldPlan (length (now (out .entry))) (target .«item_count») (now (sheet .entry)) target plan (newCount to count)) r (now (out .entry)) (now (out .exit)) ⌝ }
 {
-    let behind = Behind {
+    let behind = SecondEdit {
         from: to - 4,
         to,
         new: count_bytes(count),

@@ -2,8 +2,10 @@
 use super::drop_refs;
 use format::BlockRef;
 use format::Edited;
+use format::FLAG_FULL_BACKREF;
 use format::Key;
-use inline_refs::Wanted;
+use format::METADATA_ITEM;
+use inline_refs::RefName;
 use item_list::Listing;
 use record_edit::RecordAt;
 ghost use mathlib.Core.Path.{_≡_};
@@ -13,29 +15,29 @@ ghost use lib.ListN.{length};
 ghost use Rattle.format.specs.Questions.{Answered};
 ghost use Rattle.format.specs.Items.{heldSheet};
 ghost use Rattle.format.specs.Apply.{dropTreeRef, dropKeptTreeRefFrom};
-ghost use Rattle.item_list.specs.Steps.{itemsOf};
+ghost use Rattle.item_list.specs.Steps.{listItems};
 ghost use Rattle.record_edit.specs.Stands.{StandsAt, onKey};
-ghost use Rattle.transaction.specs.Edits.{ownAt};
+ghost use Rattle.transaction.specs.Edits.{withOwnFlag};
 
 // The own-flag set in the flags that stand at `at`.
 fn set_own(out: &mut [u8], at: usize)
     requires { ⌜ at + 8 ≤ length (now out) ⌝ }
-    ensures { λ _. ⌜ now (out .exit) ≡ ownAt at (now (out .entry)) ⌝ }
+    ensures { λ _. ⌜ now (out .exit) ≡ withOwnFlag at (now (out .entry)) ⌝ }
 {
-    let with_own = fields::get_u64_le(out, at) | 256;
+    let with_own = fields::get_u64_le(out, at) | FLAG_FULL_BACKREF;
     fields::put_u64_le(out, at, with_own);
 }
 
 // The drop with the own-flag: no byte moves for it, so it is set in the list that was written.
 fn drop_owned(sheet: &[u8], target: RecordAt, name: BlockRef, out: &mut [u8]) -> Edited
     requires { ⌜ StandsAt (now sheet) target ⌝ }
-    ensures { λ r. ⌜ Answered (heldSheet (length (now (out .entry))) (onKey (target .key) (itemsOf (now (sheet .entry))) (dropTreeRef name true (itemsOf (now (sheet .entry)))))) r (now (out .entry)) (now (out .exit)) ⌝ }
+    ensures { λ r. ⌜ Answered (heldSheet (length (now (out .entry))) (onKey (target .key) (listItems (now (sheet .entry))) (dropTreeRef name true (listItems (now (sheet .entry)))))) r (now (out .entry)) (now (out .exit)) ⌝ }
 {
-    let edited = drop_refs::drop_ref(sheet, target, Wanted::Block(name), out);
+    let edited = drop_refs::drop_ref(sheet, target, RefName::Block(name), out);
     match edited {
         Edited::Absent => return Edited::Absent,
         Edited::Remove => return Edited::Remove,
-        Edited::Refused(number) => return Edited::Refused(number),
+        Edited::Refused(refusal) => return Edited::Refused(refusal),
         Edited::Written(size) => {
             set_own(out, target.start + 37);
             return Edited::Written(size);
@@ -56,16 +58,16 @@ pub fn drop_kept_tree_ref(
 {
     let key = Key {
         objectid: bytenr,
-        kind: 169,
+        kind: METADATA_ITEM,
         offset: level as u64,
     };
-    let listing = item_list::find(sheet, item_list::Wanted::AtOrPast(key));
+    let listing = item_list::find(sheet, item_list::ItemQuery::AtOrPast(key));
     match listing {
-        Listing::Refused(number) => return Edited::Refused(number),
+        Listing::Refused(refusal) => return Edited::Refused(refusal),
         Listing::Missing { count: _ } => return Edited::Refused(5),
         Listing::Found {
             count,
-            number: _,
+            index: _,
             start,
             end,
         } => {
@@ -81,7 +83,7 @@ pub fn drop_kept_tree_ref(
             if own {
                 return drop_owned(sheet, target, name, out);
             }
-            return drop_refs::drop_ref(sheet, target, Wanted::Block(name), out);
+            return drop_refs::drop_ref(sheet, target, RefName::Block(name), out);
         }
     }
 }

@@ -5,22 +5,26 @@ use backref::Plan;
 use backref::TotalChange;
 use format::DataRef;
 use format::Edited;
+use format::ITEM_HEAD;
 use format::Key;
+use format::SHARED_BLOCK_REF;
+use format::SHARED_DATA_REF;
 use format::SharedRef;
-use inline_refs::Wanted;
+use inline_refs::RefName;
 use item_list::Sought;
 use record_edit::RecordAt;
 ghost use Prim.Native.Nat.{_+_, _≤_};
 ghost use lib.ListN.{length};
+ghost use Rattle.format.specs.Constants.{itemHead, mostSheet};
 ghost use Rattle.format.specs.Questions.{Answered, bind};
 ghost use Rattle.format.specs.Bodies.{lowerTotal, dropKeyedDataRef};
 ghost use Rattle.format.specs.Items.{heldSheet};
-ghost use Rattle.item_list.specs.Steps.{itemsOf};
+ghost use Rattle.item_list.specs.Steps.{listItems};
 ghost use Rattle.backref.specs.Plans.{Planned};
 ghost use Rattle.record_edit.specs.Records.{dataOf};
 ghost use Rattle.record_edit.specs.Stands.{StandsAt, onKey};
 ghost use Rattle.transaction.specs.Edits.{heldAt};
-ghost use Rattle.transaction.specs.Drops.{dropRef, InForm, takenWhole, droppedInline, loweredTotal, itemDrop, CountFits};
+ghost use Rattle.transaction.specs.Drops.{dropRef, SharedInForm, takenWhole, droppedInline, loweredTotal, itemDrop, CountFits};
 
 // A shared reference out of the body, and its own count off the total.
 fn plan_taken(item_type: u8, body: &[u8], name: SharedRef) -> Plan
@@ -32,29 +36,43 @@ fn plan_taken(item_type: u8, body: &[u8], name: SharedRef) -> Plan
 }
 
 // The record's body without the reference, or with one count less.
-fn plan_inline(item_type: u8, body: &[u8], name: Wanted) -> Plan
+fn plan_inline(item_type: u8, body: &[u8], name: RefName) -> Plan
     ensures { λ r. ⌜ Planned r (now (body .entry)) (droppedInline name «item_type» (now (body .entry))) ⌝ }
 {
     match name {
-        Wanted::Block(_) => backref::plan_drop(item_type, body, name),
-        Wanted::Data(_) => backref::plan_drop(item_type, body, name),
-        Wanted::SharedBlock(parent) => {
-            plan_taken(item_type, body, SharedRef { kind: 182, parent })
+        RefName::Block(_) => backref::plan_drop(item_type, body, name),
+        RefName::Data(_) => backref::plan_drop(item_type, body, name),
+        RefName::SharedBlock(parent) => {
+            plan_taken(
+                item_type,
+                body,
+                SharedRef {
+                    kind: SHARED_BLOCK_REF,
+                    parent,
+                },
+            )
         }
-        Wanted::SharedData(parent) => plan_taken(item_type, body, SharedRef { kind: 184, parent }),
+        RefName::SharedData(parent) => plan_taken(
+            item_type,
+            body,
+            SharedRef {
+                kind: SHARED_DATA_REF,
+                parent,
+            },
+        ),
     }
 }
 
 // The record's body with a lower total: by one, or by all that an item of shared data counts.
-fn plan_lowered(item: &[u8], body: &[u8], name: Wanted) -> Plan
+fn plan_lowered(item: &[u8], body: &[u8], name: RefName) -> Plan
     requires { ⌜ CountFits name (now item) ⌝ }
     ensures { λ r. ⌜ Planned r (now (body .entry)) (loweredTotal name (now (item .entry)) (now (body .entry))) ⌝ }
 {
     match name {
-        Wanted::Block(_) => backref::plan_total(body, TotalChange::LowerByOne),
-        Wanted::Data(_) => backref::plan_total(body, TotalChange::LowerByOne),
-        Wanted::SharedBlock(_) => backref::plan_total(body, TotalChange::Reduce(1)),
-        Wanted::SharedData(_) => {
+        RefName::Block(_) => backref::plan_total(body, TotalChange::LowerByOne),
+        RefName::Data(_) => backref::plan_total(body, TotalChange::LowerByOne),
+        RefName::SharedBlock(_) => backref::plan_total(body, TotalChange::Reduce(1)),
+        RefName::SharedData(_) => {
             let count = fields::get_u32_le(item, 0);
             backref::plan_total(body, TotalChange::Reduce(count as u64))
         }
@@ -70,20 +88,20 @@ fn drop_count(
     name: DataRef,
     out: &mut [u8],
 ) -> Edited
-    requires { ⌜ (target .start + 21 ≤ target .end) × (target .end ≤ from) × (from + 21 ≤ to) × (to ≤ length (now sheet)) × (length (now sheet) ≤ 262144) ⌝ }
+    requires { ⌜ (target .start + itemHead ≤ target .end) × (target .end ≤ from) × (from + itemHead ≤ to) × (to ≤ length (now sheet)) × (length (now sheet) ≤ mostSheet) ⌝ }
     ensures { λ r. ⌜ Answered (bind (lowerTotal (dataOf (now (sheet .entry)) (target .start) (target .end))) (heldAt (length (now (out .entry))) (now (sheet .entry)) target from to (dropKeyedDataRef (dataOf (now (sheet .entry)) from to) name))) r (now (out .entry)) (now (out .exit)) ⌝ }
 {
     let start = target.start;
     let end = target.end;
-    let rest = backref::plan_total(&sheet[start + 21..end], TotalChange::LowerByOne);
+    let rest = backref::plan_total(&sheet[start + ITEM_HEAD..end], TotalChange::LowerByOne);
     let total = rest.outcome;
     let Outcome::Edit = total else {
         return record_edit::put_record(sheet, target, rest, crate::NO_LIMIT, out);
     };
-    let item = backref::plan_drop_keyed(&sheet[from + 21..to], name);
+    let item = backref::plan_drop_keyed(&sheet[from + ITEM_HEAD..to], name);
     let outcome = item.outcome;
     match outcome {
-        Outcome::Refused(number) => Edited::Refused(number),
+        Outcome::Refused(refusal) => Edited::Refused(refusal),
         Outcome::Absent => Edited::Absent,
         Outcome::Remove => drop_edits::put_without(sheet, target, rest, from, to, out),
         Outcome::Edit => {
@@ -99,31 +117,35 @@ fn drop_at_item(
     target: RecordAt,
     from: usize,
     to: usize,
-    name: Wanted,
+    name: RefName,
     out: &mut [u8],
 ) -> Edited
     requires { ⌜ CountFits name (dataOf (now sheet) from to) ⌝ }
-    requires { ⌜ (target .start + 21 ≤ target .end) × (target .end ≤ from) × (from + 21 ≤ to) × (to ≤ length (now sheet)) × (length (now sheet) ≤ 262144) ⌝ }
+    requires { ⌜ (target .start + itemHead ≤ target .end) × (target .end ≤ from) × (from + itemHead ≤ to) × (to ≤ length (now sheet)) × (length (now sheet) ≤ mostSheet) ⌝ }
     ensures { λ r. ⌜ Answered (bind (loweredTotal name (dataOf (now (sheet .entry)) from to) (dataOf (now (sheet .entry)) (target .start) (target .end))) (heldAt (length (now (out .entry))) (now (sheet .entry)) target from to (itemDrop name (dataOf (now (sheet .entry)) from to)))) r (now (out .entry)) (now (out .exit)) ⌝ }
 {
-    let Wanted::Data(data) = name else {
+    let RefName::Data(data) = name else {
         let start = target.start;
         let end = target.end;
-        let rest = plan_lowered(&sheet[from + 21..to], &sheet[start + 21..end], name);
+        let rest = plan_lowered(
+            &sheet[from + ITEM_HEAD..to],
+            &sheet[start + ITEM_HEAD..end],
+            name,
+        );
         return drop_edits::put_without(sheet, target, rest, from, to, out);
     };
     drop_count(sheet, target, from, to, data, out)
 }
 
 // One reference: a shared one with all its count, another with one.
-pub fn drop_ref(sheet: &[u8], target: RecordAt, name: Wanted, out: &mut [u8]) -> Edited
+pub fn drop_ref(sheet: &[u8], target: RecordAt, name: RefName, out: &mut [u8]) -> Edited
     requires { ⌜ StandsAt (now sheet) target ⌝ }
-    requires { ⌜ InForm name (itemsOf (now sheet)) ⌝ }
-    ensures { λ r. ⌜ Answered (heldSheet (length (now (out .entry))) (onKey (target .key) (itemsOf (now (sheet .entry))) (dropRef name (itemsOf (now (sheet .entry)))))) r (now (out .entry)) (now (out .exit)) ⌝ }
+    requires { ⌜ SharedInForm name (listItems (now sheet)) ⌝ }
+    ensures { λ r. ⌜ Answered (heldSheet (length (now (out .entry))) (onKey (target .key) (listItems (now (sheet .entry))) (dropRef name (listItems (now (sheet .entry)))))) r (now (out .entry)) (now (out .exit)) ⌝ }
 {
     let start = target.start;
     let end = target.end;
-    let plan = plan_inline(target.key.kind, &sheet[start + 21..end], name);
+    let plan = plan_inline(target.key.kind, &sheet[start + ITEM_HEAD..end], name);
     let outcome = plan.outcome;
     let Outcome::Absent = outcome else {
         return record_edit::put_record(sheet, target, plan, crate::NO_LIMIT, out);
@@ -131,13 +153,13 @@ pub fn drop_ref(sheet: &[u8], target: RecordAt, name: Wanted, out: &mut [u8]) ->
     let item = Key {
         objectid: target.key.objectid,
         kind: inline_refs::kind_of(name),
-        offset: inline_refs::own_place(name),
+        offset: inline_refs::rank_of(name).rank,
     };
-    let place = item_list::seek(sheet, end, item);
+    let position = item_list::seek(sheet, end, item);
     let Sought::Present {
         start: from,
         end: to,
-    } = place
+    } = position
     else {
         return Edited::Refused(5);
     };

@@ -2,6 +2,7 @@
 use backref::Plan;
 use backref::TotalChange;
 use format::Edited;
+use format::ITEM_HEAD;
 use format::Key;
 use format::SharedRef;
 use record_edit::FoundRecord;
@@ -37,12 +38,18 @@ pub fn apply_shared_drop(
 {
     let found = record_edit::find_record(sheet, bytenr, backref::shared_kind(name.kind));
     match found {
-        FoundRecord::Refused(number) => return Edited::Refused(number),
+        FoundRecord::Refused(refusal) => return Edited::Refused(refusal),
         FoundRecord::Missing => return Edited::Refused(5),
         FoundRecord::At { index: _, target } => {
             let start = target.start;
             let end = target.end;
-            let plan = plan_drop_shared(target.key, &sheet[start + 21..end], name, count, as_item);
+            let plan = plan_drop_shared(
+                target.key,
+                &sheet[start + ITEM_HEAD..end],
+                name,
+                count,
+                as_item,
+            );
             return record_edit::put_record(sheet, target, plan, crate::NO_LIMIT, out);
         }
     }

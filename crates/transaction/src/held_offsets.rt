@@ -14,13 +14,13 @@ fn one_if(a: u64, b: u64) -> usize
     0
 }
 
-pub fn times_in(offsets: &[u64], number: u64) -> usize
-    ensures { λ r. ⌜ r ≡ times number (now (offsets .entry)) ⌝ }
+pub fn times_in(offsets: &[u64], offset: u64) -> usize
+    ensures { λ r. ⌜ r ≡ times offset (now (offsets .entry)) ⌝ }
 {
     let mut n: usize = 0;
     let mut i: usize = 0;
     while i < offsets.len() {
-        n += one_if(offsets[i], number);
+        n += one_if(offsets[i], offset);
         i += 1;
     }
     n

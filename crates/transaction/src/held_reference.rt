@@ -1,6 +1,7 @@
 // One reference of a body, tested where it stands.
 use format::DataRef;
-use inline_refs::Wanted;
+use format::EXTENT_DATA_REF;
+use inline_refs::RefName;
 ghost use mathlib.Core.Path.{_≡_};
 ghost use Prim.Native.Nat.{_+_, _≤_};
 ghost use lib.Dec.{T};
@@ -14,7 +15,7 @@ pub fn offset_at(body: &[u8], kind: u8, start: usize) -> u64
     requires { ⌜ T (known kind) × (start + payloadLength kind ≤ length (now body)) ⌝ }
     ensures { λ r. ⌜ r ≡ offsetOf (refAt kind (drop start (now (body .entry)))) ⌝ }
 {
-    if kind != 178 {
+    if kind != EXTENT_DATA_REF {
         return 0;
     }
     fields::get_u64_le(body, start + 16)
@@ -45,7 +46,7 @@ pub fn is_ours(body: &[u8], kind: u8, start: usize, root: u64, ino: u64, offsets
         objectid: ino,
         offset,
     };
-    if !inline_refs::names(Wanted::Data(name), body, kind, start) {
+    if !inline_refs::names(RefName::Data(name), body, kind, start) {
         return false;
     }
     1 <= crate::held_offsets::times_in(offsets, offset)

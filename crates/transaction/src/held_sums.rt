@@ -1,17 +1,18 @@
 // What the references of a body add up to at an offset.
 use inline_refs::Cursor;
-use inline_refs::Step;
+use inline_refs::RefStep;
 ghost use mathlib.Core.Path.{_≡_};
 ghost use Prim.Native.Nat.{_≤_};
 ghost use lib.Dec.{T};
 ghost use lib.ListN.{length};
+ghost use Rattle.format.specs.Constants.{mostData};
 ghost use Rattle.format.specs.References.{kinds};
 ghost use Rattle.inline_refs.specs.Steps.{readFrom};
 ghost use Rattle.transaction.specs.Counts.{reads, sumOf, addsAt};
 
 pub fn sum_at(rows: &[[u8; 3]; 5], body: &[u8], start: usize, offset: u64, weighed: bool) -> u64
     requires { ⌜ now rows ≡ kinds ⌝ }
-    requires { ⌜ (length (now body) ≤ 65535) × T (reads (readFrom (now body) start)) ⌝ }
+    requires { ⌜ (length (now body) ≤ mostData) × T (reads (readFrom (now body) start)) ⌝ }
     ensures { λ r. ⌜ r ≡ sumOf (addsAt offset weighed) (readFrom (now (body .entry)) start) ⌝ }
 {
     let mut at = start;
@@ -19,7 +20,7 @@ pub fn sum_at(rows: &[[u8; 3]; 5], body: &[u8], start: usize, offset: u64, weigh
     loop {
         let cursor = Cursor { at };
         match cursor.step(rows, body) {
-            Step::Ref {
+            RefStep::Ref {
                 kind,
                 start: payload,
                 size: _,
@@ -30,10 +31,10 @@ pub fn sum_at(rows: &[[u8; 3]; 5], body: &[u8], start: usize, offset: u64, weigh
                 total += more as u64;
                 at = next.at;
             }
-            Step::End => {
+            RefStep::End => {
                 return total;
             }
-            Step::Refused(_) => {
+            RefStep::Refused(_) => {
                 return total;
             }
         }

@@ -1,11 +1,12 @@
 // Tests of all references of a body, and of all lent offsets.
 use inline_refs::Cursor;
-use inline_refs::Step;
+use inline_refs::RefStep;
 ghost use mathlib.Core.Path.{_≡_};
 ghost use Prim.Native.Nat.{_≤_};
 ghost use lib.Dec.{T};
 ghost use lib.ListN.{length};
 ghost use Rattle.fields.specs.Lists.{all};
+ghost use Rattle.format.specs.Constants.{mostData};
 ghost use Rattle.format.specs.References.{kinds};
 ghost use Rattle.inline_refs.specs.Steps.{readFrom};
 ghost use Rattle.transaction.specs.Counts.{reads, allOf, isOurs, isOnce, isCounted};
@@ -26,7 +27,7 @@ pub fn all_ours(
     loop {
         let cursor = Cursor { at };
         match cursor.step(rows, body) {
-            Step::Ref {
+            RefStep::Ref {
                 kind,
                 start: payload,
                 size: _,
@@ -38,10 +39,10 @@ pub fn all_ours(
                 }
                 at = next.at;
             }
-            Step::End => {
+            RefStep::End => {
                 return true;
             }
-            Step::Refused(_) => {
+            RefStep::Refused(_) => {
                 return false;
             }
         }
@@ -51,14 +52,14 @@ pub fn all_ours(
 // No two stand at one offset.
 pub fn all_once(rows: &[[u8; 3]; 5], body: &[u8], start: usize) -> bool
     requires { ⌜ now rows ≡ kinds ⌝ }
-    requires { ⌜ (length (now body) ≤ 65535) × T (reads (readFrom (now body) start)) ⌝ }
+    requires { ⌜ (length (now body) ≤ mostData) × T (reads (readFrom (now body) start)) ⌝ }
     ensures { λ r. ⌜ r ≡ allOf (isOnce (readFrom (now (body .entry)) start)) (readFrom (now (body .entry)) start) ⌝ }
 {
     let mut at = start;
     loop {
         let cursor = Cursor { at };
         match cursor.step(rows, body) {
-            Step::Ref {
+            RefStep::Ref {
                 kind,
                 start: payload,
                 size: _,
@@ -71,10 +72,10 @@ pub fn all_once(rows: &[[u8; 3]; 5], body: &[u8], start: usize) -> bool
                 }
                 at = next.at;
             }
-            Step::End => {
+            RefStep::End => {
                 return true;
             }
-            Step::Refused(_) => {
+            RefStep::Refused(_) => {
                 return false;
             }
         }
@@ -84,7 +85,7 @@ pub fn all_once(rows: &[[u8; 3]; 5], body: &[u8], start: usize) -> bool
 // Each lent offset is counted as often as it was lent.
 pub fn all_counted(rows: &[[u8; 3]; 5], body: &[u8], start: usize, offsets: &[u64]) -> bool
     requires { ⌜ now rows ≡ kinds ⌝ }
-    requires { ⌜ (length (now body) ≤ 65535) × T (reads (readFrom (now body) start)) ⌝ }
+    requires { ⌜ (length (now body) ≤ mostData) × T (reads (readFrom (now body) start)) ⌝ }
     ensures { λ r. ⌜ r ≡ all (isCounted (readFrom (now (body .entry)) start) (now (offsets .entry))) (now (offsets .entry)) ⌝ }
 {
     let mut i: usize = 0;

@@ -11,7 +11,7 @@ pub fn record_of(sheet: &[u8], bytenr: u64) -> Told
 {
     let found = record_edit::find_record(sheet, bytenr, true);
     match found {
-        FoundRecord::Refused(number) => return Told::Refused(number),
+        FoundRecord::Refused(refusal) => return Told::Refused(refusal),
         FoundRecord::Missing => return Told::Refused(5),
         FoundRecord::At { index, target: _ } => return Told::Value(index as u64),
     }

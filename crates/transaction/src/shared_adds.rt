@@ -2,6 +2,8 @@
 use format::Edited;
 use format::Filed;
 use format::Key;
+use format::SHARED_BLOCK_REF;
+use format::SHARED_DATA_REF;
 use format::SharedRef;
 use format::Told;
 use inline_refs::Lengths;
@@ -12,10 +14,6 @@ ghost use lib.ListN.{length};
 ghost use Rattle.format.specs.Questions.{Answered, toldOf, filedOf};
 ghost use Rattle.format.specs.References.{payloadLength, countPosition};
 ghost use Rattle.format.specs.Bodies.{heldBody, sharedKind, sharedAddKey, sharedAddItem, sharedAddInlineSize};
-
-const SHARED_BLOCK_REF: u8 = 182;
-
-const SHARED_DATA_REF: u8 = 184;
 
 // Question 3 of a shared kind.
 fn is_shared(kind: u8) -> bool

@@ -5,13 +5,13 @@ use Prim.Native.Nat.{ℕ, _+_, _-_, _≤_}
 use native.Mathlib.Omega.{arith}
 use lib.ListN.{length, drop}
 use borrow.Author.Needs.{needs}
-use Rattle.crc32c.specs.Register.{crc32c, run}
+use Rattle.crc32c.specs.Register.{crc32c, crcRun}
 use Rattle.crc32c.proofs.Steps.{run-more, run-done}
 use Rattle.crc32c.proofs.update.Statement.{statement}
 use Rattle.crc32c.proofs.update.Tie as tie
 
 abbrev Inv-loop : tie.InvT-loop
-Inv-loop register bytes t r₀ i₀ r i = (i ≤ length bytes) × (run crc32c r (drop i bytes) ≡ run crc32c register bytes)
+Inv-loop register bytes t r₀ i₀ r i = (i ≤ length bytes) × (crcRun crc32c r (drop i bytes) ≡ crcRun crc32c register bytes)
 
 abbrev μ-loop : tie.MeasureT-loop
 μ-loop register bytes t r₀ i₀ r i = length bytes - i
@@ -21,7 +21,7 @@ loop-again c =
     let l = c .before .before .before .before .loop in
     let bs = c .before .before .before .before .before .before .before .args .bytes .now in (
       omega arith,
-      ap (λ (r : ℕ). run crc32c r (drop (l .i + 1) bs)) (c .byte-in .ensures)
+      ap (λ (r : ℕ). crcRun crc32c r (drop (l .i + 1) bs)) (c .byte-in .ensures)
           ∙ run-more crc32c (l .r) bs (l .i) (omega arith)
           ∙ l .inv .1,
     )

@@ -6,14 +6,14 @@ use Rattle.extent_write.proofs.hash_below.Tie as tie
 returns : tie.Need-returns
 returns c =
     let s = c .before .before in
-    below-by-top (s .args .tree) (s .args .objectid) (s .args .offset) _ (s .args .place) (c .before .register-of .ensures)
+    below-by-top (s .args .tree) (s .args .objectid) (s .args .offset) _ (s .args .rank) (c .before .register-of .ensures)
     (search needs) (search needs) (c .if1 .taken)
 
 returns-2 : tie.Need-returns-2
 returns-2 c =
     let call = c .before .before .before in
     let a = call .before .args in
-    below-whole (a .tree) (a .objectid) (a .offset) _ (a .place) (call .register-of .ensures) _ _ (c .before .run-two .ensures) (c .joined .ensures)
+    below-whole (a .tree) (a .objectid) (a .offset) _ (a .rank) (call .register-of .ensures) _ _ (c .before .run-two .ensures) (c .joined .ensures)
 
 pub hash-below-spec : {M : Type 1} → statement M
 hash-below-spec =

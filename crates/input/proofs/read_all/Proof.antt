@@ -4,13 +4,13 @@ use mathlib.Core.Path.{_≡_, refl, _∙_}
 use Prim.Native.Nat.{_-_, _≤_}
 use native.Mathlib.Omega.{arith}
 use lib.ListN.{length}
-use Rattle.input.specs.Reads.{Filled}
+use Rattle.input.specs.Reads.{FilledTo}
 use Rattle.input.proofs.Fills.{filled-none, read-next, read-last}
 use Rattle.input.proofs.read_all.Statement.{statement}
 use Rattle.input.proofs.read_all.Tie as tie
 
 abbrev Inv-loop : tie.InvT-loop
-Inv-loop fd buf₀ at₀ buf at = Filled at buf₀ buf × (length buf ≡ length buf₀)
+Inv-loop fd buf₀ at₀ buf at = FilledTo at buf₀ buf × (length buf ≡ length buf₀)
 
 abbrev μ-loop : tie.MeasureT-loop
 μ-loop fd buf₀ at₀ buf at = length buf - at

@@ -1,7 +1,7 @@
 use mathlib.Core.Path.{sym, _∙_}
 use denote.Ref.{now}
-use Rattle.inline_refs.specs.declared.wanted.Wanted.the-variants.{Data}
-use Rattle.backref.proofs.Sites.{scan-reads}
+use Rattle.inline_refs.specs.declared.ref_name.RefName.the-variants.{Data}
+use Rattle.backref.proofs.AddedAt.{scan-reads}
 use Rattle.backref.proofs.Told.{holds-fault, holds-no, holds-yes}
 use borrow.Author.Needs.{needs}
 use Rattle.backref.proofs.asks.holds_inline_data_ref.Statement.{statement}
@@ -20,7 +20,7 @@ returns-2 : tie.Need-returns-2
 returns-2 c =
     let scan = c .before .before .before in
     let a = scan .before .before .args in
-    holds-fault (a .item-type) (now (a .body)) (a .name) _ (sym (c .before .number .given .1) ∙ scan .scan-body .ensures)
+    holds-fault (a .item-type) (now (a .body)) (a .name) _ (sym (c .before .refusal .given .1) ∙ scan .scan-body .ensures)
 
 returns-3 : tie.Need-returns-3
 returns-3 c =

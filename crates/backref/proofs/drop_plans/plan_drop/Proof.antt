@@ -4,7 +4,7 @@ use denote.Ref.{now}
 use Rattle.fields.proofs.Numbers.{areBytes-in}
 use Rattle.format.proofs.Bodies.{read-long}
 use Rattle.backref.proofs.NewBytes.{wanted-small}
-use Rattle.backref.proofs.Sites.{scan-reads}
+use Rattle.backref.proofs.AddedAt.{scan-reads}
 use Rattle.backref.proofs.Takes.{drop-fault, drop-absent, drop-low, drop-gone, drop-kept}
 use borrow.Author.Needs.{needs}
 use Rattle.backref.proofs.drop_plans.plan_drop.Statement.{statement}
@@ -54,7 +54,7 @@ returns-4 : tie.Need-returns-4
 returns-4 c =
     let scan = c .before .before .before .before in
     let a = scan .before .before .args in
-    drop-fault (a .item-type) (now (a .body)) (a .wanted) _ _ (sym (c .before .before .number .given .1) ∙ scan .scan-body .ensures) (c .refuse .ensures .0)
+    drop-fault (a .item-type) (now (a .body)) (a .wanted) _ _ (sym (c .before .before .refusal .given .1) ∙ scan .scan-body .ensures) (c .refuse .ensures .0)
 
 returns-5 : tie.Need-returns-5
 returns-5 c =

@@ -3,7 +3,7 @@ use native.Mathlib.Omega.{arith}
 use denote.Ref.{now}
 use Rattle.fields.proofs.Numbers.{areBytes-in}
 use Rattle.format.proofs.Bodies.{read-long}
-use Rattle.backref.proofs.Sites.{scan-reads}
+use Rattle.backref.proofs.AddedAt.{scan-reads}
 use Rattle.backref.proofs.Taken.{take-fault, take-absent, take-gone}
 use borrow.Author.Needs.{needs}
 use Rattle.backref.proofs.drop_plans.plan_take.Statement.{statement}
@@ -30,7 +30,7 @@ returns-2 : tie.Need-returns-2
 returns-2 c =
     let scan = c .before .before .before .before in
     let a = scan .before .before .args in
-    take-fault (a .item-type) (now (a .body)) (a .wanted) _ _ (sym (c .before .before .number .given .1) ∙ scan .scan-body .ensures) (c .refuse .ensures .0)
+    take-fault (a .item-type) (now (a .body)) (a .wanted) _ _ (sym (c .before .before .refusal .given .1) ∙ scan .scan-body .ensures) (c .refuse .ensures .0)
 
 returns-3 : tie.Need-returns-3
 returns-3 c =

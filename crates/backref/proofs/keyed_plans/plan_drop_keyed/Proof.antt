@@ -6,7 +6,7 @@ use borrow.Author.Tests.{not-true, not-false}
 use Rattle.fields.specs.Numbers.{le}
 use Rattle.fields.specs.Parts.{part}
 use Rattle.fields.proofs.Numbers.{areBytes-in}
-use Rattle.backref.proofs.Sites.{planOf}
+use Rattle.backref.proofs.AddedAt.{planOf}
 use Rattle.backref.proofs.KeyedDrops.{long-is, at-is, keyed-long, keyed-size, keyed-other, keyed-none, keyed-last, keyed-less}
 use Rattle.backref.proofs.Outcomes.{keeps-length}
 use borrow.Author.Needs.{needs}

@@ -11,7 +11,7 @@ returns : tie.Need-returns
 returns c =
     let call = c .before .before .before .before in
     let a = call .before .before .args in
-    let h = no-payload (now (a .body)) (a .item-type) (a .number) _ (call .inline-ref .ensures .0) _ (c .before .before .picked .given .1) in
+    let h = no-payload (now (a .body)) (a .item-type) (a .index) _ (call .inline-ref .ensures .0) _ (c .before .before .picked .given .1) in
     (h .0, h .1, refl, ap (λ (n : ℕ). n + a .body .ptr .1) (h .2))
 
 add-end : tie.Need-add-end
@@ -28,7 +28,7 @@ returns-2 : tie.Need-returns-2
 returns-2 c =
     let call = c .before .before .before .before .before in
     let a = call .before .before .args in
-    let h = a-payload (now (a .body)) (a .item-type) (a .number) _ (call .inline-ref .ensures .0) _ _ (c .before .before .before .picked2 .given .1) refl in
+    let h = a-payload (now (a .body)) (a .item-type) (a .index) _ (call .inline-ref .ensures .0) _ _ (c .before .before .before .picked2 .given .1) refl in
     (h .0, h .1, refl, ap (λ (n : ℕ). n + a .body .ptr .1) (h .2))
 
 pub inline-payload-spec : {M : Type 1} → statement M

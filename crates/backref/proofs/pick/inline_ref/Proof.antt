@@ -27,7 +27,7 @@ returns : tie.Need-returns
 returns c =
     let opened = c .before .before .before in
     let a = opened .before .before .args in
-    (pick-shut (a .item-type) (now (a .body)) (a .number) _ (opens (a .item-type) (now (a .body)) _ (sym (c .before .refusal .given .1) ∙ opened .open-body .ensures)), tt)
+    (pick-shut (a .item-type) (now (a .body)) (a .index) _ (opens (a .item-type) (now (a .body)) _ (sym (c .before .refusal .given .1) ∙ opened .open-body .ensures)), tt)
 
 returns-2 : tie.Need-returns-2
 returns-2 c =
@@ -36,7 +36,7 @@ returns-2 c =
     let opened = start .before .before in
     let a = opened .before .before .args in
     let w = opens (a .item-type) (now (a .body)) _ (sym (start .start .given .1) ∙ opened .open-body .ensures) in
-    (pick-refused (a .item-type) (now (a .body)) (a .number) _ w _ (sym (c .before .refusal2 .given .1) ∙ counted .count-refs .ensures), tt)
+    (pick-refused (a .item-type) (now (a .body)) (a .index) _ w _ (sym (c .before .refusal2 .given .1) ∙ counted .count-refs .ensures), tt)
 
 returns-3 : tie.Need-returns-3
 returns-3 c =
@@ -44,7 +44,7 @@ returns-3 c =
     let opened = start .before .before in
     let a = opened .before .before .args in
     let w = opens (a .item-type) (now (a .body)) _ (sym (start .start .given .1) ∙ opened .open-body .ensures) in
-    (c .pick .ensures .0 ∙ pick-is (a .item-type) (now (a .body)) (a .number) _ w, c .pick .ensures .1)
+    (c .pick .ensures .0 ∙ pick-is (a .item-type) (now (a .body)) (a .index) _ w, c .pick .ensures .1)
 
 pub inline-ref-spec : {M : Type 1} → statement M
 inline-ref-spec =

@@ -1,7 +1,7 @@
 use mathlib.Core.Path.{sym, _∙_}
 use denote.Ref.{now}
 use Rattle.inline_refs.proofs.Notes.{opens}
-use Rattle.backref.proofs.Places.{call-shut, call-fault, call-short, call-writes}
+use Rattle.backref.proofs.RefPositions.{call-shut, call-fault, call-short, call-writes}
 use borrow.Author.Needs.{needs}
 use Rattle.backref.proofs.positions.inline_refs.Statement.{statement}
 use Rattle.backref.proofs.positions.inline_refs.Tie as tie
@@ -37,7 +37,7 @@ returns-2 : tie.Need-returns-2
 returns-2 c =
     let opened = c .before .before .before in
     let a = opened .before .before .before .args in
-    call-shut (a .item-type) (now (a .body)) _ (now (a .positions)) (opens (a .item-type) (now (a .body)) _ (sym (c .before .number .given .1) ∙ opened .open-body .ensures))
+    call-shut (a .item-type) (now (a .body)) _ (now (a .positions)) (opens (a .item-type) (now (a .body)) _ (sym (c .before .refusal .given .1) ∙ opened .open-body .ensures))
 
 returns-3 : tie.Need-returns-3
 returns-3 c =
@@ -46,7 +46,7 @@ returns-3 c =
     let opened = start .before .before in
     let a = opened .before .before .before .args in
     let w = opens (a .item-type) (now (a .body)) _ (sym (start .start .given .1) ∙ opened .open-body .ensures) in
-    call-fault (a .item-type) (now (a .body)) _ w _ (now (a .positions)) (sym (c .before .number2 .given .1) ∙ counted .count-refs .ensures)
+    call-fault (a .item-type) (now (a .body)) _ w _ (now (a .positions)) (sym (c .before .refusal2 .given .1) ∙ counted .count-refs .ensures)
 
 returns-4 : tie.Need-returns-4
 returns-4 c =

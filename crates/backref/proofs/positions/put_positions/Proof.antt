@@ -6,7 +6,7 @@ use native.Mathlib.Omega.{arith}
 use lib.ListN.{length}
 use Rattle.inline_refs.proofs.Steps.{seen}
 use Rattle.inline_refs.proofs.Moves.{stands-behind}
-use Rattle.backref.proofs.Places.{Placing, placing-none, placing-all, placing-fault, place-left, placing-next}
+use Rattle.backref.proofs.RefPositions.{Placing, placing-none, placing-all, placing-fault, room-left, placing-next}
 use Rattle.backref.proofs.positions.put_positions.Statement.{statement}
 use Rattle.backref.proofs.positions.put_positions.Tie as tie
 
@@ -43,7 +43,7 @@ slice-write-positions c =
     let s = step .before .before .before .before in
     let said = step .step-from .ensures in
     let w = stands-behind (now (s .args .body)) (step .before .loop .at) _ (said .0) _ _ _ _ _ (c .enum-told .given .1) _ (said .1) in
-    place-left _ _ _ _ _ _ (step .before .loop .inv .0) _ _ _ _ _ w
+    room-left _ _ _ _ _ _ (step .before .loop .inv .0) _ _ _ _ _ w
 
 add-i : tie.Need-add-i Inv-loop μ-loop
 add-i c =

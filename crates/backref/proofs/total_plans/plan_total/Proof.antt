@@ -24,7 +24,7 @@ returns-2 c =
     let test = told .before .before in
     let a = test .before .before .before .args in (
       total-refused (now (a .body)) _ (test .before .head-fault .ensures) _ (a .change) (test .if1 .left) _ (told .before .get-u64-le .ensures)
-          _ (told .changed-total .ensures) _ (c .before .before .number .given .1) (c .refuse2 .ensures .0),
+          _ (told .changed-total .ensures) _ (c .before .before .refusal .given .1) (c .refuse2 .ensures .0),
       c .refuse2 .ensures .1,
     )
 

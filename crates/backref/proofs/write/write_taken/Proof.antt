@@ -33,7 +33,7 @@ unfolding takenFrom
 returns-4 c =
     let write = c .before .before .before .before .before in
     let a = write .before .before .before .before .args in
-    wrote-taken (a .plan) (now (a .body)) (length (now (a .out))) _ _ _ _ (write .write-plan .ensures) (sym (ap (takenFrom (a .plan .count)) (c .before .number .given .1)))
+    wrote-taken (a .plan) (now (a .body)) (length (now (a .out))) _ _ _ _ (write .write-plan .ensures) (sym (ap (takenFrom (a .plan .count)) (c .before .refusal .given .1)))
 
 pub write-taken-spec : {M : Type 1} → statement M
 write-taken-spec =

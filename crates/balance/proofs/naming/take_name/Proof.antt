@@ -31,7 +31,7 @@ stands-requires : tie.Need-stands-requires
 stands-requires c κs =
     let s = c .before .before .before .before .before in
     let sp = c .before .span-for .ensures in
-    ((stride-is _ _ _ (c .stride .ensures) (sp .1), sp .0 .falling), s .pre .1 .1 .1 .place)
+    ((stride-is _ _ _ (c .stride .ensures) (sp .1), sp .0 .falling), s .pre .1 .1 .1 .rank)
 
 returns-2 : tie.Need-returns-2
 returns-2 c =

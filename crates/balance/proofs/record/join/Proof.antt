@@ -21,7 +21,7 @@ stands-twice-requires c κs =
 returns-2 : tie.Need-returns-2
 returns-2 c =
     let s = c .before .before .before .before .before .before in
-    let e : s .args .spot ≡ s .args .run .spot = omega (arith, c .before .before .before .if1 .left, s .pre .0 .1 .0) in
+    let e : s .args .own ≡ s .args .run .rank = omega (arith, c .before .before .before .if1 .left, s .pre .0 .1 .0) in
     says-twice (now (s .args .body)) (s .args .run) (s .args .at) 178 (s .args .start) (s .pre .1 .0 .0) (s .pre .1 .0 .1 .1) _ _ (s .pre .1 .1 .0 .0) (s .pre .1 .1 .0 .1) no-172 (s .pre .0 .1 .1) (s .pre .0 .0) refl e (not-true _ _ (c .before .stands-twice .ensures) (c .if2 .taken))
 
 add-n : tie.Need-add-n
@@ -30,7 +30,7 @@ add-n c = let s = c .before .before .before .before .before .before .before in o
 returns-3 : tie.Need-returns-3
 returns-3 c =
     let s = c .before .before .before .before .before .before .before in
-    let e : s .args .spot ≡ s .args .run .spot = omega (arith, c .before .before .before .before .if1 .left, s .pre .0 .1 .0) in
+    let e : s .args .own ≡ s .args .run .rank = omega (arith, c .before .before .before .before .if1 .left, s .pre .0 .1 .0) in
     says-joins (now (s .args .body)) (s .args .run) (s .args .at) 178 (s .args .start) (s .pre .1 .0 .0) (s .pre .1 .0 .1 .1) _ _ (s .pre .1 .1 .0 .0) (s .pre .1 .1 .0 .1) no-172 (s .pre .0 .1 .1) (s .pre .0 .0) refl e _ (c .before .before .before .known-in .ensures) (not-false _ _ (c .before .before .stands-twice .ensures) (c .before .if2 .left))
 
 pub join-spec : {M : Type 1} → statement M

@@ -4,7 +4,7 @@ use mathlib.Core.Bool.{not}
 use Prim.Native.Nat.{ℕ, _+_, _-_, _*_}
 use native.Mathlib.Omega.{arith}
 use Rattle.inline_refs.specs.Scans.{kindOf, fieldsOf}
-use Rattle.distinct_triples.specs.Triples.{dataSize}
+use Rattle.distinct_triples.specs.Triples.{tripleSize}
 use Rattle.balance.specs.Spans.{clear}
 use Rattle.balance.proofs.Admits.{payload-178, known-178, clear-hit, clear-miss, clear-none}
 use borrow.Author.Needs.{needs}
@@ -12,7 +12,7 @@ use Rattle.balance.proofs.record.repeated.Statement.{statement}
 use Rattle.balance.proofs.record.repeated.Tie as tie
 
 abbrev Inv-loop : tie.InvT-loop
-Inv-loop body from n at wanted size p₀ left₀ p left = (p + dataSize * left ≡ from + dataSize * n) × (clear body at p left ≡ clear body at from n)
+Inv-loop body from n at wanted size p₀ left₀ p left = (p + tripleSize * left ≡ from + tripleSize * n) × (clear body at p left ≡ clear body at from n)
 
 abbrev μ-loop : tie.MeasureT-loop
 μ-loop body from n at wanted size p₀ left₀ p left = left

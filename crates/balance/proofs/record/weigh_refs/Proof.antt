@@ -6,7 +6,7 @@ use lib.ListN.{length}
 use Rattle.inline_refs.specs.Steps.{readFrom}
 use Rattle.inline_refs.proofs.Steps.{seen}
 use Rattle.distinct_triples.proofs.Orders.{none-twice}
-use Rattle.balance.specs.Spans.{runOf, Reaches, Apart, weighing, weighedOf}
+use Rattle.balance.specs.Spans.{runOf, Reaches, SpansApart, weighing, weighedOf}
 use Rattle.balance.proofs.Weighs.{weigh-start, weigh-step, weigh-no, weigh-end, weigh-fault}
 use Rattle.balance.proofs.Admits.{admitted-yes, admitted-no}
 use borrow.Author.Needs.{needs}
@@ -15,7 +15,7 @@ use Rattle.balance.proofs.record.weigh_refs.Tie as tie
 
 abbrev Inv-loop : tie.InvT-loop
 Inv-loop rows body start at₀ run₀ sum₀ at run sum =
-    (weighing (runOf body run) sum (readFrom body at) ≡ weighedOf (readFrom body start)) × (Reaches run at × ((sum ≤ 4294967296 * at) × ((at ≤ length body) × Apart body run)))
+    (weighing (runOf body run) sum (readFrom body at) ≡ weighedOf (readFrom body start)) × (Reaches run at × ((sum ≤ 4294967296 * at) × ((at ≤ length body) × SpansApart body run)))
 
 abbrev μ-loop : tie.MeasureT-loop
 μ-loop rows body start at₀ run₀ sum₀ at run sum = length body - at
@@ -27,7 +27,7 @@ admit-requires : tie.Need-admit-requires Inv-loop μ-loop
 admit-requires c κs =
     let step = c .before .before .before in
     let w = seen (now (step .before .before .before .args .body)) (step .before .loop .at) _ (sym (c .before .kind .given .1) ∙ step .step .ensures) in
-    ((w .kindKnown, omega (arith, w .start, w .further, w .within, w .long), w .place), ((w .start, c .before .before .before .before .loop .inv .1 .0), (c .before .before .before .before .before .before .pre .1 .0, c .before .before .before .before .loop .inv .1 .1 .1 .1)))
+    ((w .kindKnown, omega (arith, w .start, w .further, w .within, w .long), w .count-at), ((w .start, c .before .before .before .before .loop .inv .1 .0), (c .before .before .before .before .before .before .pre .1 .0, c .before .before .before .before .loop .inv .1 .1 .1 .1)))
 
 add-sum : tie.Need-add-sum Inv-loop μ-loop
 add-sum c =

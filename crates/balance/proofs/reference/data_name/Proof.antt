@@ -8,14 +8,14 @@ use Rattle.balance.proofs.reference.data_name.Tie as tie
 returns : tie.Need-returns
 returns c = data-short _ (c .before .before .pre) (c .if1 .taken)
 
-place-at-requires : tie.Need-place-at-requires
-place-at-requires c κs = (known-178, omega (arith, payload-178, c .if1 .left))
+rank-at-requires : tie.Need-rank-at-requires
+rank-at-requires c κs = (known-178, omega (arith, payload-178, c .if1 .left))
 
 returns-2 : tie.Need-returns-2
-returns-2 c = data-elsewhere _ (c .before .before .before .before .before .pre) _ (c .before .before .place-at .ensures) (c .if2 .taken)
+returns-2 c = data-elsewhere _ (c .before .before .before .before .before .pre) _ (c .before .before .rank-at .ensures) (c .if2 .taken)
 
 returns-3 : tie.Need-returns-3
-returns-3 c = data-form _ (c .before .before .before .before .before .before .before .pre) _ (c .before .before .before .before .place-at .ensures) _ _ (c .before .before .before .before .before .if1 .left) (c .before .before .if2 .left) (c .before .get-u32-le .ensures) (c .triple-at .ensures)
+returns-3 c = data-form _ (c .before .before .before .before .before .before .before .pre) _ (c .before .before .before .before .rank-at .ensures) _ _ (c .before .before .before .before .before .if1 .left) (c .before .before .if2 .left) (c .before .get-u32-le .ensures) (c .triple-at .ensures)
 
 pub data-name-spec : {M : Type 1} → statement M
-data-name-spec = tie.close (tie.spec returns place-at-requires returns-2 (λ c κs. search needs) (λ c κs. search needs) returns-3)
+data-name-spec = tie.close (tie.spec returns rank-at-requires returns-2 (λ c κs. search needs) (λ c κs. search needs) returns-3)

@@ -1,19 +1,19 @@
 use denote.Ref.{now}
 use Prim.Native.Nat.{_+_, _-_, _/_, _<_, _≤_}
 use native.Mathlib.Omega.{arith}
-use Rattle.balance.proofs.Halves.{room, spot-is, Halving, halving-start, halving-end, halving-next}
+use Rattle.balance.proofs.Halves.{room, rank-is, Halving, halving-start, halving-end, halving-next}
 use borrow.Author.Needs.{needs}
 use Rattle.balance.proofs.search.first_below.Statement.{statement}
 use Rattle.balance.proofs.search.first_below.Tie as tie
 
 abbrev Inv-loop : tie.InvT-loop
-Inv-loop body size span place bounds₀ bounds = Halving body span place bounds
+Inv-loop body size span rank bounds₀ bounds = Halving body span rank bounds
 
 abbrev μ-loop : tie.MeasureT-loop
-μ-loop body size span place bounds₀ bounds = bounds .high - bounds .low
+μ-loop body size span rank bounds₀ bounds = bounds .high - bounds .low
 
-mul-place-at : tie.Need-mul-place-at Inv-loop μ-loop
-mul-place-at c =
+mul-rank-at : tie.Need-mul-rank-at Inv-loop μ-loop
+mul-rank-at c =
     let loop = c .before .before .before .before .loop in
     let s = c .before .before .before .before .before .before in
     let t = c .before .before .if1 .taken in
@@ -22,8 +22,8 @@ mul-place-at c =
     let r = room (now (s .args .body)) (s .args .span) (s .args .size) (s .pre .0) (s .pre .1) mid m in
     omega arith
 
-add-place-at : tie.Need-add-place-at Inv-loop μ-loop
-add-place-at c =
+add-rank-at : tie.Need-add-rank-at Inv-loop μ-loop
+add-rank-at c =
     let loop = c .before .before .before .before .before .loop in
     let s = c .before .before .before .before .before .before .before in
     let t = c .before .before .before .if1 .taken in
@@ -32,8 +32,8 @@ add-place-at c =
     let r = room (now (s .args .body)) (s .args .span) (s .args .size) (s .pre .0) (s .pre .1) mid m in
     omega arith
 
-add-place-at-2 : tie.Need-add-place-at-2 Inv-loop μ-loop
-add-place-at-2 c =
+add-rank-at-2 : tie.Need-add-rank-at-2 Inv-loop μ-loop
+add-rank-at-2 c =
     let loop = c .before .before .before .before .before .loop in
     let s = c .before .before .before .before .before .before .before in
     let t = c .before .before .before .if1 .taken in
@@ -42,8 +42,8 @@ add-place-at-2 c =
     let r = room (now (s .args .body)) (s .args .span) (s .args .size) (s .pre .0) (s .pre .1) mid m in
     omega (arith, s .pre .0)
 
-place-at-requires : tie.Need-place-at-requires Inv-loop μ-loop
-place-at-requires c κs =
+rank-at-requires : tie.Need-rank-at-requires Inv-loop μ-loop
+rank-at-requires c κs =
     let loop = c .before .before .before .before .before .loop in
     let s = c .before .before .before .before .before .before .before in
     let t = c .before .before .before .if1 .taken in
@@ -56,7 +56,7 @@ narrow-requires : tie.Need-narrow-requires Inv-loop μ-loop
 narrow-requires c κs = let t = c .before .before .before .before .if1 .taken in (omega (arith, t), omega (arith, t))
 
 next : (c : tie.After-narrow Inv-loop μ-loop)
-    → Halving (now (c .before .before .before .before .before .before .before .before .before .args .body)) (c .before .before .before .before .before .before .before .before .before .args .span) (c .before .before .before .before .before .before .before .before .before .args .place) (c .narrow .result) × (c .narrow .result .high - c .narrow .result .low < c .before .before .before .before .before .before .before .loop .bounds .high - c .before .before .before .before .before .before .before .loop .bounds .low)
+    → Halving (now (c .before .before .before .before .before .before .before .before .before .args .body)) (c .before .before .before .before .before .before .before .before .before .args .span) (c .before .before .before .before .before .before .before .before .before .args .rank) (c .narrow .result) × (c .narrow .result .high - c .narrow .result .low < c .before .before .before .before .before .before .before .loop .bounds .high - c .before .before .before .before .before .before .before .loop .bounds .low)
 next c =
     let loop = c .before .before .before .before .before .before .before .loop in
     let s = c .before .before .before .before .before .before .before .before .before in
@@ -64,13 +64,13 @@ next c =
     let mid = loop .bounds .low + (loop .bounds .high - loop .bounds .low) / 2 in
     let low : loop .bounds .low ≤ mid = omega arith in
     let high : mid < loop .bounds .high = omega (arith, t) in
-    halving-next (now (s .args .body)) (s .args .span) (s .args .place) (loop .bounds) (loop .inv) (s .pre .1) mid (c .before .place-at .result) low high
-    (spot-is (now (s .args .body)) (s .args .span) (s .args .size) mid (c .before .place-at .result) (s .pre .0) (c .before .place-at .ensures)) _ (c .narrow .ensures)
+    halving-next (now (s .args .body)) (s .args .span) (s .args .rank) (loop .bounds) (loop .inv) (s .pre .1) mid (c .before .rank-at .result) low high
+    (rank-is (now (s .args .body)) (s .args .span) (s .args .size) mid (c .before .rank-at .result) (s .pre .0) (c .before .rank-at .ensures)) _ (c .narrow .ensures)
 
 returns : tie.Need-returns Inv-loop μ-loop
-returns c = let s = c .before .before .before .before in halving-end (now (s .args .body)) (s .args .span) (s .args .place) _ (c .before .before .loop .inv) (c .if1 .left)
+returns c = let s = c .before .before .before .before in halving-end (now (s .args .body)) (s .args .span) (s .args .rank) _ (c .before .before .loop .inv) (c .if1 .left)
 
 pub first-below-spec : {M : Type 1} → statement M
 first-below-spec =
     tie.close
-    (tie.spec Inv-loop μ-loop (λ c. halving-start _ _ _) (λ c. search needs) (λ c. omega (arith, c .before .before .if1 .taken)) mul-place-at add-place-at add-place-at-2 place-at-requires narrow-requires (λ c. next c .1) (λ c. next c .0) returns)
+    (tie.spec Inv-loop μ-loop (λ c. halving-start _ _ _) (λ c. search needs) (λ c. omega (arith, c .before .before .if1 .taken)) mul-rank-at add-rank-at add-rank-at-2 rank-at-requires narrow-requires (λ c. next c .1) (λ c. next c .0) returns)

@@ -3,18 +3,18 @@ use mathlib.Core.Path.{sym, ap}
 use mathlib.Core.Bool.{not}
 use Prim.Native.Nat.{_-_}
 use native.Mathlib.Omega.{arith}
-use Rattle.balance.proofs.Halves.{room, spot-is, named-is, Scanning, scan-start, scan-end, scan-stop, scan-hit, scan-next}
+use Rattle.balance.proofs.Halves.{room, rank-is, named-is, Scanning, scan-start, scan-end, scan-stop, scan-hit, scan-next}
 use Rattle.balance.proofs.search.stands.Statement.{statement}
 use Rattle.balance.proofs.search.stands.Tie as tie
 
 abbrev Inv-loop : tie.InvT-loop
-Inv-loop body size span wanted place j₀ j = Scanning body span wanted place j
+Inv-loop body size span wanted rank j₀ j = Scanning body span wanted rank j
 
 abbrev μ-loop : tie.MeasureT-loop
-μ-loop body size span wanted place j₀ j = span .n - j
+μ-loop body size span wanted rank j₀ j = span .n - j
 
 loop-holds : tie.Need-loop-holds Inv-loop μ-loop
-loop-holds c = let s = c .before .before in scan-start (now (s .args .body)) (s .args .span) (s .args .wanted) (s .args .place) (s .pre .1) _ (c .first-below .ensures)
+loop-holds c = let s = c .before .before in scan-start (now (s .args .body)) (s .args .span) (s .args .wanted) (s .args .rank) (s .pre .1) _ (c .first-below .ensures)
 
 mul-start : tie.Need-mul-start Inv-loop μ-loop
 mul-start c =
@@ -40,8 +40,8 @@ add-start-2 c =
     let r = room (now (s .args .body)) (s .args .span) (s .args .size) (s .pre .0 .0) (s .pre .0 .1) (loop .j) t in
     omega (arith, s .pre .0 .0)
 
-place-at-requires : tie.Need-place-at-requires Inv-loop μ-loop
-place-at-requires c κs =
+rank-at-requires : tie.Need-rank-at-requires Inv-loop μ-loop
+rank-at-requires c κs =
     let loop = c .before .before .before .loop in
     let s = c .before .before .before .before .before .before in
     let t = c .before .if1 .taken in
@@ -52,8 +52,8 @@ returns : tie.Need-returns Inv-loop μ-loop
 returns c =
     let loop = c .before .before .before .before .before .loop in
     let s = c .before .before .before .before .before .before .before .before in
-    ap not (sym (scan-stop (now (s .args .body)) (s .args .span) (s .args .wanted) (s .args .place) (s .pre .1) (loop .j) (loop .inv) (c .before .before .before .if1 .taken) (s .pre .0 .1) _
-    (spot-is (now (s .args .body)) (s .args .span) (s .args .size) (loop .j) _ (s .pre .0 .0) (c .before .place-at .ensures)) (c .if2 .taken)))
+    ap not (sym (scan-stop (now (s .args .body)) (s .args .span) (s .args .wanted) (s .args .rank) (s .pre .1) (loop .j) (loop .inv) (c .before .before .before .if1 .taken) (s .pre .0 .1) _
+    (rank-is (now (s .args .body)) (s .args .span) (s .args .size) (loop .j) _ (s .pre .0 .0) (c .before .rank-at .ensures)) (c .if2 .taken)))
 
 names-requires : tie.Need-names-requires Inv-loop μ-loop
 names-requires c κs =
@@ -67,23 +67,23 @@ returns-2 : tie.Need-returns-2 Inv-loop μ-loop
 returns-2 c =
     let loop = c .before .before .before .before .before .before .before .loop in
     let s = c .before .before .before .before .before .before .before .before .before .before in
-    ap not (sym (scan-hit (now (s .args .body)) (s .args .span) (s .args .wanted) (s .args .place) (s .pre .1) (loop .j) (loop .inv) (c .before .before .before .before .before .if1 .taken) (s .pre .0 .1) _
+    ap not (sym (scan-hit (now (s .args .body)) (s .args .span) (s .args .wanted) (s .args .rank) (s .pre .1) (loop .j) (loop .inv) (c .before .before .before .before .before .if1 .taken) (s .pre .0 .1) _
     (named-is (now (s .args .body)) (s .args .span) (s .args .wanted) (s .args .size) (loop .j) _ (s .pre .0 .0) (c .before .names .ensures)) (c .if3 .taken)))
 
 loop-again : tie.Need-loop-again Inv-loop μ-loop
 loop-again c =
     let loop = c .before .before .before .before .before .before .before .loop in
     let s = c .before .before .before .before .before .before .before .before .before .before in
-    scan-next (now (s .args .body)) (s .args .span) (s .args .wanted) (s .args .place) (s .pre .1) (loop .j) (loop .inv) (c .before .before .before .before .before .if1 .taken) (s .pre .0 .1) _
+    scan-next (now (s .args .body)) (s .args .span) (s .args .wanted) (s .args .rank) (s .pre .1) (loop .j) (loop .inv) (c .before .before .before .before .before .if1 .taken) (s .pre .0 .1) _
     (named-is (now (s .args .body)) (s .args .span) (s .args .wanted) (s .args .size) (loop .j) _ (s .pre .0 .0) (c .before .names .ensures)) (c .if3 .left)
 
 returns-3 : tie.Need-returns-3 Inv-loop μ-loop
 returns-3 c =
     let loop = c .before .before .loop in
     let s = c .before .before .before .before .before in
-    ap not (sym (scan-end (now (s .args .body)) (s .args .span) (s .args .wanted) (s .args .place) (s .pre .1) (loop .j) (loop .inv) (c .if1 .left)))
+    ap not (sym (scan-end (now (s .args .body)) (s .args .span) (s .args .wanted) (s .args .rank) (s .pre .1) (loop .j) (loop .inv) (c .if1 .left)))
 
 pub stands-spec : {M : Type 1} → statement M
 stands-spec =
     tie.close
-    (tie.spec Inv-loop μ-loop (λ c κs. c .before .pre .0) loop-holds mul-start add-start add-start-2 place-at-requires returns names-requires returns-2 (λ c. omega (arith, c .before .before .before .before .before .if1 .taken)) (λ c. omega (arith, c .before .before .before .before .before .if1 .taken)) loop-again returns-3)
+    (tie.spec Inv-loop μ-loop (λ c κs. c .before .pre .0) loop-holds mul-start add-start add-start-2 rank-at-requires returns names-requires returns-2 (λ c. omega (arith, c .before .before .before .before .before .if1 .taken)) (λ c. omega (arith, c .before .before .before .before .before .if1 .taken)) loop-again returns-3)

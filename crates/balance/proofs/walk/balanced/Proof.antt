@@ -7,17 +7,17 @@ use lib.ListN.{length}
 use Rattle.fields.proofs.Numbers.{areBytes-in}
 use Rattle.format.specs.Items.{Item}
 use Rattle.format.specs.Names.{balanced}
-use Rattle.item_list.specs.Steps.{itemsOf}
+use Rattle.item_list.specs.Steps.{listItems}
 use Rattle.item_list.proofs.Walks.{Walked, rest-all, rest-end, rest-broken, rest-item}
 use Rattle.balance.specs.Tally.{pass}
-use Rattle.balance.specs.Groups.{tallyOf, Kept}
+use Rattle.balance.specs.Groups.{tallyOf, GroupKept}
 use Rattle.balance.proofs.Turns.{empty-kept, turned-next, turned-bad, item-whole, sheet-short, pass-all, pass-end, pass-on, pass-off}
 use borrow.Author.Needs.{needs}
 use Rattle.balance.proofs.walk.balanced.Statement.{statement}
 use Rattle.balance.proofs.walk.balanced.Tie as tie
 
 abbrev Inv-loop : tie.InvT-loop
-Inv-loop sheet rows at₀ g₀ at g = Walked sheet at (λ (items : List Item). pass items (tallyOf sheet g) ≡ balanced (itemsOf sheet)) × Kept sheet g at
+Inv-loop sheet rows at₀ g₀ at g = Walked sheet at (λ (items : List Item). pass items (tallyOf sheet g) ≡ balanced (listItems sheet)) × GroupKept sheet g at
 
 abbrev μ-loop : tie.MeasureT-loop
 μ-loop sheet rows at₀ g₀ at g = length sheet - at

@@ -3,14 +3,14 @@ use Prim.Native.Nat.{_-_, _≤_}
 use native.Mathlib.Omega.{arith}
 use mir.Facts.{fits-widen}
 use borrow.Author.Tests.{not-false}
-use Rattle.distinct_triples.specs.Triples.{Rising}
+use Rattle.distinct_triples.specs.Triples.{RisingTriples}
 use Rattle.distinct_triples.proofs.Orders.{no-true, rising-one, rising-more, rising-up-to}
 use borrow.Author.Needs.{needs}
 use Rattle.distinct_triples.proofs.checking.rising.Statement.{statement}
 use Rattle.distinct_triples.proofs.checking.rising.Tie as tie
 
 abbrev Inv-loop : tie.InvT-loop
-Inv-loop body from n order k₀ k = (1 ≤ k) × Rising body from order k
+Inv-loop body from n order k₀ k = (1 ≤ k) × RisingTriples body from order k
 
 abbrev μ-loop : tie.MeasureT-loop
 μ-loop body from n order k₀ k = n - k

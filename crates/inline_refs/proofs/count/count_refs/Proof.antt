@@ -5,7 +5,7 @@ use Prim.Native.Nat.{_-_, _≤_}
 use native.Mathlib.Omega.{arith}
 use lib.ListN.{length}
 use Rattle.inline_refs.specs.Steps.{readFrom}
-use Rattle.inline_refs.specs.Counts.{countOf}
+use Rattle.inline_refs.specs.Counts.{refCountOf}
 use Rattle.inline_refs.proofs.Steps.{seen}
 use Rattle.inline_refs.proofs.Moves.{stands-behind}
 use Rattle.inline_refs.proofs.Counts.{plus, counts-none, counts-step, counts-end, counts-fault}
@@ -13,7 +13,7 @@ use Rattle.inline_refs.proofs.count.count_refs.Statement.{statement}
 use Rattle.inline_refs.proofs.count.count_refs.Tie as tie
 
 abbrev Inv-loop : tie.InvT-loop
-Inv-loop table body start at₀ n₀ at n = (plus n (countOf (readFrom body at)) ≡ countOf (readFrom body start)) × (n ≤ at) × (at ≤ length body)
+Inv-loop table body start at₀ n₀ at n = (plus n (refCountOf (readFrom body at)) ≡ refCountOf (readFrom body start)) × (n ≤ at) × (at ≤ length body)
 
 abbrev μ-loop : tie.MeasureT-loop
 μ-loop table body start at₀ n₀ at n = length body - at

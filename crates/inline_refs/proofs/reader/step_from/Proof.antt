@@ -46,10 +46,10 @@ use denote.Triple.Spec.{Meets, tripleOf}
 use denote.Triple.Table.{entered, cited}
 use denote.Triple.Walked.{says, needs, Stays, stay-none, stay-dropped, stay-none-slice, walkOf, goes-none, goes-dropped, goes-none-slice, Walks, ends-at, walked, walk-meets}
 use denote.Exit.{yes}
-use Rattle.inline_refs.specs.declared.step.Step.{Step}
-use Rattle.inline_refs.specs.Steps.{stepAt}
-use Rattle.inline_refs.proofs.step.Step as S
-use Rattle.inline_refs.proofs.step.Step.Laws as S′
+use Rattle.inline_refs.specs.declared.step.RefStep.{RefStep}
+use Rattle.inline_refs.specs.Steps.{refStepAt}
+use Rattle.inline_refs.proofs.step.RefStep as S
+use Rattle.inline_refs.proofs.step.RefStep.Laws as S′
 use Rattle.format.specs.References.{kinds}
 use Rattle.inline_refs.specs.Moves.{moved}
 use Rattle.inline_refs.specs.declared.reader.Reader.{Reader}
@@ -94,20 +94,20 @@ module _ {M : Type 1} (𝓤 : URA M) (H : Heap 𝓤) (A : Atoms 𝓤) (mem : Mem
 abbrev Made : RefT (List ℕ) → ℕ → Reader → Type 0
 Made s n r = (r .body ≡ s) × (r .at ≡ n)
 
-abbrev Says : Reader → Step → Reader → Type 0
-Says r t r′ = (t ≡ stepAt (now (r .body)) (r .at)) × (r′ .body ≡ r .body) × (r′ .at ≡ moved (stepAt (now (r .body)) (r .at)) (r .at))
+abbrev Says : Reader → RefStep → Reader → Type 0
+Says r t r′ = (t ≡ refStepAt (now (r .body)) (r .at)) × (r′ .body ≡ r .body) × (r′ .at ≡ moved (refStepAt (now (r .body)) (r .at)) (r .at))
 
 -- and what follows for the result
-abbrev both : Step → Reader → Stepped
+abbrev both : RefStep → Reader → Stepped
 both t r′ = record { step = t; at = r′ .at }
 
 abbrev Told : RefT (List ℕ) → ℕ → Stepped → Type 0
-Told s n d = (d .step ≡ stepAt (now s) n) × (d .at ≡ moved (stepAt (now s) n) n)
+Told s n d = (d .step ≡ refStepAt (now s) n) × (d .at ≡ moved (refStepAt (now s) n) n)
 
-told : (s : RefT (List ℕ)) (n : ℕ) (r : Reader) (t : Step) (r′ : Reader) → Made s n r → Says r t r′ → Told s n (both t r′)
+told : (s : RefT (List ℕ)) (n : ℕ) (r : Reader) (t : RefStep) (r′ : Reader) → Made s n r → Says r t r′ → Told s n (both t r′)
 told s n r t r′ e e′ = (
-  e′ .0 ∙ ap₂ (λ (x : RefT (List ℕ)) (m : ℕ). stepAt (now x) m) (e .0) (e .1),
-  e′ .2 ∙ ap₂ (λ (x : RefT (List ℕ)) (m : ℕ). moved (stepAt (now x) m) m) (e .0) (e .1),
+  e′ .0 ∙ ap₂ (λ (x : RefT (List ℕ)) (m : ℕ). refStepAt (now x) m) (e .0) (e .1),
+  e′ .2 ∙ ap₂ (λ (x : RefT (List ℕ)) (m : ℕ). moved (refStepAt (now x) m) m) (e .0) (e .1),
 )
 
 module _ {M : Type 1} (𝓤 : URA M) (H : Heap 𝓤) (A : Atoms 𝓤) (W : Given 𝓤 H A) (mem : Memory → SProp 𝓤) (run : Routine → Fun 𝓤) (κ : Lft) (q : Share) (t : RefT (List (List ℕ))) (rows : now t ≡ kinds) (s : RefT (List ℕ)) (n : ℕ) (ok : n < 2 ^ 64) where
@@ -189,7 +189,7 @@ module _ {M : Type 1} (𝓤 : URA M) (H : Heap 𝓤) (A : Atoms 𝓤) (W : Given
       owned ! P.the-row (Is P.the-row) (LL.makes P.the-type P′.the-plain 𝓤 H A) d _ is $ done !
 
   -- what is known of the result, of what is known of its fields
-  result-is : (t : Step) (r′ : Reader) → Is S.the-row t (EL.vals S.the-type S′.the-laws t) → r′ .at < 2 ^ 64 → Is P.the-row (both t r′) (LL.vals P.the-type P′.the-laws (both t r′))
+  result-is : (t : RefStep) (r′ : Reader) → Is S.the-row t (EL.vals S.the-type S′.the-laws t) → r′ .at < 2 ^ 64 → Is P.the-row (both t r′) (LL.vals P.the-type P′.the-laws (both t r′))
   result-is t r′ is fits = LL.owes P.the-type P′.the-laws (both t r′) (is, ((refl, fits), tt))
 
   module _ (C : Calls 𝓤 H) (Λ : Loops 𝓤 H) (fm : FmC 𝓤 H (W .laws) C) (known-new : Triple 𝓤 (C #reader·new) (New 𝓤 H A mem run)) (known-step : Triple 𝓤 (C #reader·step) (OneStep 𝓤 H A mem run)) where
@@ -215,7 +215,7 @@ module _ {M : Type 1} (𝓤 : URA M) (H : Heap 𝓤) (A : Atoms 𝓤) (W : Given
         move ! (0 ∷ 4 ∷ []) $ use2 W (raw (OneStep 𝓤 H A mem run .pre (to-step ν l₄ γ r))) (goes-step ν l₄ γ r) $
         -- [what the call asks; what is kept; …; what s owns; room for _8; …; _7; …; _6; …; room for _5; …; of _4 only …; _3; …; _2; …; _1; …; room for _0; …]
         calls-at ! fm (OneStep 𝓤 H A mem run) known-step (to-step ν l₄ γ r) (and-then ! (load ! (from ! (stop !)) (look ! 6 refl)) (and-then ! (load ! (from ! (stop !)) (look ! 17 refl)) (no-more !))) (λ u′.
-        use1 W (later (some (λ (found : Step). ((‵ (flft (ν ∷ κ) (PosShare·left q)) ⊛ ‵ (flft κ (PosShare·right q)) ⊛ ‵ ftrue) ⊛ ‵ (S.the-row .own found (u′ ∷ []))) ⊛ raw (ensured 𝓤 H A step.ended (step.clauses 𝓤 H A mem run) (ν ∷ κ, (κ, tt)) (lent-to l₄ γ r, (t, tt)) tt found)))) (id⊢ 𝓤 _) $ await ! tt $ pick ! (λ found.
+        use1 W (later (some (λ (found : RefStep). ((‵ (flft (ν ∷ κ) (PosShare·left q)) ⊛ ‵ (flft κ (PosShare·right q)) ⊛ ‵ ftrue) ⊛ ‵ (S.the-row .own found (u′ ∷ []))) ⊛ raw (ensured 𝓤 H A step.ended (step.clauses 𝓤 H A mem run) (ν ∷ κ, (κ, tt)) (lent-to l₄ γ r, (t, tt)) tt found)))) (id⊢ 𝓤 _) $ await ! tt $ pick ! (λ found.
         -- what `Reader::step` ensures, at some last reader
         split ! $ move ! (1 ∷ []) $ use1 W (some (λ (ws : Reader × (Unit {0} × Unit {0})). ‵ (lasts step.ended (ν ∷ κ, (κ, tt)) (lent-to l₄ γ r, (t, tt)) ws) ⊛ raw (fact 𝓤 (Says r found (ws .0))))) (id⊢ 𝓤 _) $ pick ! (λ ws.
         split ! $ move ! (1 ∷ []) $ heard ! (Says r found (ws .0)) (λ e′. fsplit ! $ move ! (2 ∷ []) $ split ! $ move ! (1 ∷ []) $

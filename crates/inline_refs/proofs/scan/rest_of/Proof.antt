@@ -38,7 +38,7 @@ returns c =
 returns-2 : tie.Need-returns-2 Inv-loop μ-loop
 returns-2 c =
     let step = c .before .before .before in
-    let w = seen (now (step .before .before .before .args .body)) (step .before .loop .at) _ (sym (c .before .number .given .1) ∙ step .step .ensures) in
+    let w = seen (now (step .before .before .before .args .body)) (step .before .loop .at) _ (sym (c .before .refusal .given .1) ∙ step .step .ensures) in
     rest-fault _ _ w ∙ step .before .loop .inv
 
 pub rest-of-spec : {M : Type 1} → statement M

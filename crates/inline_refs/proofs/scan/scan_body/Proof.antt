@@ -16,7 +16,7 @@ returns-2 : tie.Need-returns-2
 returns-2 c =
     let call = c .before .before .before in
     let a = call .before .before .args in
-    scan-shut (a .item-type) (now (a .body)) _ _ _ (sym (c .before .number .given .1) ∙ call .open-body .ensures)
+    scan-shut (a .item-type) (now (a .body)) _ _ _ (sym (c .before .refusal .given .1) ∙ call .open-body .ensures)
 
 pub scan-body-spec : {M : Type 1} → statement M
 scan-body-spec =

@@ -19,7 +19,7 @@ weight-at-requires c κs =
     let step = c .before .before .before .before .before in
     let a = step .before .before .args in
     let w = seen (now (a .body)) (a .start) _ (sym (c .before .before .before .kind .given .1) ∙ step .step .ensures) in
-    (w .kindKnown, ends-within _ _ _ _ _ _ _ w, w .place)
+    (w .kindKnown, ends-within _ _ _ _ _ _ _ w, w .count-at)
 
 returns-2 : tie.Need-returns-2
 returns-2 c =
@@ -40,7 +40,7 @@ returns-4 : tie.Need-returns-4
 returns-4 c =
     let step = c .before .before .before in
     let a = step .before .before .args in
-    scan-fault _ _ _ _ _ _ (seen (now (a .body)) (a .start) _ (sym (c .before .number .given .1) ∙ step .step .ensures))
+    scan-fault _ _ _ _ _ _ (seen (now (a .body)) (a .start) _ (sym (c .before .refusal .given .1) ∙ step .step .ensures))
 
 pub scan-first-spec : {M : Type 1} → statement M
 scan-first-spec =

@@ -15,11 +15,11 @@ use Rattle.inline_refs.proofs.scan.scan_from.Statement.{statement}
 use Rattle.inline_refs.proofs.scan.scan_from.Tie as tie
 
 abbrev Inv-loop : tie.InvT-loop
-Inv-loop rows body start wanted place own sought at₀ others₀ at others =
-    scanOf wanted place at (Open others) (readFrom body at) ≡ scanOf wanted place start (Open false) (readFrom body start)
+Inv-loop rows body start wanted rank own sought at₀ others₀ at others =
+    scanOf wanted rank at (Open others) (readFrom body at) ≡ scanOf wanted rank start (Open false) (readFrom body start)
 
 abbrev μ-loop : tie.MeasureT-loop
-μ-loop rows body start wanted place own sought at₀ others₀ at others = length body - at
+μ-loop rows body start wanted rank own sought at₀ others₀ at others = length body - at
 
 names-requires : tie.Need-names-requires Inv-loop μ-loop
 names-requires c κs =
@@ -31,7 +31,7 @@ weight-at-requires : tie.Need-weight-at-requires Inv-loop μ-loop
 weight-at-requires c κs =
     let step = c .before .before .before .before .before in
     let w = seen (now (step .before .before .before .before .args .body)) (step .before .loop .at) _ (sym (c .before .before .before .kind .given .1) ∙ step .step .ensures) in
-    (w .kindKnown, ends-within _ _ _ _ _ _ _ w, w .place)
+    (w .kindKnown, ends-within _ _ _ _ _ _ _ w, w .count-at)
 
 returns : tie.Need-returns Inv-loop μ-loop
 returns c =
@@ -88,7 +88,7 @@ returns-3 c =
 returns-4 : tie.Need-returns-4 Inv-loop μ-loop
 returns-4 c =
     let step = c .before .before .before in
-    let w = seen (now (step .before .before .before .before .args .body)) (step .before .loop .at) _ (sym (c .before .number .given .1) ∙ step .step .ensures) in
+    let w = seen (now (step .before .before .before .before .args .body)) (step .before .loop .at) _ (sym (c .before .refusal .given .1) ∙ step .step .ensures) in
     scan-fault _ _ _ _ _ _ w ∙ step .before .loop .inv
 
 pub scan-from-spec : {M : Type 1} → statement M

@@ -15,7 +15,7 @@ use Rattle.inline_refs.proofs.scan.scan_gap.Tie as tie
 
 abbrev Inv-loop : tie.InvT-loop
 Inv-loop rows body start wanted gap stood at₀ others₀ at others =
-    (place : ℕ) → scanOf wanted place at (Gap gap others) (readFrom body at) ≡ scanOf wanted place start (Gap gap stood) (readFrom body start)
+    (rank : ℕ) → scanOf wanted rank at (Gap gap others) (readFrom body at) ≡ scanOf wanted rank start (Gap gap stood) (readFrom body start)
 
 abbrev μ-loop : tie.MeasureT-loop
 μ-loop rows body start wanted gap stood at₀ others₀ at others = length body - at
@@ -30,17 +30,17 @@ weight-at-requires : tie.Need-weight-at-requires Inv-loop μ-loop
 weight-at-requires c κs =
     let step = c .before .before .before .before .before in
     let w = seen (now (step .before .before .before .args .body)) (step .before .loop .at) _ (sym (c .before .before .before .kind .given .1) ∙ step .step .ensures) in
-    (w .kindKnown, ends-within _ _ _ _ _ _ _ w, w .place)
+    (w .kindKnown, ends-within _ _ _ _ _ _ _ w, w .count-at)
 
 returns : tie.Need-returns Inv-loop μ-loop
 returns c =
     let test = c .before .before in
     let step = test .before .before .before .before .before in
     let w = seen (now (step .before .before .before .args .body)) (step .before .loop .at) _ (sym (test .before .before .before .kind .given .1) ∙ step .step .ensures) in
-    λ place.
-    c .scan-late .ensures _ place
-    ∙ scan-step _ place _ _ _ _ _ _ _ _ _ w (note-late _ _ _ _ _ _ _ (test .before .names .ensures) _ _ (test .if1 .taken) (c .before .weight-at .ensures))
-    ∙ step .before .loop .inv place
+    λ rank.
+    c .scan-late .ensures _ rank
+    ∙ scan-step _ rank _ _ _ _ _ _ _ _ _ w (note-late _ _ _ _ _ _ _ (test .before .names .ensures) _ _ (test .if1 .taken) (c .before .weight-at .ensures))
+    ∙ step .before .loop .inv rank
 
 loop-less : tie.Need-loop-less Inv-loop μ-loop
 loop-less c =
@@ -54,21 +54,21 @@ loop-again c =
     let test = c .before in
     let step = test .before .before .before .before .before in
     let w = seen (now (step .before .before .before .args .body)) (step .before .loop .at) _ (sym (test .before .before .before .kind .given .1) ∙ step .step .ensures) in
-    λ place.
-    scan-step _ place _ _ _ _ _ _ _ _ _ w (note-still _ _ _ _ _ _ _ (test .before .names .ensures) _ _ (test .if1 .left) (c .any-of-kind .ensures))
-    ∙ step .before .loop .inv place
+    λ rank.
+    scan-step _ rank _ _ _ _ _ _ _ _ _ w (note-still _ _ _ _ _ _ _ (test .before .names .ensures) _ _ (test .if1 .left) (c .any-of-kind .ensures))
+    ∙ step .before .loop .inv rank
 
 returns-2 : tie.Need-returns-2 Inv-loop μ-loop
 returns-2 c =
     let step = c .before .before in
     let w = seen (now (step .before .before .before .args .body)) (step .before .loop .at) _ (sym (c .enum-told .given .1) ∙ step .step .ensures) in
-    λ place. scan-end _ place _ _ _ w ∙ step .before .loop .inv place
+    λ rank. scan-end _ rank _ _ _ w ∙ step .before .loop .inv rank
 
 returns-3 : tie.Need-returns-3 Inv-loop μ-loop
 returns-3 c =
     let step = c .before .before .before in
-    let w = seen (now (step .before .before .before .args .body)) (step .before .loop .at) _ (sym (c .before .number .given .1) ∙ step .step .ensures) in
-    λ place. scan-fault _ place _ _ _ _ w ∙ step .before .loop .inv place
+    let w = seen (now (step .before .before .before .args .body)) (step .before .loop .at) _ (sym (c .before .refusal .given .1) ∙ step .step .ensures) in
+    λ rank. scan-fault _ rank _ _ _ _ w ∙ step .before .loop .inv rank
 
 pub scan-gap-spec : {M : Type 1} → statement M
 scan-gap-spec =

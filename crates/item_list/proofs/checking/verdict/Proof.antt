@@ -1,13 +1,13 @@
-use Rattle.item_list.specs.Listings.{listedAt, countOf, verdictOf}
+use Rattle.item_list.specs.Listings.{listedAt, itemCountOf, verdictOf}
 use Rattle.item_list.proofs.checking.verdict.Statement.{statement}
 use Rattle.item_list.proofs.checking.verdict.Tie as tie
 
 returns : tie.Need-returns
-unfolding countOf verdictOf listedAt
+unfolding itemCountOf verdictOf listedAt
 returns c = rw (c .if1 .taken)
 
 returns-2 : tie.Need-returns-2
-unfolding countOf verdictOf
+unfolding itemCountOf verdictOf
 returns-2 c = rw (c .if1 .left)
 
 pub verdict-spec : {M : Type 1} → statement M

@@ -5,9 +5,9 @@ use native.Mathlib.Omega.{arith}
 use lib.ListN.{drop}
 use Rattle.format.specs.Questions.{accepted, ask, bind}
 use Rattle.format.specs.Items.{readItems, rising}
-use Rattle.item_list.specs.declared.Place.the-variants.{Missing}
+use Rattle.item_list.specs.declared.ItemPosition.the-variants.{Missing}
 use Rattle.item_list.specs.Steps.{checkedOf}
-use Rattle.item_list.specs.Listings.{countOf}
+use Rattle.item_list.specs.Listings.{itemCountOf}
 use Rattle.item_list.proofs.Steps.{whole-at, step-end}
 use Rattle.item_list.proofs.Reading.{run, run-end, run-broken, run-over, run-step, nothing, count-first, count-refused, none-found}
 use Rattle.item_list.proofs.checking.walk.Statement.{statement}
@@ -15,7 +15,7 @@ use Rattle.item_list.proofs.checking.walk.Tie as tie
 
 abbrev Inv-loop : tie.InvT-loop
 Inv-loop s at₀ n₀ ordered₀ last₀ at n ordered last =
-    (n ≤ 4096) × (checkedOf (bind (readItems 4096 (drop 1 s)) (λ items. ask (rising items) 2 (accepted items))) ≡ countOf (run nothing Missing at n ordered last (readItems (4096 - n) (drop at s))))
+    (n ≤ 4096) × (checkedOf (bind (readItems 4096 (drop 1 s)) (λ items. ask (rising items) 2 (accepted items))) ≡ itemCountOf (run nothing Missing at n ordered last (readItems (4096 - n) (drop at s))))
 
 abbrev μ-loop : tie.MeasureT-loop
 μ-loop s at₀ n₀ ordered₀ last₀ at n ordered last = 4096 - n
@@ -24,7 +24,7 @@ loop-holds : tie.Need-loop-holds Inv-loop μ-loop
 loop-holds c = (omega arith, count-first _ _)
 
 returns : tie.Need-returns Inv-loop μ-loop
-returns c = c .verdict .ensures ∙ sym (c .before .before .before .before .before .loop .inv .1 ∙ ap countOf (run-end _ _ _ _ _ _ _ (sym (c .before .before .before .step-at .ensures) ∙ c .before .enum-told .given .1)))
+returns c = c .verdict .ensures ∙ sym (c .before .before .before .before .before .loop .inv .1 ∙ ap itemCountOf (run-end _ _ _ _ _ _ _ (sym (c .before .before .before .step-at .ensures) ∙ c .before .enum-told .given .1)))
 
 returns-2 : tie.Need-returns-2 Inv-loop μ-loop
 returns-2 c = sym (c .before .before .before .before .loop .inv .1 ∙ count-refused _ _ (run-broken _ _ _ _ _ _ _ (sym (c .before .before .step-at .ensures) ∙ c .enum-told2 .given .1)))
@@ -42,14 +42,14 @@ loop-again c =
     let i = c .before .before .before .before .before .before .before .loop .inv in
     let step = c .before .before .before in (
       omega arith,
-      i .1 ∙ ap countOf (run-step _ _ _ _ _ _ _ _ _ _ _ (c .before .before .before .before .before .before .loop-test .taken) (sym (step .before .before .step-at .ensures) ∙ step .step .given .1) (c .before .key-at .ensures) (c .follows .ensures) none-found),
+      i .1 ∙ ap itemCountOf (run-step _ _ _ _ _ _ _ _ _ _ _ (c .before .before .before .before .before .before .loop-test .taken) (sym (step .before .before .step-at .ensures) ∙ step .step .given .1) (c .before .key-at .ensures) (c .follows .ensures) none-found),
     )
 
 returns-3 : tie.Need-returns-3 Inv-loop μ-loop
 returns-3 c = sym (c .before .before .loop .inv .1 ∙ count-refused _ _ (run-over _ _ _ _ _ _ _ (c .before .loop-test .left) (c .if1 .taken)))
 
 returns-4 : tie.Need-returns-4 Inv-loop μ-loop
-returns-4 c = c .verdict2 .ensures ∙ sym (c .before .before .before .loop .inv .1 ∙ ap countOf (run-end _ _ _ _ _ _ _ (step-end _ _ (c .before .if1 .left))))
+returns-4 c = c .verdict2 .ensures ∙ sym (c .before .before .before .loop .inv .1 ∙ ap itemCountOf (run-end _ _ _ _ _ _ _ (step-end _ _ (c .before .if1 .left))))
 
 pub walk-spec : {M : Type 1} → statement M
 walk-spec =

@@ -7,11 +7,11 @@ use Rattle.item_list.proofs.finding.find.Statement.{statement}
 use Rattle.item_list.proofs.finding.find.Tie as tie
 
 returns : tie.Need-returns
-returns c = c .walk .ensures ∙ sym (ap (listingOf (passing (c .before .before .before .before .args .wanted))) (sheet-read _ (sym (c .before .before .opens .ensures) ∙ c .before .if1 .taken)))
+returns c = c .walk .ensures ∙ sym (ap (listingOf (passing (c .before .before .before .before .args .query))) (sheet-read _ (sym (c .before .before .opens .ensures) ∙ c .before .if1 .taken)))
 
 returns-2 : tie.Need-returns-2
 unfolding listingOf
-returns-2 c = sym (ap (listingOf (passing (c .before .before .before .args .wanted))) (sheet-shut _ (sym (c .before .opens .ensures) ∙ c .if1 .left)))
+returns-2 c = sym (ap (listingOf (passing (c .before .before .before .args .query))) (sheet-shut _ (sym (c .before .opens .ensures) ∙ c .if1 .left)))
 
 pub find-spec : {M : Type 1} → statement M
 find-spec = tie.close (tie.spec (λ c κs. search needs) (λ c κs. search needs) returns returns-2)

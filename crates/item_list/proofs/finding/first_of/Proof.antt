@@ -10,7 +10,7 @@ returns c = rw (c .before .before .enum-told .given .1, sym (c .before .passes .
 
 returns-2 : tie.Need-returns-2
 unfolding orElse
-returns-2 c = rw (c .before .place .given .1)
+returns-2 c = rw (c .before .position .given .1)
 
 returns-3 : tie.Need-returns-3
 unfolding orElse

@@ -5,7 +5,7 @@ use Rattle.item_list.proofs.finding.listing.Tie as tie
 
 returns : tie.Need-returns
 unfolding verdictOf listedAt
-returns c = rw (c .before .before .before .if1 .taken, c .before .place .given .1)
+returns c = rw (c .before .before .before .if1 .taken, c .before .position .given .1)
 
 returns-2 : tie.Need-returns-2
 unfolding verdictOf listedAt

@@ -7,15 +7,15 @@ use Rattle.item_list.proofs.finding.passes.Tie as tie
 
 returns : tie.Need-returns
 unfolding passing
-returns c = rw (c .before .wanted .given .1)
+returns c = rw (c .before .query .given .1)
 
 returns-2 : tie.Need-returns-2
 unfolding passing
-returns-2 c = rw (c .before .before .wanted2 .given .1) (c .is-record .ensures)
+returns-2 c = rw (c .before .before .query2 .given .1) (c .is-record .ensures)
 
 returns-3 : tie.Need-returns-3
 unfolding passing
-returns-3 c = rw (c .before .before .wanted3 .given .1) (ap not (c .below .ensures))
+returns-3 c = rw (c .before .before .query3 .given .1) (ap not (c .below .ensures))
 
 pub passes-spec : {M : Type 1} → statement M
 passes-spec =

@@ -13,11 +13,11 @@ use Rattle.item_list.proofs.finding.walk.Statement.{statement}
 use Rattle.item_list.proofs.finding.walk.Tie as tie
 
 abbrev Inv-loop : tie.InvT-loop
-Inv-loop s wanted at₀ n₀ ordered₀ place₀ last₀ at n ordered place last =
-    (n ≤ 4096) × (listingOf (passing wanted) (bind (readItems 4096 (drop 1 s)) (λ items. ask (rising items) 2 (accepted items))) ≡ run (passing wanted) place at n ordered last (readItems (4096 - n) (drop at s)))
+Inv-loop s query at₀ n₀ ordered₀ position₀ last₀ at n ordered position last =
+    (n ≤ 4096) × (listingOf (passing query) (bind (readItems 4096 (drop 1 s)) (λ items. ask (rising items) 2 (accepted items))) ≡ run (passing query) position at n ordered last (readItems (4096 - n) (drop at s)))
 
 abbrev μ-loop : tie.MeasureT-loop
-μ-loop s wanted at₀ n₀ ordered₀ place₀ last₀ at n ordered place last = 4096 - n
+μ-loop s query at₀ n₀ ordered₀ position₀ last₀ at n ordered position last = 4096 - n
 
 loop-holds : tie.Need-loop-holds Inv-loop μ-loop
 loop-holds c = (omega arith, run-first _ _ _)

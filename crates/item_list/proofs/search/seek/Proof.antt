@@ -8,14 +8,14 @@ use lib.ListN.{length}
 use denote.Ref.{now}
 use Rattle.format.specs.declared.Key.{Key}
 use Rattle.format.specs.Items.{Item, keyBelow}
-use Rattle.item_list.specs.Steps.{itemAt, itemsFrom}
+use Rattle.item_list.specs.Steps.{itemAt, listItemsFrom}
 use Rattle.item_list.specs.Seeks.{seekIn}
 use Rattle.item_list.proofs.Walks.{Walked, More, rest-end, rest-broken, rest-item, seek-end, seek-later, seek-past, seek-here}
 use Rattle.item_list.proofs.search.seek.Statement.{statement}
 use Rattle.item_list.proofs.search.seek.Tie as tie
 
 abbrev Inv-loop : tie.InvT-loop
-Inv-loop s from key at₀ at = Walked s at (λ (items : List Item). seekIn key from (itemsFrom s from) ≡ seekIn key at items)
+Inv-loop s from key at₀ at = Walked s at (λ (items : List Item). seekIn key from (listItemsFrom s from) ≡ seekIn key at items)
 
 abbrev μ-loop : tie.MeasureT-loop
 μ-loop s from key at₀ at = length s - at

@@ -4,7 +4,7 @@ use native.Mathlib.Omega.{arith}
 use denote.Ref.{now}
 use lib.ListN.{drop}
 use Rattle.format.specs.Items.{itemLength}
-use Rattle.item_list.specs.declared.Step.the-variants.{Whole}
+use Rattle.item_list.specs.declared.ItemStep.the-variants.{Whole}
 use Rattle.item_list.proofs.Steps.{length-at, step-end, broken-short, broken-low, broken-high, broken-long, step-item}
 use borrow.Author.Needs.{needs}
 use Rattle.item_list.proofs.stepping.step_at.Statement.{statement}

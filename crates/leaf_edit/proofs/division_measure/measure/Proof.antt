@@ -6,7 +6,7 @@ use native.Mathlib.Omega.{arith}
 use lib.ListN.{length}
 use denote.Ref.{now}
 use Rattle.format.specs.Items.{Item}
-use Rattle.item_list.specs.Steps.{itemsOf}
+use Rattle.item_list.specs.Steps.{listItems}
 use Rattle.item_list.proofs.Walks.{Walked, More, rest-all, rest-end, rest-broken, rest-item}
 use Rattle.leaf_edit.specs.Division.{Divided}
 use Rattle.leaf_edit.proofs.Running.{passed-few, passed-bound, space-here}
@@ -16,7 +16,7 @@ use Rattle.leaf_edit.proofs.division_measure.measure.Tie as tie
 
 abbrev Inv-loop : tie.InvT-loop
 Inv-loop s nodesize count at₀ i₀ left₀ right₀ best₀ used₀ leaves₀ at i left right best used leaves =
-    Walked s at (λ (rest : List Item). Measuring nodesize (itemsOf s) i left right best used leaves rest)
+    Walked s at (λ (rest : List Item). Measuring nodesize (listItems s) i left right best used leaves rest)
 
 abbrev μ-loop : tie.MeasureT-loop
 μ-loop s nodesize count at₀ i₀ left₀ right₀ best₀ used₀ leaves₀ at i left right best used leaves = length s - at
@@ -40,7 +40,7 @@ returns : tie.Need-returns Inv-loop μ-loop
 returns c =
     let a = c .before .before .before .before .before .before .args in
     let i = c .before .before .before .before .loop .inv in
-    subst (Divided (a .nodesize) (itemsOf (now (a .s)))) (sym (c .choose .ensures))
+    subst (Divided (a .nodesize) (listItems (now (a .s)))) (sym (c .choose .ensures))
     (measuring-all _ _ _ _ _ _ _ _ _ (i .so) (rest-end _ _ _ (i .rest) (sym (c .before .before .before .step-at .ensures) ∙ c .before .enum-told .given .1)))
 
 enum-told-2 : tie.Need-enum-told-2 Inv-loop μ-loop

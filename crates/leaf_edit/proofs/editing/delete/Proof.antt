@@ -4,10 +4,10 @@ use lib.ListN.{length}
 use denote.Ref.{now}
 use Rattle.fields.proofs.Numbers.{areBytes-in}
 use Rattle.format.specs.Sheets.{delete}
-use Rattle.item_list.specs.declared.Wanted.the-variants.{AtOrPast}
+use Rattle.item_list.specs.declared.ItemQuery.the-variants.{AtOrPast}
 use Rattle.item_list.specs.Seeks.{passing}
 use Rattle.item_list.proofs.Reading.{Located, located, lacking, listing-refused}
-use Rattle.item_list.proofs.Places.{key-missing, key-room, key-past, key-here}
+use Rattle.item_list.proofs.Positions.{key-missing, key-room, key-past, key-here}
 use Rattle.item_list.proofs.ItemWrites.{answered-no, answered-by}
 use Rattle.leaf_edit.proofs.Deletions.{delete-refused, delete-absent, Deletion, deletion}
 use borrow.Author.Needs.{needs}

@@ -10,8 +10,8 @@ use Rattle.fields.proofs.Numbers.{areBytes-in}
 use Rattle.format.specs.Questions.{accepted}
 use Rattle.format.specs.Items.{Item, readSheet, dataFits}
 use Rattle.item_list.proofs.ItemWrites.{answered-no, answered-by}
-use Rattle.leaf_edit.specs.Slots.{slotOf}
-use Rattle.leaf_edit.proofs.Insertions.{Insertable, slot-free, sizesFit, putNew, put-refused, put-fits, put-large, put-within, put-unbounded}
+use Rattle.leaf_edit.specs.Insertions.{insertAtOf}
+use Rattle.leaf_edit.proofs.Insertions.{Insertable, target-free, sizesFit, putNew, put-refused, put-fits, put-large, put-within, put-unbounded}
 use borrow.Author.Needs.{needs}
 use Rattle.leaf_edit.proofs.editing.put_new.Statement.{statement}
 use Rattle.leaf_edit.proofs.editing.put_new.Tie as tie
@@ -21,20 +21,20 @@ unfolding dataFits
 returns c =
     let a = c .before .before .before .before .before .before .before .before .args in
     let new : Item = record { key = a .key; bytes = now (a .body) } in
-    let e = ap (λ (f : Bool). slotOf (a .key) f (readSheet (now (a .sheet)))) (c .before .before .before .before .sizes-fit .ensures) in
-    answered-no (putNew (a .nodesize) (now (a .sheet)) new (a .bounded)) _ _ (now (a .out)) (put-refused (a .nodesize) (now (a .sheet)) new (a .bounded) _ (sym e ∙ sym (c .before .before .before .slot-for .ensures) ∙ c .before .slot .given .1))
+    let e = ap (λ (f : Bool). insertAtOf (a .key) f (readSheet (now (a .sheet)))) (c .before .before .before .before .sizes-fit .ensures) in
+    answered-no (putNew (a .nodesize) (now (a .sheet)) new (a .bounded)) _ _ (now (a .out)) (put-refused (a .nodesize) (now (a .sheet)) new (a .bounded) _ (sym e ∙ sym (c .before .before .before .insert-at .ensures) ∙ c .before .target .given .1))
 
 abbrev asked : tie.After-known-told2 → Item
 asked c = record { key = c .before .before .before .before .before .before .before .before .args .key; bytes = now (c .before .before .before .before .before .before .before .before .args .body) }
 
--- there is a slot
-free : (c : tie.After-known-told2) → Insertable (now (c .before .before .before .before .before .before .before .before .args .sheet)) (asked c) (sizesFit (c .before .before .before .before .before .before .before .before .args .nodesize) (now (c .before .before .before .before .before .before .before .before .args .sheet)) (asked c) (c .before .before .before .before .before .before .before .before .args .bounded)) (c .before .slot2 .given .0 .0) (c .before .slot2 .given .0 .1 .0)
+-- there is a position
+free : (c : tie.After-known-told2) → Insertable (now (c .before .before .before .before .before .before .before .before .args .sheet)) (asked c) (sizesFit (c .before .before .before .before .before .before .before .before .args .nodesize) (now (c .before .before .before .before .before .before .before .before .args .sheet)) (asked c) (c .before .before .before .before .before .before .before .before .args .bounded)) (c .before .target2 .given .0 .0) (c .before .target2 .given .0 .1 .0)
 unfolding dataFits
 free c =
     let a = c .before .before .before .before .before .before .before .before .args in
-    let e = ap (λ (f : Bool). slotOf (a .key) f (readSheet (now (a .sheet)))) (c .before .before .before .before .sizes-fit .ensures) in
-    slot-free _ (asked c) (areBytes-in (now (c .before .before .before .before .before .before .before .before .args .sheet)) (λ i. c .before .before .before .before .before .before .shared-slice-known .given i .fits)) _ _ _
-    (sym e ∙ sym (c .before .before .before .slot-for .ensures) ∙ c .before .slot2 .given .1)
+    let e = ap (λ (f : Bool). insertAtOf (a .key) f (readSheet (now (a .sheet)))) (c .before .before .before .before .sizes-fit .ensures) in
+    target-free _ (asked c) (areBytes-in (now (c .before .before .before .before .before .before .before .before .args .sheet)) (λ i. c .before .before .before .before .before .before .shared-slice-known .given i .fits)) _ _ _
+    (sym e ∙ sym (c .before .before .before .insert-at .ensures) ∙ c .before .target2 .given .1)
 
 short : (c : tie.After-known-told2) → length (now (c .before .before .before .before .before .before .before .before .args .body)) ≤ 65535
 unfolding dataFits

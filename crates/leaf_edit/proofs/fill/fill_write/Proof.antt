@@ -6,15 +6,15 @@ use native.Mathlib.Omega.{arith}
 use lib.ListN.{length}
 use denote.Ref.{now}
 use Rattle.format.specs.Items.{Item}
-use Rattle.item_list.specs.Steps.{itemsOf}
+use Rattle.item_list.specs.Steps.{listItems}
 use Rattle.item_list.proofs.Walks.{Walked, More, rest-all, rest-end, rest-broken, rest-item}
-use Rattle.leaf_edit.proofs.Filling.{Writing, writing-none, writing-all, writing-stays, writing-starts, place-left, passed-fewer}
+use Rattle.leaf_edit.proofs.Filling.{Writing, writing-none, writing-all, writing-stays, writing-starts, room-left, passed-fewer}
 use Rattle.leaf_edit.proofs.fill.fill_write.Statement.{statement}
 use Rattle.leaf_edit.proofs.fill.fill_write.Tie as tie
 
 abbrev Inv-loop : tie.InvT-loop
 Inv-loop s nodesize count cuts₀ at₀ used₀ leaves₀ i₀ cuts at used leaves i =
-    Walked s at (λ (rest : List Item). Writing nodesize (itemsOf s) cuts₀ cuts used leaves i rest)
+    Walked s at (λ (rest : List Item). Writing nodesize (listItems s) cuts₀ cuts used leaves i rest)
 
 abbrev μ-loop : tie.MeasureT-loop
 μ-loop s nodesize count cuts₀ at₀ used₀ leaves₀ i₀ cuts at used leaves i = length s - at
@@ -93,7 +93,7 @@ mul-cuts c =
     omega (arith, e, f)
 
 slice-write-cuts : tie.Need-slice-write-cuts Inv-loop μ-loop
-slice-write-cuts c = place-left _ _ _ _ _ _ _ _ _ _ _ (c .before .before .before .before .before .loop .inv .so) (more (c .before)) (c .if1 .left) (c .before .before .before .before .before .before .before .before .pre .2)
+slice-write-cuts c = room-left _ _ _ _ _ _ _ _ _ _ _ (c .before .before .before .before .before .loop .inv .so) (more (c .before)) (c .if1 .left) (c .before .before .before .before .before .before .before .before .pre .2)
 
 add-leaves : tie.Need-add-leaves Inv-loop μ-loop
 add-leaves c =

@@ -16,8 +16,8 @@ unfolding lentPart lentNumber codeOf
 returns c =
     let a = c .before .before .before .before .before .before .args in
     let e = listing-refused _ _ _ (sym (c .before .before .before .before .find .ensures) ∙ c .before .before .listing .given .1) in
-    let h = item-refused (now (a .sheet)) (a .number) _ e in
-    let k = start-refused (now (a .sheet)) (a .number) _ e in
+    let h = item-refused (now (a .sheet)) (a .index) _ e in
+    let k = start-refused (now (a .sheet)) (a .index) _ e in
     let p = c .no-part .ensures in
     (p .0 ∙ sym (ap lentPart h), sym (ap codeOf h), p .1, p .2 ∙ (sym (zero-add (a .sheet .ptr .1)) ∙ ap (λ (n : ℕ). n + a .sheet .ptr .1) (sym (ap lentNumber k))))
 
@@ -27,13 +27,13 @@ returns-2 c =
     let a = c .before .before .before .before .before .args in
     let bytes = areBytes-in (now (a .sheet)) (λ i. c .before .before .before .before .shared-slice-known .given i .fits) in
     let l = lacking _ _ _ bytes (sym (c .before .before .before .find .ensures) ∙ c .before .enum-told .given .1) in
-    let h = item-missing (now (a .sheet)) (a .number) _ l in
-    let k = start-missing (now (a .sheet)) (a .number) _ l in
+    let h = item-missing (now (a .sheet)) (a .index) _ l in
+    let k = start-missing (now (a .sheet)) (a .index) _ l in
     let p = c .no-part2 .ensures in
     (p .0 ∙ sym (ap lentPart h), sym (ap codeOf h), p .1, p .2 ∙ (sym (zero-add (a .sheet .ptr .1)) ∙ ap (λ (n : ℕ). n + a .sheet .ptr .1) (sym (ap lentNumber k))))
 
 -- the item was found
-found : (c : tie.After-known-told2) → Stored (now (c .before .before .before .before .before .args .sheet)) (c .before .before .before .before .before .args .number) (c .before .listing2 .given .0 .1 .1 .0) (c .before .listing2 .given .0 .1 .1 .1 .0)
+found : (c : tie.After-known-told2) → Stored (now (c .before .before .before .before .before .args .sheet)) (c .before .before .before .before .before .args .index) (c .before .listing2 .given .0 .1 .1 .0) (c .before .listing2 .given .0 .1 .1 .1 .0)
 found c =
     let bytes = areBytes-in (now (c .before .before .before .before .before .args .sheet)) (λ i. c .before .before .before .before .shared-slice-known .given i .fits) in
     stored _ _ _ _ _ _ (located _ _ _ _ _ _ bytes (sym (c .before .before .before .find .ensures) ∙ c .before .listing2 .given .1))

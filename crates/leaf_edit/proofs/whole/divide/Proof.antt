@@ -5,7 +5,7 @@ use lib.ListN.{length}
 use denote.Ref.{now}
 use Rattle.format.specs.Questions.{accepted}
 use Rattle.format.specs.Sheets.{filled, splitToFit}
-use Rattle.item_list.specs.Steps.{itemsOf}
+use Rattle.item_list.specs.Steps.{listItems}
 use Rattle.leaf_edit.specs.declared.division.Division.the-variants.{TooLarge, TwoWay, Leaves}
 use Rattle.leaf_edit.specs.Division.{Divided}
 use Rattle.leaf_edit.proofs.Splits.{cuts-refused, cuts-short, cuts-written, one-written}
@@ -21,13 +21,13 @@ returns : tie.Need-returns
 returns c =
     let a = c .before .before .before .before .before .args in
     let p = c .before .before .before .before .before .pre in
-    let large : Divided (a .nodesize) (itemsOf (now (a .sheet))) TooLarge =
-    subst (Divided (a .nodesize) (itemsOf (now (a .sheet)))) (c .enum-told .given .1) (c .before .before .measure .ensures) in
+    let large : Divided (a .nodesize) (listItems (now (a .sheet))) TooLarge =
+    subst (Divided (a .nodesize) (listItems (now (a .sheet)))) (c .enum-told .given .1) (c .before .before .measure .ensures) in
     cuts-refused (splitToFit (a .nodesize) (now (a .sheet))) _ (now (a .cuts)) (now (a .cuts)) _ (to-fit-large _ _ _ (p .0) (p .1) large) refl
 
 -- two leaves
-two : (c : tie.After-known-told) → Divided (c .before .before .before .before .before .before .args .nodesize) (itemsOf (now (c .before .before .before .before .before .before .args .sheet))) (TwoWay (c .before .division .given .0 .0))
-two c = subst (Divided (c .before .before .before .before .before .before .args .nodesize) (itemsOf (now (c .before .before .before .before .before .before .args .sheet)))) (c .before .division .given .1) (c .before .before .before .measure .ensures)
+two : (c : tie.After-known-told) → Divided (c .before .before .before .before .before .before .args .nodesize) (listItems (now (c .before .before .before .before .before .before .args .sheet))) (TwoWay (c .before .division .given .0 .0))
+two c = subst (Divided (c .before .before .before .before .before .before .args .nodesize) (listItems (now (c .before .before .before .before .before .before .args .sheet)))) (c .before .division .given .1) (c .before .before .before .measure .ensures)
 
 two-are : (c : tie.After-known-told) → splitToFit (c .before .before .before .before .before .before .args .nodesize) (now (c .before .before .before .before .before .before .args .sheet)) ≡ accepted (c .before .division .given .0 .0 ∷ [])
 two-are c = to-fit-cut _ _ _ (c .before .before .before .before .before .before .pre .0) (c .before .before .before .before .before .before .pre .1) (two c .0) _ (two c .1)
@@ -49,8 +49,8 @@ returns-3 c =
     cuts-written (splitToFit (a .nodesize) (now (a .sheet))) (length (now (a .cuts))) (now (a .cuts)) _ _ (two-are (c .before)) _ refl (c .if1 .left) (one-written (now (a .cuts)) _ (c .if1 .left))
 
 -- leaves filled from the left
-more : (c : tie.After-known-told2) → Divided (c .before .before .before .before .before .before .args .nodesize) (itemsOf (now (c .before .before .before .before .before .before .args .sheet))) (Leaves (c .before .division2 .given .0 .0))
-more c = subst (Divided (c .before .before .before .before .before .before .args .nodesize) (itemsOf (now (c .before .before .before .before .before .before .args .sheet)))) (c .before .division2 .given .1) (c .before .before .before .measure .ensures)
+more : (c : tie.After-known-told2) → Divided (c .before .before .before .before .before .before .args .nodesize) (listItems (now (c .before .before .before .before .before .before .args .sheet))) (Leaves (c .before .division2 .given .0 .0))
+more c = subst (Divided (c .before .before .before .before .before .before .args .nodesize) (listItems (now (c .before .before .before .before .before .before .args .sheet)))) (c .before .division2 .given .1) (c .before .before .before .measure .ensures)
 
 returns-4 : tie.Need-returns-4
 returns-4 c =
@@ -58,14 +58,14 @@ returns-4 c =
     let p = c .before .before .before .before .before .before .before .pre in
     cuts-refused (splitToFit (a .nodesize) (now (a .sheet))) _ (now (a .cuts)) (now (a .cuts)) _ (to-fit-few _ _ _ (p .0) (p .1) (more (c .before) .0) (c .if2 .taken)) refl
 
-more-are : (c : tie.Else2) → splitToFit (c .before .before .before .before .before .before .before .args .nodesize) (now (c .before .before .before .before .before .before .before .args .sheet)) ≡ accepted (filled (c .before .before .before .before .before .before .before .args .nodesize) 0 101 (itemsOf (now (c .before .before .before .before .before .before .before .args .sheet))))
+more-are : (c : tie.Else2) → splitToFit (c .before .before .before .before .before .before .before .args .nodesize) (now (c .before .before .before .before .before .before .before .args .sheet)) ≡ accepted (filled (c .before .before .before .before .before .before .before .args .nodesize) 0 101 (listItems (now (c .before .before .before .before .before .before .before .args .sheet))))
 more-are c = to-fit-filled _ _ _ (c .before .before .before .before .before .before .before .pre .0) (c .before .before .before .before .before .before .before .pre .1) (more (c .before) .0) (c .if2 .left) (more (c .before) .1)
 
 returns-5 : tie.Need-returns-5
 returns-5 c =
     let a = c .before .before .before .before .before .before .before .before .args in
     let e = more (c .before .before) .2 in
-    cuts-short (splitToFit (a .nodesize) (now (a .sheet))) (length (now (a .cuts))) (now (a .cuts)) (now (a .cuts)) (filled (a .nodesize) 0 101 (itemsOf (now (a .sheet)))) (more-are (c .before)) (omega arith) refl
+    cuts-short (splitToFit (a .nodesize) (now (a .sheet))) (length (now (a .cuts))) (now (a .cuts)) (now (a .cuts)) (filled (a .nodesize) 0 101 (listItems (now (a .sheet)))) (more-are (c .before)) (omega arith) refl
 
 fill-write-requires : tie.Need-fill-write-requires
 fill-write-requires c κs =

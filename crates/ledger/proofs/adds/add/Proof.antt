@@ -30,7 +30,7 @@ part-plan-add-end : tie.Need-part-plan-add-end
 part-plan-add-end c = let d = found (c .before) in d .within
 
 ask-add-requires : tie.Need-ask-add-requires
-ask-add-requires c κs = let s = c .before .before .before .before .before in (s .pre .0, (s .pre .1 .0, c .before .before .place-of .ensures .0))
+ask-add-requires c κs = let s = c .before .before .before .before .before in (s .pre .0, (s .pre .1 .0, c .before .before .rank-of .ensures .0))
 
 add-limit-for : tie.Need-add-limit-for
 add-limit-for c = let d = found (c .before .before .before .before) in let p = d .ordered in let q = d .within in let m = d .small in omega arith

@@ -1,5 +1,5 @@
 use Rattle.ledger.specs.Asked.{firstNo}
-use Rattle.ledger.proofs.Alsos.{first-other, first-number}
+use Rattle.ledger.proofs.Alsos.{first-other, first-refusal}
 use borrow.Author.Needs.{needs}
 use Rattle.ledger.proofs.also.first_no.Statement.{statement}
 use Rattle.ledger.proofs.also.first_no.Tie as tie
@@ -8,7 +8,7 @@ returns : tie.Need-returns
 returns c = first-other _ _ _ (c .before .before .outcome .given .1) (c .if1 .taken)
 
 returns-2 : tie.Need-returns-2
-returns-2 c = first-number _ _ _ (c .before .before .outcome .given .1) (c .if1 .left)
+returns-2 c = first-refusal _ _ _ (c .before .before .outcome .given .1) (c .if1 .left)
 
 returns-3 : tie.Need-returns-3
 unfolding firstNo

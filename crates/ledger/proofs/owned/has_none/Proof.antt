@@ -3,7 +3,7 @@ use native.Mathlib.Omega.{arith}
 use denote.Ref.{now}
 use Rattle.fields.proofs.Numbers.{areBytes-in}
 use Rattle.record_edit.proofs.Stands.{stands}
-use Rattle.transaction.proofs.Behind.{listed-behind}
+use Rattle.transaction.proofs.BehindRecord.{listed-behind}
 use Rattle.ledger.proofs.OwnItems.{Seat, no-seat, seat}
 use borrow.Author.Needs.{needs}
 use Rattle.ledger.proofs.owned.has_none.Statement.{statement}

@@ -1,6 +1,6 @@
 use mathlib.Core.Path.{ap}
 use Rattle.inline_refs.specs.Scans.{kindOf}
-use Rattle.ledger.specs.Known.{ownAt}
+use Rattle.ledger.specs.Known.{isOwnItem}
 use borrow.Author.Needs.{needs}
 use Rattle.ledger.proofs.owned.is_own.Statement.{statement}
 use Rattle.ledger.proofs.owned.is_own.Tie as tie
@@ -10,19 +10,19 @@ unfolding kindOf
 names-triple-requires c κs = c .before .before .before .before .pre (ap kindOf (c .before .wanted .given .1))
 
 returns : tie.Need-returns
-unfolding ownAt
+unfolding isOwnItem
 returns c = rw (c .enum-told .given .1)
 
 returns-2 : tie.Need-returns-2
-unfolding ownAt
+unfolding isOwnItem
 returns-2 c = rw (c .before .before .wanted .given .1) (c .names-triple .ensures)
 
 returns-3 : tie.Need-returns-3
-unfolding ownAt
+unfolding isOwnItem
 returns-3 c = rw (c .enum-told2 .given .1)
 
 returns-4 : tie.Need-returns-4
-unfolding ownAt
+unfolding isOwnItem
 returns-4 c = rw (c .enum-told3 .given .1)
 
 pub is-own-spec : {M : Type 1} → statement M

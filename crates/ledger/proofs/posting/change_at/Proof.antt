@@ -4,10 +4,10 @@ use native.Mathlib.Omega.{arith}
 use denote.Ref.{now}
 use lib.ListN.{length}
 use Rattle.inline_refs.specs.Scans.{kindOf}
-use Rattle.item_list.specs.Steps.{itemsOf}
+use Rattle.item_list.specs.Steps.{listItems}
 use Rattle.ledger.specs.Adding.{addChange}
 use Rattle.ledger.proofs.Postings.{drop-block, drop-data, drop-shared, as-drop, as-change, entered-as, fits-as, not-block}
-use Rattle.inline_refs.specs.declared.wanted.Wanted.the-variants.{Block, Data}
+use Rattle.inline_refs.specs.declared.ref_name.RefName.the-variants.{Block, Data}
 use Rattle.theorems.proofs.Edit.{balanced-out}
 use Rattle.transaction.specs.Drops.{dropRef}
 use Rattle.ledger.proofs.Dropping.{in-form, drop-answered}
@@ -25,7 +25,7 @@ returns : tie.Need-returns
 unfolding addChange
 returns c =
     let a = c .before .before .before .before .before .before .before .before .before .args in
-    as-change (a .nodesize) (length (now (a .out))) (itemsOf (now (a .sheet))) (a .change) _ (c .before .before .before .before .before .change .given .1) (c .before .before .add .ensures)
+    as-change (a .nodesize) (length (now (a .out))) (listItems (now (a .sheet))) (a .change) _ (c .before .before .before .before .before .change .given .1) (c .before .before .add .ensures)
 
 add-requires-2 : tie.Need-add-requires-2
 unfolding kindOf
@@ -37,7 +37,7 @@ returns-2 : tie.Need-returns-2
 unfolding addChange
 returns-2 c =
     let a = c .before .before .before .before .before .before .before .before .before .args in
-    as-change (a .nodesize) (length (now (a .out))) (itemsOf (now (a .sheet))) (a .change) _ (c .before .before .before .before .before .change2 .given .1) (c .before .before .add2 .ensures)
+    as-change (a .nodesize) (length (now (a .out))) (listItems (now (a .sheet))) (a .change) _ (c .before .before .before .before .before .change2 .given .1) (c .before .before .add2 .ensures)
 
 shared-wanted-requires : tie.Need-shared-wanted-requires
 shared-wanted-requires c κs = fits-as (c .before .before .before .before .before .args .change) (c .before .change3 .given .1) (c .before .before .before .before .before .pre .1 .1)
@@ -51,7 +51,7 @@ add-requires-3 c κs =
 returns-3 : tie.Need-returns-3
 returns-3 c =
     let a = c .before .before .before .before .before .before .before .before .before .before .args in
-    as-change (a .nodesize) (length (now (a .out))) (itemsOf (now (a .sheet))) (a .change) _
+    as-change (a .nodesize) (length (now (a .out))) (listItems (now (a .sheet))) (a .change) _
     (c .before .before .before .before .before .before .change3 .given .1 ∙ c .before .before .before .before .shared-wanted .ensures .change _ _) (c .before .before .add3 .ensures)
 
 drop-ref-requires : tie.Need-drop-ref-requires
@@ -63,8 +63,8 @@ returns-4 : tie.Need-returns-4
 returns-4 c =
     let s = c .before .before .before .before .before .before .before .before .before in
     let a = s .args in
-    as-drop (a .nodesize) (length (now (a .out))) (itemsOf (now (a .sheet))) (a .change) _ _ (c .before .before .before .before .before .change4 .given .1) (drop-block (a .nodesize) _ (itemsOf (now (a .sheet))) _)
-    (drop-answered (entered-as (a .change) (c .before .before .before .before .before .change4 .given .1) (s .pre .0)) (dropRef (Block _) (itemsOf (now (a .sheet)))) (length (now (a .out))) _ (now (a .out)) _ (c .before .before .drop-ref .ensures))
+    as-drop (a .nodesize) (length (now (a .out))) (listItems (now (a .sheet))) (a .change) _ _ (c .before .before .before .before .before .change4 .given .1) (drop-block (a .nodesize) _ (listItems (now (a .sheet))) _)
+    (drop-answered (entered-as (a .change) (c .before .before .before .before .before .change4 .given .1) (s .pre .0)) (dropRef (Block _) (listItems (now (a .sheet)))) (length (now (a .out))) _ (now (a .out)) _ (c .before .before .drop-ref .ensures))
 
 drop-ref-requires-2 : tie.Need-drop-ref-requires-2
 drop-ref-requires-2 c κs =
@@ -75,8 +75,8 @@ returns-5 : tie.Need-returns-5
 returns-5 c =
     let s = c .before .before .before .before .before .before .before .before .before in
     let a = s .args in
-    as-drop (a .nodesize) (length (now (a .out))) (itemsOf (now (a .sheet))) (a .change) _ _ (c .before .before .before .before .before .change5 .given .1) (drop-data (a .nodesize) _ (itemsOf (now (a .sheet))) _)
-    (drop-answered (entered-as (a .change) (c .before .before .before .before .before .change5 .given .1) (s .pre .0)) (dropRef (Data _) (itemsOf (now (a .sheet)))) (length (now (a .out))) _ (now (a .out)) _ (c .before .before .drop-ref2 .ensures))
+    as-drop (a .nodesize) (length (now (a .out))) (listItems (now (a .sheet))) (a .change) _ _ (c .before .before .before .before .before .change5 .given .1) (drop-data (a .nodesize) _ (listItems (now (a .sheet))) _)
+    (drop-answered (entered-as (a .change) (c .before .before .before .before .before .change5 .given .1) (s .pre .0)) (dropRef (Data _) (listItems (now (a .sheet)))) (length (now (a .out))) _ (now (a .out)) _ (c .before .before .drop-ref2 .ensures))
 
 shared-wanted-requires-2 : tie.Need-shared-wanted-requires-2
 shared-wanted-requires-2 c κs = fits-as (c .before .before .before .before .before .args .change) (c .before .change6 .given .1) (c .before .before .before .before .before .pre .1 .1)
@@ -91,8 +91,8 @@ returns-6 c =
     let s = c .before .before .before .before .before .before .before .before .before .before in
     let a = s .args in
     let w = c .before .before .before .before .shared-wanted2 .result in
-    as-drop (a .nodesize) (length (now (a .out))) (itemsOf (now (a .sheet))) (a .change) _ _ (c .before .before .before .before .before .before .change6 .given .1) (drop-shared (a .nodesize) _ (itemsOf (now (a .sheet))) _ w (c .before .before .before .before .shared-wanted2 .ensures))
-    (drop-answered (entered-as (a .change) (c .before .before .before .before .before .before .change6 .given .1) (s .pre .0)) (dropRef w (itemsOf (now (a .sheet)))) (length (now (a .out))) _ (now (a .out)) _ (c .before .before .drop-ref3 .ensures))
+    as-drop (a .nodesize) (length (now (a .out))) (listItems (now (a .sheet))) (a .change) _ _ (c .before .before .before .before .before .before .change6 .given .1) (drop-shared (a .nodesize) _ (listItems (now (a .sheet))) _ w (c .before .before .before .before .shared-wanted2 .ensures))
+    (drop-answered (entered-as (a .change) (c .before .before .before .before .before .before .change6 .given .1) (s .pre .0)) (dropRef w (listItems (now (a .sheet)))) (length (now (a .out))) _ (now (a .out)) _ (c .before .before .drop-ref3 .ensures))
 
 pub change-at-spec : {M : Type 1} → statement M
 change-at-spec =

@@ -38,7 +38,7 @@ put-ref-requires c κs =
     let loop = step .before .loop in
     let said = step .step-from .ensures in
     let w = stands-behind (now (s .args .body)) (loop .cursor) _ (said .0) _ _ _ _ _ (kind .step .given .1) _ (said .1) in
-    (w .kindKnown, omega (arith, w .start, w .further, w .within), w .long, w .place, s .pre .1 .0, omega (arith, loop .inv .2, loop .inv .3, s .pre .1 .0))
+    (w .kindKnown, omega (arith, w .start, w .further, w .within), w .long, w .count-at, s .pre .1 .0, omega (arith, loop .inv .2, loop .inv .3, s .pre .1 .0))
 
 loop-less : tie.Need-loop-less Inv-loop μ-loop
 loop-less c =

@@ -23,7 +23,6 @@ abbrev put-digits-below : ℕ → In 1 put-digits-kinds.ps
 put-digits-below t =
     and 1 put-digits-kinds.ps (falls 1 put-digits-kinds.ps _<_ μ-put-digits t) put-digits.Pre
 
--- src/puts.rt:39:17
 put-digits-add-last : (t : ℕ) → put-digits-lts.Need-add-last (
   put-byte-reads.Asked,
   put-byte-reads.Learnt,
@@ -32,7 +31,6 @@ put-digits-add-last : (t : ℕ) → put-digits-lts.Need-add-last (
 ) (put-digits-at t) put-digits.Post
 put-digits-add-last t c = omega arith
 
--- src/puts.rt:39:16
 put-digits-cast-last : (t : ℕ) → put-digits-lts.Need-cast-last (
   put-byte-reads.Asked,
   put-byte-reads.Learnt,
@@ -41,7 +39,6 @@ put-digits-cast-last : (t : ℕ) → put-digits-lts.Need-cast-last (
 ) (put-digits-at t) put-digits.Post
 put-digits-cast-last t c = omega arith
 
--- src/puts.rt:41:9
 put-digits-put-byte-requires : (t : ℕ) → put-digits-lts.Need-put-byte-requires (
   put-byte-reads.Asked,
   put-byte-reads.Learnt,
@@ -50,7 +47,6 @@ put-digits-put-byte-requires : (t : ℕ) → put-digits-lts.Need-put-byte-requir
 ) (put-digits-at t) put-digits.Post
 put-digits-put-byte-requires t c κs = omega (arith, c .before .before .before .pre .1)
 
--- src/puts.rt:41:9
 put-digits-same-length : (t : ℕ) → put-digits-lts.Need-same-length (
   put-byte-reads.Asked,
   put-byte-reads.Learnt,
@@ -59,7 +55,6 @@ put-digits-same-length : (t : ℕ) → put-digits-lts.Need-same-length (
 ) (put-digits-at t) put-digits.Post
 put-digits-same-length t c = c .before .before .put-byte .kept .0
 
--- src/puts.rt:41:9
 put-digits-returns : (t : ℕ) → put-digits-lts.Need-returns (
   put-byte-reads.Asked,
   put-byte-reads.Learnt,
@@ -70,7 +65,6 @@ put-digits-returns t c =
     let call = c .before .before in
     (put-is (sym (digits-one _ (call .before .before .if1 .taken))) (call .put-byte .ensures), omega (arith, call .put-byte .ensures .further))
 
--- src/puts.rt:43:9
 put-digits-put-digits-requires : (t : ℕ) → put-digits-lts.Need-put-digits-requires (
   put-byte-reads.Asked,
   put-byte-reads.Learnt,
@@ -81,7 +75,6 @@ put-digits-put-digits-requires t c κs =
     let s = c .before .before .before in
     (omega (arith, s .pre .0, c .before .if1 .left), s .pre .1)
 
--- src/puts.rt:44:5
 put-digits-put-byte-requires-2 : (t : ℕ) → put-digits-lts.Need-put-byte-requires-2 (
   put-byte-reads.Asked,
   put-byte-reads.Learnt,
@@ -92,7 +85,6 @@ put-digits-put-byte-requires-2 t c κs =
     let call = c .before .before .before in
     omega (arith, call .put-digits .ensures .1, call .before .before .before .before .pre .1)
 
--- src/puts.rt:35:1
 put-digits-same-length-2 : (t : ℕ) → put-digits-lts.Need-same-length-2 (
   put-byte-reads.Asked,
   put-byte-reads.Learnt,
@@ -101,7 +93,6 @@ put-digits-same-length-2 : (t : ℕ) → put-digits-lts.Need-same-length-2 (
 ) (put-digits-at t) put-digits.Post
 put-digits-same-length-2 t c = c .before .before .put-byte2 .kept .0 ∙ c .before .before .before .before .before .before .put-digits .kept .0
 
--- src/puts.rt:35:1
 put-digits-returns-2 : (t : ℕ) → put-digits-lts.Need-returns-2 (
   put-byte-reads.Asked,
   put-byte-reads.Learnt,

@@ -1,7 +1,7 @@
 use mathlib.Core.Path.{sym, _∙_}
 use denote.Ref.{now}
 use Rattle.fields.proofs.Numbers.{areBytes-in}
-use Rattle.item_list.specs.declared.Wanted.the-variants.{Record}
+use Rattle.item_list.specs.declared.ItemQuery.the-variants.{Record}
 use Rattle.item_list.specs.Seeks.{passing}
 use Rattle.item_list.proofs.Reading.{Located, located, lacking, listing-refused}
 use Rattle.record_edit.proofs.Searches.{sheet-refused, three-refused, lacks, key-room, has}

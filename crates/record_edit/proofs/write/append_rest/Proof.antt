@@ -10,7 +10,7 @@ returns c =
     let second = third .before .before .before .before in
     let first = second .before .before .before .before .before in
     let s = first .before .before .before .before .before in
-    rest-writes (s .args .behind) (s .args .end) (now (s .args .sheet)) (s .pre .0) (now (s .args .out)) _ _ _ (s .args .at) _ _ (s .pre .1 .0)
+    rest-writes (s .args .second) (s .args .end) (now (s .args .sheet)) (s .pre .0) (now (s .args .out)) _ _ _ (s .args .at) _ _ (s .pre .1 .0)
     (first .append .ensures) (second .append2 .ensures) (third .append3 .ensures .1)
 
 pub append-rest-spec : {M : Type 1} → statement M

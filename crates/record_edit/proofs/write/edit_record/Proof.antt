@@ -16,22 +16,22 @@ returns : tie.Need-returns
 returns c =
     let told = c .before .before .before .before in
     let s = told .before .before .before .before in
-    did-edit (s .args .plan) (dataOf (now (s .args .sheet)) (s .args .target .start) (s .args .target .end)) (heldEdit (length (now (s .args .out))) (s .args .count) (s .args .limit) (editedSheet (now (s .args .sheet)) (s .args .target) (s .args .behind))) (now (s .args .out)) (told .enum-told .given .1) (c .before .before .write-held .ensures)
+    did-edit (s .args .plan) (dataOf (now (s .args .sheet)) (s .args .target .start) (s .args .target .end)) (heldEdit (length (now (s .args .out))) (s .args .count) (s .args .limit) (editedSheet (now (s .args .sheet)) (s .args .target) (s .args .second))) (now (s .args .out)) (told .enum-told .given .1) (c .before .before .write-held .ensures)
 
 returns-2 : tie.Need-returns-2
 returns-2 c =
     let s = c .before .before .before .before in
-    did-nothing (s .args .plan) (dataOf (now (s .args .sheet)) (s .args .target .start) (s .args .target .end)) (heldEdit (length (now (s .args .out))) (s .args .count) (s .args .limit) (editedSheet (now (s .args .sheet)) (s .args .target) (s .args .behind))) (now (s .args .out)) (c .enum-told2 .given .1)
+    did-nothing (s .args .plan) (dataOf (now (s .args .sheet)) (s .args .target .start) (s .args .target .end)) (heldEdit (length (now (s .args .out))) (s .args .count) (s .args .limit) (editedSheet (now (s .args .sheet)) (s .args .target) (s .args .second))) (now (s .args .out)) (c .enum-told2 .given .1)
 
 returns-3 : tie.Need-returns-3
 returns-3 c =
     let s = c .before .before .before .before in
-    did-remove (s .args .plan) (dataOf (now (s .args .sheet)) (s .args .target .start) (s .args .target .end)) (heldEdit (length (now (s .args .out))) (s .args .count) (s .args .limit) (editedSheet (now (s .args .sheet)) (s .args .target) (s .args .behind))) (now (s .args .out)) (c .enum-told3 .given .1)
+    did-remove (s .args .plan) (dataOf (now (s .args .sheet)) (s .args .target .start) (s .args .target .end)) (heldEdit (length (now (s .args .out))) (s .args .count) (s .args .limit) (editedSheet (now (s .args .sheet)) (s .args .target) (s .args .second))) (now (s .args .out)) (c .enum-told3 .given .1)
 
 returns-4 : tie.Need-returns-4
 returns-4 c =
     let s = c .before .before .before .before .before in
-    did-refuse (s .args .plan) (dataOf (now (s .args .sheet)) (s .args .target .start) (s .args .target .end)) (heldEdit (length (now (s .args .out))) (s .args .count) (s .args .limit) (editedSheet (now (s .args .sheet)) (s .args .target) (s .args .behind))) (now (s .args .out)) _ (c .before .outcome .given .1)
+    did-refuse (s .args .plan) (dataOf (now (s .args .sheet)) (s .args .target .start) (s .args .target .end)) (heldEdit (length (now (s .args .out))) (s .args .count) (s .args .limit) (editedSheet (now (s .args .sheet)) (s .args .target) (s .args .second))) (now (s .args .out)) _ (c .before .outcome .given .1)
 
 pub edit-record-spec : {M : Type 1} → statement M
 edit-record-spec =

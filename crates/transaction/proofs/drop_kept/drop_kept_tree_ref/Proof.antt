@@ -3,10 +3,10 @@ use denote.Ref.{now}
 use lib.ListN.{length}
 use Rattle.fields.proofs.Numbers.{areBytes-in}
 use Rattle.format.specs.Items.{keyOf}
-use Rattle.item_list.specs.declared.Wanted.the-variants.{AtOrPast}
+use Rattle.item_list.specs.declared.ItemQuery.the-variants.{AtOrPast}
 use Rattle.item_list.specs.Seeks.{passing}
 use Rattle.item_list.proofs.Reading.{Located, located, lacking, listing-refused}
-use Rattle.item_list.proofs.Places.{key-missing, key-room, key-past, key-here}
+use Rattle.item_list.proofs.Positions.{key-missing, key-room, key-past, key-here}
 use Rattle.item_list.proofs.ItemWrites.{answered-no}
 use Rattle.record_edit.specs.Stands.{StandsAt}
 use Rattle.transaction.proofs.KeptRecords.{kept-refused, kept-none, kept-stands, kept-told, kept-plain}

@@ -3,10 +3,10 @@ use native.Mathlib.Omega.{arith}
 use denote.Ref.{now}
 use lib.ListN.{length}
 use Rattle.fields.proofs.Numbers.{areBytes-in}
-use Rattle.item_list.specs.Steps.{itemsOf}
+use Rattle.item_list.specs.Steps.{listItems}
 use Rattle.transaction.specs.Drops.{dropRef}
 use Rattle.record_edit.proofs.Stands.{Stands, stands, key-answered}
-use Rattle.transaction.proofs.Behind.{listed-behind, place-behind}
+use Rattle.transaction.proofs.BehindRecord.{listed-behind, position-behind}
 use Rattle.transaction.proofs.Turns.{other-outcome}
 use Rattle.transaction.proofs.RefDrops.{drop-inline, drop-none, drop-item, count-fits}
 use borrow.Author.Needs.{needs}
@@ -36,7 +36,7 @@ returns : tie.Need-returns
 returns c =
     let at = c .before .before .before .before .before .before .before in
     let a = at .before .before .args in
-    key-answered (at .before .before .pre .0) (dropRef (a .name) (itemsOf (now (a .sheet)))) (length (now (a .out))) _ (now (a .out)) _
+    key-answered (at .before .before .pre .0) (dropRef (a .name) (listItems (now (a .sheet)))) (length (now (a .out))) _ (now (a .out)) _
     (drop-inline (stood at) (a .name) _ (c .before .before .before .before .before .plan-inline .ensures) (length (now (a .out))) (other-outcome _ (c .before .before .before .before .match .keys2)) _ (now (a .out)) _ (c .before .before .put-record .ensures))
 
 seek-requires : tie.Need-seek-requires
@@ -46,8 +46,8 @@ returns-2 : tie.Need-returns-2
 returns-2 c =
     let at = c .before .before .before .before .before .before .before .before .before in
     let a = at .before .before .args in
-    key-answered (at .before .before .pre .0) (dropRef (a .name) (itemsOf (now (a .sheet)))) (length (now (a .out))) _ (now (a .out)) _
-    (drop-none (stood at) (a .name) _ (c .before .before .before .before .before .before .before .plan-inline .ensures) (length (now (a .out))) (c .before .before .before .before .before .enum-told .given .1) _ _ (c .before .before .before .before .kind-of .ensures) (c .before .before .before .own-place .ensures) _ (now (a .out))
+    key-answered (at .before .before .pre .0) (dropRef (a .name) (listItems (now (a .sheet)))) (length (now (a .out))) _ (now (a .out)) _
+    (drop-none (stood at) (a .name) _ (c .before .before .before .before .before .before .before .plan-inline .ensures) (length (now (a .out))) (c .before .before .before .before .before .enum-told .given .1) _ _ (c .before .before .before .before .kind-of .ensures) (c .before .before .before .rank-of .ensures .0) _ (now (a .out))
     (sym (c .before .before .seek .ensures) ∙ c .enum-told2 .given .1))
 
 drop-at-item-requires : tie.Need-drop-at-item-requires
@@ -55,9 +55,9 @@ drop-at-item-requires c κs =
     let at = c .before .before .before .before .before .before .before .before .before .before .before in
     let a = at .before .before .args in
     let d = stood at in
-    let e = sym (c .before .before .before .before .seek .ensures) ∙ c .before .before .place .given .1 in
-    let f = place-behind d _ _ _ e in (
-      count-fits d (a .name) _ (c .before .before .before .before .before .before .before .before .before .plan-inline .ensures) (length (now (a .out))) (c .before .before .before .before .before .before .before .enum-told .given .1) _ _ (c .before .before .before .before .before .before .kind-of .ensures) (c .before .before .before .before .before .own-place .ensures) _ _ e (at .before .before .pre .1),
+    let e = sym (c .before .before .before .before .seek .ensures) ∙ c .before .before .position .given .1 in
+    let f = position-behind d _ _ _ e in (
+      count-fits d (a .name) _ (c .before .before .before .before .before .before .before .before .before .plan-inline .ensures) (length (now (a .out))) (c .before .before .before .before .before .before .before .enum-told .given .1) _ _ (c .before .before .before .before .before .before .kind-of .ensures) (c .before .before .before .before .before .rank-of .ensures .0) _ _ e (at .before .before .pre .1),
       (d .ordered, f .0, f .1, f .2, d .small),
     )
 
@@ -65,9 +65,9 @@ returns-3 : tie.Need-returns-3
 returns-3 c =
     let at = c .before .before .before .before .before .before .before .before .before .before .before .before .before .before in
     let a = at .before .before .args in
-    key-answered (at .before .before .pre .0) (dropRef (a .name) (itemsOf (now (a .sheet)))) (length (now (a .out))) _ (now (a .out)) _
-    (drop-item (stood at) (a .name) _ (c .before .before .before .before .before .before .before .before .before .before .before .before .plan-inline .ensures) (length (now (a .out))) (c .before .before .before .before .before .before .before .before .before .before .enum-told .given .1) _ _ (c .before .before .before .before .before .before .before .before .before .kind-of .ensures) (c .before .before .before .before .before .before .before .before .own-place .ensures) _ _ _ (now (a .out)) _
-    (sym (c .before .before .before .before .before .before .before .seek .ensures) ∙ c .before .before .before .before .before .place .given .1) (c .before .before .drop-at-item .ensures))
+    key-answered (at .before .before .pre .0) (dropRef (a .name) (listItems (now (a .sheet)))) (length (now (a .out))) _ (now (a .out)) _
+    (drop-item (stood at) (a .name) _ (c .before .before .before .before .before .before .before .before .before .before .before .before .plan-inline .ensures) (length (now (a .out))) (c .before .before .before .before .before .before .before .before .before .before .enum-told .given .1) _ _ (c .before .before .before .before .before .before .before .before .before .kind-of .ensures) (c .before .before .before .before .before .before .before .before .rank-of .ensures .0) _ _ _ (now (a .out)) _
+    (sym (c .before .before .before .before .before .before .before .seek .ensures) ∙ c .before .before .before .before .before .position .given .1) (c .before .before .drop-at-item .ensures))
 
 pub drop-ref-spec : {M : Type 1} → statement M
 drop-ref-spec =

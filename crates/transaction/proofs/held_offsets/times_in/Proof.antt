@@ -10,11 +10,11 @@ use Rattle.transaction.proofs.held_offsets.times_in.Statement.{statemen
 use Rattle.transaction.proofs.held_offsets.times_in.Tie as tie
 
 abbrev Inv-loop : tie.InvT-loop
-Inv-loop offsets number n₀ i₀ n i =
-    (i ≤ length offsets) × (n ≤ i) × (n + times number (drop i offsets) ≡ times number offsets)
+Inv-loop offsets offset n₀ i₀ n i =
+    (i ≤ length offsets) × (n ≤ i) × (n + times offset (drop i offsets) ≡ times offset offsets)
 
 abbrev μ-loop : tie.MeasureT-loop
-μ-loop offsets number n₀ i₀ n i = length offsets - i
+μ-loop offsets offset n₀ i₀ n i = length offsets - i
 
 loop-holds : tie.Need-loop-holds Inv-loop μ-loop
 loop-holds c = (omega arith, omega arith, omega arith)
@@ -27,14 +27,14 @@ loop-again c =
     let one = c .one-if .ensures in (
       omega arith,
       omega (arith, loop .inv .1, one .1),
-      times-step (now (a .offsets)) (loop .i) (test .loop-test .taken) (loop .n) (a .number) _ _ (one .0) (loop .inv .2),
+      times-step (now (a .offsets)) (loop .i) (test .loop-test .taken) (loop .n) (a .offset) _ _ (one .0) (loop .inv .2),
     )
 
 returns : tie.Need-returns Inv-loop μ-loop
 returns c =
     let loop = c .before .loop in
     let a = c .before .before .before .args in
-    times-end (now (a .offsets)) (loop .i) (c .loop-test .left) (loop .n) (a .number) _ (loop .inv .2)
+    times-end (now (a .offsets)) (loop .i) (c .loop-test .left) (loop .n) (a .offset) _ (loop .inv .2)
 
 pub times-in-spec : {M : Type 1} → statement M
 times-in-spec =

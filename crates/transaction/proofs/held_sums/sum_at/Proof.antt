@@ -27,7 +27,7 @@ adds-requires : tie.Need-adds-requires Inv-loop μ-loop
 adds-requires c κs =
     let step = c .before .before .before in
     let w = seen (now (step .before .before .before .args .body)) (step .before .loop .at) _ (sym (c .before .kind .given .1) ∙ step .step .ensures) in
-    (w .kindKnown, omega (arith, w .start, w .further, w .within, w .long), w .place)
+    (w .kindKnown, omega (arith, w .start, w .further, w .within, w .long), w .count-at)
 
 add-total : tie.Need-add-total Inv-loop μ-loop
 add-total c =

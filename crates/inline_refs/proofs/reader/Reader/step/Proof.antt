@@ -46,10 +46,10 @@ use denote.Triple.Spec.{Meets, tripleOf}
 use denote.Triple.Table.{entered, cited}
 use denote.Exit.{yes}
 use denote.Triple.Walked.{says, needs, Stays, stay-ref, stay-dropped, walkOf, goes-ref, goes-dropped, Walks, ends-at, walked, walk-meets}
-use Rattle.inline_refs.specs.declared.step.Step.{Step}
-use Rattle.inline_refs.specs.Steps.{stepAt}
-use Rattle.inline_refs.proofs.step.Step as S
-use Rattle.inline_refs.proofs.step.Step.Laws as S′
+use Rattle.inline_refs.specs.declared.step.RefStep.{RefStep}
+use Rattle.inline_refs.specs.Steps.{refStepAt}
+use Rattle.inline_refs.proofs.step.RefStep as S
+use Rattle.inline_refs.proofs.step.RefStep.Laws as S′
 use Rattle.format.specs.References.{kinds}
 use Rattle.inline_refs.specs.Moves.{moved}
 use Rattle.inline_refs.specs.declared.reader.Reader.{Reader}
@@ -107,8 +107,8 @@ module _ {M : Type 1} (𝓤 : URA M) (H : Heap 𝓤) (A : Atoms 𝓤) (W : Given
   abbrev v : Val
   v = sliceVal (h .body .ptr) (length (h .body .now))
 
-  abbrev found : Step
-  found = stepAt (now (h .body)) (h .at)
+  abbrev found : RefStep
+  found = refStepAt (now (h .body)) (h .at)
 
   -- what `step_at` says of its result
   abbrev Says : Stepped → Type 0

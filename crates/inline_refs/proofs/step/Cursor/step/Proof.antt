@@ -1,28 +1,28 @@
 use mathlib.Core.Path.{sym, _∙_}
 use borrow.Author.Tests.{le-ltb, lt-ltb}
-use Rattle.inline_refs.specs.Steps.{stepAt, stepRow}
+use Rattle.inline_refs.specs.Steps.{refStepAt, stepRow}
 use borrow.Author.Needs.{needs}
 use Rattle.inline_refs.proofs.step.Cursor.step.Statement.{statement}
 use Rattle.inline_refs.proofs.step.Cursor.step.Tie as tie
 
 returns : tie.Need-returns
-unfolding stepAt
+unfolding refStepAt
 returns c = simp (le-ltb _ _ (c .if1 .taken))
 
 returns-2 : tie.Need-returns-2
-unfolding stepAt stepRow
+unfolding refStepAt stepRow
 returns-2 c =
     let call = c .before .before .before .before in
     simp (lt-ltb _ _ (call .before .before .if1 .left), sym (call .row-of .ensures) ∙ c .before .before .size .given .1, lt-ltb _ _ (c .if2 .taken))
 
 returns-3 : tie.Need-returns-3
-unfolding stepAt stepRow
+unfolding refStepAt stepRow
 returns-3 c =
     let call = c .before .before .before .before in
     simp (lt-ltb _ _ (call .before .before .if1 .left), sym (call .row-of .ensures) ∙ c .before .before .size .given .1, le-ltb _ _ (c .if2 .left))
 
 returns-4 : tie.Need-returns-4
-unfolding stepAt stepRow
+unfolding refStepAt stepRow
 returns-4 c =
     let call = c .before .before in
     simp (lt-ltb _ _ (call .before .before .if1 .left), sym (call .row-of .ensures) ∙ c .enum-told .given .1)
