@@ -146,14 +146,14 @@ module _ (type : ℕ) (d : List ℕ) (b : Body) (bytes : T (areBytes d)) (e : re
 abbrev pub planOf : ℕ → ℕ → List ℕ → ℕ → ℕ → ℕ → Plan
 planOf p q new size t count = record { outcome = Edit; from = p; to = q; new = new; size = size; total = t; count = count }
 
-pub site-plan : (plan : Plan) (d : List ℕ) (b : Body) (front old back : List Ref) (p q : ℕ) (bytes : List ℕ) (size t count : ℕ) (new : List Ref)
+pub adding-plan : (plan : Plan) (d : List ℕ) (b : Body) (front old back : List Ref) (p q : ℕ) (bytes : List ℕ) (size t count : ℕ) (new : List Ref)
     (answer : Answer (List ℕ)) → Place d b front old back p q → length d ≤ 65535
     → plan ≡ planOf p q bytes size t count
     → take size bytes ≡ refsBytes new → length bytes ≡ 32 → size ≤ 29
     → answer ≡ accepted (bodyBytes (bodyWith b t (front ++ (new ++ back))))
     → Planned plan d answer
 unfolding edited
-site-plan plan d b front old back p q bytes size t count new answer h fits e firstCut full small is =
+adding-plan plan d b front old back p q bytes size t count new answer h fits e firstCut full small is =
     subst (λ (x : Plan). Planned x d answer) (sym e)
     (plan-edit (planOf p q bytes size t count) d answer (bodyBytes (bodyWith b t (front ++ (new ++ back)))) refl
     (record { low = h .low; order = h .order; high = h .high; fits = fits; small = small; full = full })

@@ -35,7 +35,7 @@ use Rattle.backref.specs.Adds.{newRef, ownRank, byScan, positionOf, addA
 use Rattle.backref.proofs.NewBytes.{Holds, wanted-small}
 use Rattle.backref.proofs.Outcomes.{plan-refused}
 use Rattle.backref.proofs.PlannedTotals.{raised-yes, raised-no}
-use Rattle.backref.proofs.AddedAt.{ReadIn, total-read, scan-faults, ends, placed, planOf, site-plan, wanted-is}
+use Rattle.backref.proofs.AddedAt.{ReadIn, total-read, scan-faults, ends, placed, planOf, adding-plan, wanted-is}
 
 or-true : (b : Bool) → b || true ≡ true
 or-true true = refl
@@ -66,7 +66,7 @@ module _ (type : ℕ) (d : List ℕ) (w : RefName) (amount : ℕ) (plan : Plan) 
   pub put-new : (p : ℕ) (position : RefPosition) → PositionView w (startOf type d) (b .refs) (NewAt p) position → Holds w amount new → plan ≡ planOf p p new size t 0
       → answer ≡ accepted (bodyBytes (bodyWith b t (addedAt (newRef w amount) position))) → Planned plan d answer
   put-new p (gap front back) v n o e =
-      site-plan plan d b front [] back p p new size t 0 (newRef w amount ∷ []) answer (placed type d b bytes read front [] back p p v) fits o
+      adding-plan plan d b front [] back p p new size t 0 (newRef w amount ∷ []) answer (placed type d b bytes read front [] back p p v) fits o
       (ap (λ (m : ℕ). take m new) s ∙ n .front ∙ sym (refsBytes-one (newRef w amount))) (n .long) (wanted-small w size s) e
   put-new p (standing c) v n o e = absurd v
 
@@ -78,7 +78,7 @@ module _ (type : ℕ) (d : List ℕ) (w : RefName) (amount : ℕ) (plan : Plan) 
       let left : Ref = weighed (c .hit) (c .hit .weight + amount) in
       let same : left ≡ newRef w (x + amount) =
       wanted-is w (c .hit) (c .hit .weight + amount) (v .wanted) ∙ ap (λ (m : ℕ). newRef w (m + amount)) (sym (v .weighs)) in
-      site-plan plan d b (c .front) (c .hit ∷ []) (c .back) p q new size t 0 (left ∷ []) answer
+      adding-plan plan d b (c .front) (c .hit ∷ []) (c .back) p q new size t 0 (left ∷ []) answer
       (placed type d b bytes read (c .front) (c .hit ∷ []) (c .back) p q (v .between)) fits o
       (ap (λ (m : ℕ). take m new) s ∙ n .front ∙ sym (ap refBytes same) ∙ sym (refsBytes-one left)) (n .long) (wanted-small w size s) e
 

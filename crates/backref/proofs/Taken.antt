@@ -25,7 +25,7 @@ use Rattle.backref.specs.declared.plan.Plan.{Plan}
 use Rattle.backref.specs.Plans.{PlannedTaken}
 use Rattle.backref.proofs.TakenPlans.{with-count, taken-refused, taken-absent, taken-edit}
 use Rattle.backref.specs.Takes.{takeInline}
-use Rattle.backref.proofs.AddedAt.{ReadIn, total-read, scan-faults, placed, planOf, site-plan}
+use Rattle.backref.proofs.AddedAt.{ReadIn, total-read, scan-faults, placed, planOf, adding-plan}
 
 module _ (type : ℕ) (d : List ℕ) (w : RefName) (plan : Plan) where
   abbrev taken : Answer TakenOut
@@ -60,7 +60,7 @@ module _ (type : ℕ) (d : List ℕ) (w : RefName) (plan : Plan) where
           let c = hit .parts in
           let counts : plan .count ≡ c .hit .weight = ap (λ (y : Plan). y .count) o ∙ hit .weighs in
           taken-edit plan d taken (left t)
-          (site-plan plan d (r .from) (c .front) (c .hit ∷ []) (c .back) p q (replicate 32 0) 0 t x [] (accepted (left t))
+          (adding-plan plan d (r .from) (c .front) (c .hit ∷ []) (c .back) p q (replicate 32 0) 0 t x [] (accepted (left t))
           (placed type d (r .from) bytes (r .read) (c .front) (c .hit ∷ []) (c .back) p q (cut-between (isWanted w) (startOf type d) (r .from .refs) p q x hit))
           (r .fits) o refl refl (omega arith) refl)
           (take-found ∙ ap (λ (m : ℕ). with-count m (left (r .from .total))) (sym counts) ∙ ap (λ (m : ℕ). with-count (plan .count) (left m)) (total-read type d r t is))

@@ -32,7 +32,7 @@ use Rattle.backref.specs.Takes.{dropNamed}
 use Rattle.backref.proofs.NewBytes.{Holds}
 use Rattle.backref.proofs.Outcomes.{plan-absent, plan-refused}
 use Rattle.backref.proofs.PlannedTotals.{lowered-yes, lowered-no}
-use Rattle.backref.proofs.AddedAt.{ReadIn, total-read, scan-faults, placed, planOf, site-plan, wanted-is}
+use Rattle.backref.proofs.AddedAt.{ReadIn, total-read, scan-faults, placed, planOf, adding-plan, wanted-is}
 
 -- the definition without cases
 drop-is : (type : ℕ) (d : List ℕ) (w : RefName) → dropNamed type d w ≡ dropInline type d (kindOf w) (fieldsOf w)
@@ -89,7 +89,7 @@ module _ (type : ℕ) (d : List ℕ) (w : RefName) (plan : Plan) where
             let c = hit .parts in
             let z : c .hit .weight ≤ 1 = omega (arith, hit .weighs) in
             let none-left : less (c .hit) 1 ≡ [] = simp (le-ltb _ _ z) in
-            site-plan plan d (r .from) (c .front) (c .hit ∷ []) (c .back) p q (replicate 32 0) 0 (t - 1) 0 [] dropped
+            adding-plan plan d (r .from) (c .front) (c .hit ∷ []) (c .back) p q (replicate 32 0) 0 (t - 1) 0 [] dropped
             (placed type d (r .from) bytes (r .read) (c .front) (c .hit ∷ []) (c .back) p q (cut-between (isWanted w) (startOf type d) (r .from .refs) p q x hit))
             (r .fits) o refl refl (omega arith)
             (drop-edit h ∙ ap (λ (l : List Ref). accepted (bodyBytes (bodyWith (r .from) (t - 1) (c .front ++ (l ++ c .back))))) none-left)
@@ -105,7 +105,7 @@ module _ (type : ℕ) (d : List ℕ) (w : RefName) (plan : Plan) where
             let same : weighed (c .hit) (c .hit .weight - 1) ≡ makeRef (kindOf w) (fieldsOf w) (x - 1) =
             wanted-is w (c .hit) (c .hit .weight - 1) (cut-passed (isWanted w) (startOf type d) (r .from .refs) p q x hit)
             ∙ ap (λ (m : ℕ). makeRef (kindOf w) (fieldsOf w) (m - 1)) (sym (hit .weighs)) in
-            site-plan plan d (r .from) (c .front) (c .hit ∷ []) (c .back) p q new size (t - 1) 0 left dropped
+            adding-plan plan d (r .from) (c .front) (c .hit ∷ []) (c .back) p q new size (t - 1) 0 left dropped
             (placed type d (r .from) bytes (r .read) (c .front) (c .hit ∷ []) (c .back) p q (cut-between (isWanted w) (startOf type d) (r .from .refs) p q x hit))
             (r .fits) o
             (ap (λ (m : ℕ). take m new) s ∙ n .front ∙ sym (ap refBytes same) ∙ sym (refsBytes-one (weighed (c .hit) (c .hit .weight - 1))))

@@ -22,40 +22,40 @@ get-u64-le-requires c κs =
 returns : tie.Need-returns
 unfolding ownRank
 returns c =
-    let site = c .before .before .before .before .before .before in
-    let got = site .before in
+    let adding = c .before .before .before .before .before .before in
+    let got = adding .before in
     let seen = got .before .before in
     let scan = seen .before .before in
     let a = scan .before .before .args in
     let r = scan-reads (a .item-type) (now (a .body)) (a .wanted) _ _ (sym (seen .seen .given .1) ∙ scan .scan-to-add .ensures) in
     let bytes = areBytes-in (now (a .body)) (λ i. scan .before .shared-slice-known .given i .fits) in
-    give-ten (a .item-type) (now (a .body)) (a .wanted) _ (a .amount) _ _ r bytes refl _ (sym (c .before .before .before .before .at .given .1) ∙ site .add-at .ensures)
+    give-ten (a .item-type) (now (a .body)) (a .wanted) _ (a .amount) _ _ r bytes refl _ (sym (c .before .before .before .before .at .given .1) ∙ adding .add-at .ensures)
     (sym (c .before .before .may-add .ensures) ∙ not-true _ (c .before .if1 .taken)) (c .refuse2 .ensures .0)
 
 returns-2 : tie.Need-returns-2
 unfolding ownRank
 returns-2 c =
-    let site = c .before .before .before .before .before .before in
-    let got = site .before in
+    let adding = c .before .before .before .before .before .before in
+    let got = adding .before in
     let seen = got .before .before in
     let scan = seen .before .before in
     let a = scan .before .before .args in
     let r = scan-reads (a .item-type) (now (a .body)) (a .wanted) _ _ (sym (seen .seen .given .1) ∙ scan .scan-to-add .ensures) in
     let bytes = areBytes-in (now (a .body)) (λ i. scan .before .shared-slice-known .given i .fits) in
-    give-nine (a .item-type) (now (a .body)) (a .wanted) _ (a .amount) _ _ r bytes refl _ _ _ (sym (c .before .before .before .before .at2 .given .1) ∙ site .add-at .ensures)
+    give-nine (a .item-type) (now (a .body)) (a .wanted) _ (a .amount) _ _ r bytes refl _ _ _ (sym (c .before .before .before .before .at2 .given .1) ∙ adding .add-at .ensures)
     (sym (c .before .before .counts .ensures) ∙ not-true _ (c .before .if2 .taken)) (c .refuse3 .ensures .0)
 
 returns-3 : tie.Need-returns-3
 unfolding ownRank
 returns-3 c =
-    let site = c .before .before .before .before .before .before .before in
-    let got = site .before in
+    let adding = c .before .before .before .before .before .before .before in
+    let got = adding .before in
     let seen = got .before .before in
     let scan = seen .before .before in
     let a = scan .before .before .args in
     let r = scan-reads (a .item-type) (now (a .body)) (a .wanted) _ _ (sym (seen .seen .given .1) ∙ scan .scan-to-add .ensures) in
     let bytes = areBytes-in (now (a .body)) (λ i. scan .before .shared-slice-known .given i .fits) in
-    give-eleven (a .item-type) (now (a .body)) (a .wanted) _ (a .amount) _ _ r bytes refl _ _ _ (sym (c .before .before .before .before .before .at2 .given .1) ∙ site .add-at .ensures)
+    give-eleven (a .item-type) (now (a .body)) (a .wanted) _ (a .amount) _ _ r bytes refl _ _ _ (sym (c .before .before .before .before .before .at2 .given .1) ∙ adding .add-at .ensures)
     (sym (c .before .before .before .counts .ensures) ∙ not-false _ (c .before .before .if2 .left)) (c .before .if3 .taken) (c .refuse4 .ensures .0)
 
 returns-4 : tie.Need-returns-4
@@ -67,27 +67,27 @@ returns-4 c =
 returns-5 : tie.Need-returns-5
 unfolding ownRank
 returns-5 c =
-    let site = c .before .before .before .before .before .before in
-    let got = site .before in
+    let adding = c .before .before .before .before .before .before in
+    let got = adding .before in
     let seen = got .before .before in
     let scan = seen .before .before in
     let a = scan .before .before .args in
     let r = scan-reads (a .item-type) (now (a .body)) (a .wanted) _ _ (sym (seen .seen .given .1) ∙ scan .scan-to-add .ensures) in
     let bytes = areBytes-in (now (a .body)) (λ i. scan .before .shared-slice-known .given i .fits) in
-    give-gap (a .item-type) (now (a .body)) (a .wanted) _ (a .amount) _ _ r bytes refl _ (sym (c .before .before .before .before .at .given .1) ∙ site .add-at .ensures)
+    give-gap (a .item-type) (now (a .body)) (a .wanted) _ (a .amount) _ _ r bytes refl _ (sym (c .before .before .before .before .at .given .1) ∙ adding .add-at .ensures)
     (sym (c .before .before .may-add .ensures) ∙ not-false _ (c .before .if1 .left)) (omega arith) _ (got .get-u64-le .ensures) (c .edit-raised .ensures)
 
 returns-6 : tie.Need-returns-6
 unfolding ownRank
 returns-6 c =
-    let site = c .before .before .before .before .before .before .before in
-    let got = site .before in
+    let adding = c .before .before .before .before .before .before .before in
+    let got = adding .before in
     let seen = got .before .before in
     let scan = seen .before .before in
     let a = scan .before .before .args in
     let r = scan-reads (a .item-type) (now (a .body)) (a .wanted) _ _ (sym (seen .seen .given .1) ∙ scan .scan-to-add .ensures) in
     let bytes = areBytes-in (now (a .body)) (λ i. scan .before .shared-slice-known .given i .fits) in
-    give-standing (a .item-type) (now (a .body)) (a .wanted) _ (a .amount) _ _ r bytes refl _ _ _ (sym (c .before .before .before .before .before .at2 .given .1) ∙ site .add-at .ensures)
+    give-standing (a .item-type) (now (a .body)) (a .wanted) _ (a .amount) _ _ r bytes refl _ _ _ (sym (c .before .before .before .before .before .at2 .given .1) ∙ adding .add-at .ensures)
     (sym (c .before .before .before .counts .ensures) ∙ not-false _ (c .before .before .if2 .left)) (c .before .if3 .left) (omega arith) _ (got .get-u64-le .ensures) (c .edit-raised2 .ensures)
 
 pub plan-add-spec : {M : Type 1} → statement M
