@@ -1,5 +1,4 @@
-// Where the inline references of a body stand, and one of them by its number. Refusal 21 writes nothing, so they are counted before
-// they are written.
+// Where the inline references of a body stand. Refusal 21 writes nothing, so they are counted before they are written.
 use format::Edited;
 use inline_refs::Counted;
 use inline_refs::RefStep;
