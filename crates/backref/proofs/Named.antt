@@ -13,13 +13,14 @@ use Rattle.format.specs.declared.SharedRef.{SharedRef}
 use Rattle.format.specs.declared.Edited.{Edited}
 use Rattle.format.specs.Questions.{ask, Answered}
 use Rattle.format.specs.Bodies.{heldBody, one, sharedKind, addInlineShared, addInlineKeyed, takeInlineShared}
+use Rattle.format.specs.References.{rankOf}
 use Rattle.inline_refs.specs.Scans.{kindOf, fieldsOf}
 use Rattle.inline_refs.specs.declared.ref_name.RefName.{RefName}
-use Rattle.inline_refs.specs.declared.ref_name.RefName.the-variants.{Block, Data}
+use Rattle.inline_refs.specs.declared.ref_name.RefName.the-variants.{Block, Data, SharedBlock, SharedData}
 use Rattle.backref.specs.declared.plan.Plan.{Plan}
 use Rattle.backref.specs.declared.plan.Outcome.the-variants.{Refused}
 use Rattle.backref.specs.Plans.{Planned, PlannedTaken}
-use Rattle.backref.specs.Adds.{ownRank, positionOf, addInline, addKeyed}
+use Rattle.backref.specs.Adds.{ownRank, positionOf, addInline, addKeyed, sharedRef, SharedName}
 use Rattle.backref.specs.Takes.{takeInline}
 use Rattle.backref.proofs.Gives.{add-is}
 use Rattle.backref.proofs.Outcomes.{plan-refused, plan-same}
@@ -33,9 +34,23 @@ not-data : (kind : ℕ) → sharedKind kind ≡ true → eqb kind 178 ≡ false
 unfolding sharedKind
 not-data kind t = ne-eqb kind 178 (λ e. subst T (sym (subst (λ (k : ℕ). sharedKind k ≡ true) e t)) tt)
 
--- a wanted name that is the shared one, of a kind that is shared
+pub shared-named : (s : SharedRef) (kind : ℕ) → s .kind ≡ kind → s ≡ sharedRef kind (s .parent)
+shared-named s kind e = λ j. record { kind = e j; parent = s .parent }
+
+-- a name that is the shared reference's
+named-by : (s : SharedRef) (w : RefName) → SharedName s w → (kindOf w ≡ s .kind) × (fieldsOf w ≡ one (s .parent)) × (ownRank w ≡ s .parent)
+unfolding kindOf fieldsOf ownRank rankOf
+named-by s (Block name) h = absurd h
+named-by s (Data name) h = absurd h
+named-by s (SharedBlock parent) h = rw h (refl, refl, refl)
+named-by s (SharedData parent) h = rw h (refl, refl, refl)
+
+-- of a kind that is shared
 module _ (type : ℕ) (d : List ℕ) (s : SharedRef) (plan : Plan) where
-  module _ (w : RefName) (shared : sharedKind (s .kind) ≡ true) (names : (kindOf w ≡ s .kind) × (fieldsOf w ≡ one (s .parent)) × (ownRank w ≡ s .parent)) where
+  module _ (w : RefName) (shared : sharedKind (s .kind) ≡ true) (name : SharedName s w) where
+    names : (kindOf w ≡ s .kind) × (fieldsOf w ≡ one (s .parent)) × (ownRank w ≡ s .parent)
+    names = named-by s w name
+
     pub shared-is : (amount : ℕ) → Planned plan d (addInline type d w amount) → Planned plan d (addInlineShared type d s amount)
     unfolding addInlineShared positionOf ask
     shared-is amount h =

@@ -46,6 +46,13 @@ addAtOf false end seen = addAnywhere end seen
 abbrev pub sharedRef : ℕ → ℕ → SharedRef
 sharedRef kind parent = record { kind = kind; parent = parent }
 
+-- the name of a shared reference
+abbrev pub SharedName : SharedRef → RefName → Type 0
+SharedName shared (Block name) = ⊥
+SharedName shared (Data name) = ⊥
+SharedName shared (SharedBlock parent) = shared ≡ sharedRef 182 parent
+SharedName shared (SharedData parent) = shared ≡ sharedRef 184 parent
+
 -- add_inline_tree_ref, whose amount is 1, add_inline_data_ref and add_inline_shared in one
 abbrev pub addInline : ℕ → List ℕ → RefName → ℕ → Answer (List ℕ)
 addInline type body (Block name) amount =

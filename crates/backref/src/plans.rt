@@ -7,9 +7,8 @@ use inline_refs::OwnRank;
 use inline_refs::RefName;
 ghost use mathlib.Core.Path.{_≡_};
 ghost use mathlib.Core.Bool.{true};
-ghost use Rattle.format.specs.Bodies.{addInlineShared, takeInlineShared, sharedKind, one};
-ghost use Rattle.inline_refs.specs.Scans.{kindOf, fieldsOf};
-ghost use Rattle.backref.specs.Adds.{ownRank};
+ghost use Rattle.format.specs.Bodies.{addInlineShared, takeInlineShared, sharedKind};
+ghost use Rattle.backref.specs.Adds.{SharedName};
 ghost use Rattle.backref.specs.Plans.{Planned, PlannedTaken};
 
 // Whether a kind is a shared reference's.
@@ -19,22 +18,22 @@ pub fn shared_kind(kind: u8) -> bool
     kind == SHARED_BLOCK_REF || kind == SHARED_DATA_REF
 }
 
-// The reference that is looked for, of a kind that is shared.
-fn wanted_of(name: SharedRef) -> RefName
-    requires { ⌜ sharedKind (name .kind) ≡ true ⌝ }
-    ensures { λ r. ⌜ (kindOf r ≡ name .kind) × (fieldsOf r ≡ one (name .parent)) × (ownRank r ≡ name .parent) ⌝ }
+// The name of a reference whose kind is shared.
+pub fn shared_name(shared: SharedRef) -> RefName
+    requires { ⌜ sharedKind (shared .kind) ≡ true ⌝ }
+    ensures { λ r. ⌜ SharedName shared r ⌝ }
 {
-    if name.kind == SHARED_BLOCK_REF {
-        return RefName::SharedBlock(name.parent);
+    if shared.kind == SHARED_BLOCK_REF {
+        return RefName::SharedBlock(shared.parent);
     }
-    RefName::SharedData(name.parent)
+    RefName::SharedData(shared.parent)
 }
 
 pub fn plan_add_shared(item_type: u8, body: &[u8], name: SharedRef, amount: u32) -> Plan
     ensures { λ r. ⌜ Planned r (now (body .entry)) (addInlineShared «item_type» (now (body .entry)) name amount) ⌝ }
 {
     if shared_kind(name.kind) {
-        return crate::plan_add(item_type, body, wanted_of(name), OwnRank::Unknown, amount);
+        return crate::plan_add(item_type, body, shared_name(name), OwnRank::Unknown, amount);
     }
     crate::refuse(3)
 }
@@ -43,7 +42,7 @@ pub fn plan_take_shared(item_type: u8, body: &[u8], name: SharedRef) -> Plan
     ensures { λ r. ⌜ PlannedTaken r (now (body .entry)) (takeInlineShared «item_type» (now (body .entry)) name) ⌝ }
 {
     if shared_kind(name.kind) {
-        return crate::drop_plans::plan_take(item_type, body, wanted_of(name));
+        return crate::drop_plans::plan_take(item_type, body, shared_name(name));
     }
     crate::refuse(3)
 }

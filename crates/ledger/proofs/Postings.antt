@@ -1,13 +1,12 @@
 -- One change posted: from the answers of questions 1 to 5 and the change's own to the posting. Assumes nothing.
 use mathlib.Core.Path.{_≡_, refl, sym, ap, _∙_, subst}
-use mathlib.Core.Logic.{_⊎_, inl, inr}
-use mathlib.Core.Bool.{Bool, true, false, _&&_, _||_}
+use mathlib.Core.Bool.{Bool, true, false, _&&_}
 use mathlib.Core.Option.{Option, none}
 use mathlib.Core.List.{List}
 use Prim.Native.Nat.{ℕ}
 use native.Mathlib.Omega.{arith}
-use lib.Dec.{T, eqb, leb, eqb→eq}
-use mir.Facts.{or-yes, and-yes}
+use lib.Dec.{T, leb}
+use mir.Facts.{and-yes}
 use Rattle.fields.specs.Lists.{all, Cut, firstCut}
 use Rattle.format.specs.declared.Change.{Change}
 use Rattle.format.specs.declared.Change.the-variants.{AddBlock, AddData, AddShared, DropBlock, DropData, DropShared}
@@ -17,7 +16,6 @@ use Rattle.format.specs.declared.SharedRef.{SharedRef}
 use Rattle.format.specs.declared.Edited.{Edited}
 use Rattle.format.specs.declared.Edited.the-variants.{Refused as Denied}
 use Rattle.format.specs.Questions.{Answer, refused, ask, bind, needed, also, Answered, accepted}
-use Rattle.format.specs.Bodies.{sharedKind}
 use Rattle.format.specs.Items.{Item, nodesizeFits, heldSheet}
 use Rattle.format.specs.Apply.{recordOf, onRecord, applyKeyedAdd, applySharedAdd}
 use Rattle.format.specs.Names.{Name, balanced}
@@ -27,10 +25,10 @@ use Rattle.inline_refs.specs.declared.ref_name.RefName.the-variants.{Block, Dat
 use Rattle.inline_refs.specs.Scans.{kindOf}
 use Rattle.item_list.specs.Steps.{listItems}
 use Rattle.item_list.proofs.ItemWrites.{answered-no}
-use Rattle.backref.specs.Adds.{sharedRef}
+use Rattle.backref.specs.Adds.{SharedName}
 use Rattle.transaction.specs.Drops.{dropRef}
 use Rattle.ledger.specs.Adding.{addChange}
-use Rattle.ledger.specs.Posting.{SharedWanted, unbalancedOr}
+use Rattle.ledger.specs.Posting.{unbalancedOr}
 use Rattle.record_edit.specs.declared.RecordAt.{RecordAt}
 use Rattle.record_edit.specs.declared.FoundRecord.{FoundRecord}
 use Rattle.record_edit.specs.Stands.{StandsFor, askedSheet, Finds}
@@ -38,31 +36,19 @@ use Rattle.record_edit.proofs.Searches.{on-refused, on-passed, passed-shows, fi
 
 -- ---- the name of a shared reference
 
-module _ (name : SharedRef) where
-  shared-name : (kind : ℕ) → name .kind ≡ kind → name ≡ sharedRef kind (name .parent)
-  shared-name kind e = λ j. record { kind = e j; parent = name .parent }
+pub shared-add : (name : SharedRef) (w : RefName) → SharedName name w → (extent amount : ℕ) → AddShared extent name amount ≡ addChange extent w amount
+unfolding addChange
+shared-add name (Block n) h extent amount = absurd h
+shared-add name (Data n) h extent amount = absurd h
+shared-add name (SharedBlock parent) h extent amount = ap (λ (x : SharedRef). AddShared extent x amount) h
+shared-add name (SharedData parent) h extent amount = ap (λ (x : SharedRef). AddShared extent x amount) h
 
-  pub wanted-block : name .kind ≡ 182 → SharedWanted name (SharedBlock (name .parent))
-  unfolding addChange dropRef kindOf
-  wanted-block e = record {
-    change = λ extent amount. ap (λ (x : SharedRef). AddShared extent x amount) (shared-name 182 e);
-    drop = λ items c. ap (λ (x : SharedRef). dropSharedRef x items c) (shared-name 182 e);
-    kind = sym e;
-  }
-
-  pub wanted-data : T (sharedKind (name .kind)) → (name .kind ≡ 182 → ⊥) → SharedWanted name (SharedData (name .parent))
-  unfolding addChange dropRef kindOf sharedKind
-  wanted-data t n =
-      let e : name .kind ≡ 184 = go (or-yes (eqb (name .kind) 182) (eqb (name .kind) 184) t) in
-      record {
-        change = λ extent amount. ap (λ (x : SharedRef). AddShared extent x amount) (shared-name 184 e);
-        drop = λ items c. ap (λ (x : SharedRef). dropSharedRef x items c) (shared-name 184 e);
-        kind = sym e;
-      }
-    where
-      go : T (eqb (name .kind) 182) ⊎ T (eqb (name .kind) 184) → name .kind ≡ 184
-      go (inl h) = absurd (n (eqb→eq _ _ h))
-      go (inr h) = eqb→eq _ _ h
+shared-drop : (name : SharedRef) (w : RefName) → SharedName name w → (items : List Item) (c : Cut Item) → dropSharedRef name items c ≡ dropRef w items c
+unfolding dropRef
+shared-drop name (Block n) h items c = absurd h
+shared-drop name (Data n) h items c = absurd h
+shared-drop name (SharedBlock parent) h items c = ap (λ (x : SharedRef). dropSharedRef x items c) h
+shared-drop name (SharedData parent) h items c = ap (λ (x : SharedRef). dropSharedRef x items c) h
 
 -- ---- the change that it is
 
@@ -76,9 +62,9 @@ module _ (nodesize extent : ℕ) (items : List Item) where
   unfolding changed dropRef
   drop-data name = refl
 
-  pub drop-shared : (name : SharedRef) (w : RefName) → SharedWanted name w → onRecord extent items (dropRef w items) ≡ changed nodesize (DropShared extent name) items
+  pub drop-shared : (name : SharedRef) (w : RefName) → SharedName name w → onRecord extent items (dropRef w items) ≡ changed nodesize (DropShared extent name) items
   unfolding changed
-  drop-shared name w h = λ j. onRecord extent items (λ c. sym (h .drop items c) j)
+  drop-shared name w h = λ j. onRecord extent items (λ c. sym (shared-drop name w h items c) j)
 
 pub as-drop : (nodesize room : ℕ) (items : List Item) {r : Edited} {old new : List ℕ} (change other : Change) (a : Answer (List Item)) → change ≡ other
     → a ≡ changed nodesize other items → Answered (heldSheet room a) r old new → Answered (heldSheet room (changed nodesize change items)) r old new
@@ -97,9 +83,12 @@ entered-as {s} {target} change e h = subst (λ (x : Change). StandsFor s (nameOf
 pub fits-as : (change : Change) {other : Change} → change ≡ other → T (kindFits change) → T (kindFits other)
 fits-as change e h = subst (λ (x : Change). T (kindFits x)) e h
 
-pub not-block : (name : SharedRef) (w : RefName) {amount : ℕ} → SharedWanted name w → T (sharedKind (name .kind)) → kindOf w ≡ 176 → amount ≡ 1
-unfolding sharedKind
-not-block name w h t e = absurd (subst (λ (k : ℕ). T (eqb k 182 || eqb k 184)) (sym (h .kind) ∙ e) t)
+pub not-block : (name : SharedRef) (w : RefName) {amount : ℕ} → SharedName name w → kindOf w ≡ 176 → amount ≡ 1
+unfolding kindOf
+not-block name (Block n) h e = absurd h
+not-block name (Data n) h e = absurd h
+not-block name (SharedBlock parent) h e = absurd (omega (arith, e))
+not-block name (SharedData parent) h e = absurd (omega (arith, e))
 
 -- ---- question 5
 

@@ -2,8 +2,6 @@
 use crate::adds;
 use format::Change;
 use format::Edited;
-use format::SHARED_BLOCK_REF;
-use format::SharedRef;
 use inline_refs::RefName;
 use record_edit::FoundRecord;
 use record_edit::RecordAt;
@@ -12,13 +10,12 @@ ghost use mathlib.Core.Bool.{_&&_};
 ghost use lib.Dec.{T};
 ghost use lib.ListN.{length};
 ghost use Rattle.format.specs.Questions.{Answered};
-ghost use Rattle.format.specs.Bodies.{sharedKind};
 ghost use Rattle.format.specs.Items.{nodesizeFits, heldSheet};
 ghost use Rattle.format.specs.Names.{balanced};
 ghost use Rattle.format.specs.Ledger.{nameOf, kindFits, changed};
 ghost use Rattle.item_list.specs.Steps.{IsList, listItems};
 ghost use Rattle.record_edit.specs.Stands.{StandsFor};
-ghost use Rattle.ledger.specs.Posting.{unbalancedOr, SharedWanted};
+ghost use Rattle.ledger.specs.Posting.{unbalancedOr};
 ghost use Rattle.theorems.specs.Calls.{CallKept};
 
 fn kind_fits(change: Change) -> bool
@@ -73,16 +70,6 @@ fn extent_of(change: Change) -> u64
     }
 }
 
-fn shared_wanted(name: SharedRef) -> RefName
-    requires { ⌜ T (sharedKind (name .kind)) ⌝ }
-    ensures { λ r. ⌜ SharedWanted name r ⌝ }
-{
-    if name.kind == SHARED_BLOCK_REF {
-        return RefName::SharedBlock(name.parent);
-    }
-    RefName::SharedData(name.parent)
-}
-
 // The change to the record that stands there.
 fn change_at(
     sheet: &[u8],
@@ -121,7 +108,7 @@ fn change_at(
             name,
             amount,
         } => {
-            let wanted = shared_wanted(name);
+            let wanted = backref::shared_name(name);
             return adds::add(sheet, target, nodesize, extent, wanted, amount, out);
         }
         Change::DropBlock { extent: _, name } => {
@@ -131,7 +118,7 @@ fn change_at(
             return transaction::drop_ref(sheet, target, RefName::Data(name), out);
         }
         Change::DropShared { extent: _, name } => {
-            let wanted = shared_wanted(name);
+            let wanted = backref::shared_name(name);
             return transaction::drop_ref(sheet, target, wanted, out);
         }
     }

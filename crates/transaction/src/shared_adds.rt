@@ -15,13 +15,6 @@ ghost use Rattle.format.specs.Questions.{Answered, toldOf, filedOf};
 ghost use Rattle.format.specs.References.{payloadLength, countPosition};
 ghost use Rattle.format.specs.Bodies.{heldBody, sharedKind, sharedAddKey, sharedAddItem, sharedAddInlineSize};
 
-// Question 3 of a shared kind.
-fn is_shared(kind: u8) -> bool
-    ensures { λ r. ⌜ r ≡ sharedKind kind ⌝ }
-{
-    kind == SHARED_BLOCK_REF || kind == SHARED_DATA_REF
-}
-
 // The row of a shared kind. Each arm names its kind, since the compiler then looks it up, and the call does not.
 fn row_of(kind: u8) -> Lengths
     requires { ⌜ sharedKind kind ≡ true ⌝ }
@@ -37,7 +30,7 @@ fn row_of(kind: u8) -> Lengths
 pub fn shared_add_inline_size(kind: u8) -> Told
     ensures { λ r. ⌜ r ≡ toldOf (sharedAddInlineSize kind) ⌝ }
 {
-    if !is_shared(kind) {
+    if !backref::shared_kind(kind) {
         return Told::Refused(3);
     }
     let row = row_of(kind);
@@ -48,7 +41,7 @@ pub fn shared_add_inline_size(kind: u8) -> Told
 pub fn shared_add_key(bytenr: u64, name: SharedRef) -> Filed
     ensures { λ r. ⌜ r ≡ filedOf (sharedAddKey bytenr name) ⌝ }
 {
-    if !is_shared(name.kind) {
+    if !backref::shared_kind(name.kind) {
         return Filed::Refused(3);
     }
     Filed::Under(Key {
@@ -62,7 +55,7 @@ pub fn shared_add_key(bytenr: u64, name: SharedRef) -> Filed
 pub fn shared_add_item(kind: u8, count: u32, out: &mut [u8]) -> Edited
     ensures { λ r. ⌜ Answered (heldBody (length (now (out .entry))) (sharedAddItem kind count)) r (now (out .entry)) (now (out .exit)) ⌝ }
 {
-    if !is_shared(kind) {
+    if !backref::shared_kind(kind) {
         return Edited::Refused(3);
     }
     let row = row_of(kind);
