@@ -7,7 +7,7 @@ use Prim.Native.Nat.{ℕ, _+_}
 use lib.ListN.{take}
 use Rattle.fields.specs.Numbers.{leBytes, beBytes}
 use Rattle.format.specs.declared.Change.the-variants.{AddBlock, AddData, AddShared, DropBlock, DropData, DropShared}
-use Rattle.format.specs.References.{Ref, makeRef}
+use Rattle.format.specs.References.{Ref, makeRef, refAt}
 use Rattle.format.specs.Bodies.{triple, keyedDataRefBody}
 use Rattle.format.specs.Items.{Item, sheetBytes}
 use Rattle.format.specs.History.{balancedSheet}
@@ -42,6 +42,15 @@ hash = 0x417b1dbc82f63b78
 -- a data extent of that total with an item at that offset
 abbrev byItem : ℕ → ℕ → List ℕ → Expected → Single
 byItem total offset bytes expected = on (dataRecord 12288 total [] ∷ item 12288 178 offset bytes ∷ []) expected
+
+-- the fields of a data reference are all three of its numbers, in payload order: the postings compute with triples whose hashes
+-- take few steps, and no two of those differ in the objectid alone
+pub triple-is : triple (record { tree = 1; objectid = 2; offset = 3 }) ≡ 1 ∷ 2 ∷ 3 ∷ []
+triple-is = refl
+
+pub fields-are : refAt 178 (keyedDataRefBody (record { tree = 1; objectid = 2; offset = 3 }) 4) .fields ≡ 1 ∷ 2 ∷ 3 ∷ []
+unfolding computed
+fields-are = refl
 
 unfoldable pub singles : List Single
 singles =
