@@ -8,13 +8,14 @@ use native.Mathlib.Omega.{arith}
 use lib.Dec.{T, leb, eqb}
 use lib.ListN.{length, drop, getD}
 use borrow.Author.Tests.{le-leb, lt-leb}
-use Rattle.fields.proofs.Lists.{and-true, and-false}
+use Rattle.fields.proofs.Lists.{T-eq, and-true, and-false}
 use Rattle.fields.specs.Lists.{all}
 use Rattle.fields.specs.Numbers.{areBytes}
 use Rattle.format.specs.declared.Key.{Key}
 use Rattle.format.specs.Questions.{Answer, refused, absent, remove, accepted, ask, bind}
 use Rattle.format.specs.Apply.{isRecord}
 use Rattle.format.specs.Items.{Item, keyBelow, above, rising, readItems, readSheet, sheetBytes, nodesizeFits}
+use Rattle.format.proofs.Answers.{ask-ok}
 use Rattle.format.proofs.Items.{ReadsSheet, sheet, broken, unsorted, readSheet-decides, sane, sheet-sane, sheetBytes-read}
 use Rattle.item_list.specs.declared.ItemStep.the-variants.{Whole, Broken, End}
 use Rattle.item_list.specs.declared.Checked.the-variants.{Count, Refused as NoList}
@@ -189,10 +190,18 @@ unfolding opensList
 opens-version [] a b = absurd (omega arith)
 opens-version (v ∷ s) a b = rw (le-leb (1 + length s) 262144 (omega arith)) (sym (and-true (eqb v 1)))
 
+pub opens-some : (s : List ℕ) → opensList s ≡ true → 1 ≤ length s
+unfolding opensList
+opens-some [] e = absurd (subst T (sym e) tt)
+opens-some (v ∷ s) e = omega arith
+
 sheet-opens : (s : List ℕ) → readSheet s ≡ ask (opensList s) 1 (bind (readItems 4096 (drop 1 s)) (λ items. ask (rising items) 2 (accepted items)))
 unfolding readSheet opensList ask
 sheet-opens [] = refl
 sheet-opens (v ∷ s) = refl
+
+pub list-some : (s : List ℕ) → IsList s → 1 ≤ length s
+list-some s l = opens-some s (T-eq _ (ask-ok (opensList s) 1 _ (sym (sheet-opens s) ∙ l .reads) .0))
 
 module _ (s : List ℕ) where
   pub sheet-shut : opensList s ≡ false → readSheet s ≡ refused 1

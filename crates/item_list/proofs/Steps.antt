@@ -129,6 +129,18 @@ whole-at s at next e =
     let size : next ≡ at + 4 + itemLength (drop at s) = sym (t .2) in
     record { before = before; size = size; low = low; high = high; within = omega arith }
 
+-- a position behind an item of that length, or the first one and the least that an item takes
+pub record PastItem (s : List ℕ) (at long : ℕ) : Type 0 where
+  pub inside : at ≤ length s
+  pub low : 21 ≤ long
+  pub high : long ≤ 65556
+
+pub past-first : (s : List ℕ) → 1 ≤ length s → PastItem s 1 21
+past-first s h = record { inside = h; low = omega arith; high = omega arith }
+
+pub past-next : {s : List ℕ} {at next : ℕ} → WholeAt s at next → PastItem s next (next - at)
+past-next w = record { inside = w .within; low = omega (arith, w .size, w .low); high = omega (arith, w .size, w .high) }
+
 pub ended : (s : List ℕ) (at : ℕ) → itemStepAt s at ≡ End → length s ≤ at
 unfolding itemStepAt
 ended s at e = leb-true (length s) at (end-tests (leb (length s) at) (wholeItem (drop at s)) (nextAt s at) e)

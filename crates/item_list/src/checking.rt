@@ -1,6 +1,7 @@
 // Questions 1 and 2 alone, and question 3.
 ghost use mathlib.Core.Path.{_≡_};
-ghost use lib.ListN.{drop};
+ghost use Prim.Native.Nat.{_≤_};
+ghost use lib.ListN.{length, drop};
 ghost use Rattle.format.specs.Constants.{mostItems};
 ghost use Rattle.format.specs.Questions.{bind, ask, accepted};
 ghost use Rattle.format.specs.Items.{readItems, readSheet, rising, nodesizeFits};
@@ -11,6 +12,7 @@ use super::Checked;
 use super::ItemStep;
 use super::finding;
 use super::stepping;
+use format::ITEM_HEAD;
 use format::Key;
 use format::MOST_ITEMS;
 
@@ -26,9 +28,11 @@ fn verdict(ordered: bool, n: usize) -> Checked
 
 // The pass of `find` with no search in it: what a search carries along would take a quarter more time on a list of two items.
 fn walk(s: &[u8]) -> Checked
+    requires { ⌜ 1 ≤ length (now s) ⌝ }
     ensures { λ r. ⌜ r ≡ checkedOf (bind (readItems mostItems (drop 1 (now (s .entry)))) (λ items. ask (rising items) 2 (accepted items))) ⌝ }
 {
     let mut at: usize = 1;
+    let mut long = ITEM_HEAD;
     let mut n: usize = 0;
     let mut ordered = true;
     let mut last = Key {
@@ -37,7 +41,7 @@ fn walk(s: &[u8]) -> Checked
         offset: 0,
     };
     while n < MOST_ITEMS {
-        let step = stepping::step_at(s, at);
+        let step = stepping::step_after(s, at, long);
         match step {
             ItemStep::End => return verdict(ordered, n),
             ItemStep::Broken => return Checked::Refused(1),
@@ -45,6 +49,7 @@ fn walk(s: &[u8]) -> Checked
                 let key = stepping::key_at(s, at);
                 ordered = finding::follows(ordered, n, last, key);
                 last = key;
+                long = next - at;
                 at = next;
                 n += 1;
             }

@@ -2,7 +2,8 @@
 ghost use mathlib.Core.Path.{_≡_};
 ghost use mathlib.Core.Bool.{_&&_, cond};
 ghost use mathlib.Core.List.{[]};
-ghost use lib.ListN.{drop};
+ghost use Prim.Native.Nat.{_≤_};
+ghost use lib.ListN.{length, drop};
 ghost use Rattle.format.specs.Constants.{mostItems};
 ghost use Rattle.format.specs.Questions.{bind, ask, accepted};
 ghost use Rattle.format.specs.Items.{readItems, readSheet, rising};
@@ -17,6 +18,7 @@ use super::ItemStep;
 use super::Listing;
 use super::stepping;
 use format::EXTENT_ITEM;
+use format::ITEM_HEAD;
 use format::Key;
 use format::METADATA_ITEM;
 use format::MOST_ITEMS;
@@ -109,9 +111,11 @@ fn listing(ordered: bool, n: usize, position: ItemPosition) -> Listing
 // The items after the version byte. A fault in a later item is refusal 1 even where keys fell before it or the wanted item stands
 // before it.
 fn walk(s: &[u8], query: ItemQuery) -> Listing
+    requires { ⌜ 1 ≤ length (now s) ⌝ }
     ensures { λ r. ⌜ r ≡ listingOf (passing query) (bind (readItems mostItems (drop 1 (now (s .entry)))) (λ items. ask (rising items) 2 (accepted items))) ⌝ }
 {
     let mut at: usize = 1;
+    let mut long = ITEM_HEAD;
     let mut n: usize = 0;
     let mut ordered = true;
     let mut position = ItemPosition::Missing;
@@ -121,7 +125,7 @@ fn walk(s: &[u8], query: ItemQuery) -> Listing
         offset: 0,
     };
     while n < MOST_ITEMS {
-        let step = stepping::step_at(s, at);
+        let step = stepping::step_after(s, at, long);
         match step {
             ItemStep::End => return listing(ordered, n, position),
             ItemStep::Broken => return Listing::Refused(1),
@@ -130,6 +134,7 @@ fn walk(s: &[u8], query: ItemQuery) -> Listing
                 ordered = follows(ordered, n, last, key);
                 position = first_of(position, query, n, key, at, next);
                 last = key;
+                long = next - at;
                 at = next;
                 n += 1;
             }

@@ -18,6 +18,7 @@ pub use splicing::remove_item;
 pub use splicing::room_for;
 pub use stepping::is_past;
 pub use stepping::key_at;
+pub use stepping::step_after;
 pub use stepping::step_at;
 
 // What stands at a position.

@@ -32,6 +32,20 @@ pub fn step_at(s: &[u8], at: usize) -> ItemStep
     }
 }
 
+// The same behind an item of `long` bytes. Most items are as long as the one before: with its length at hand the processor goes
+// on to the next while it still reads this one's.
+pub fn step_after(s: &[u8], at: usize, long: usize) -> ItemStep
+    requires { ⌜ (at ≤ length (now s)) × (itemHead ≤ long) × (long ≤ 65556) ⌝ }
+    ensures { λ r. ⌜ r ≡ itemStepAt (now (s .entry)) at ⌝ }
+{
+    if long <= s.len() - at {
+        if fields::get_u32_be(s, at) as usize + 4 == long {
+            return ItemStep::Whole { next: at + long };
+        }
+    }
+    step_at(s, at)
+}
+
 // The key of the item that starts at `at`.
 pub fn key_at(s: &[u8], at: usize) -> Key
     requires { ⌜ at + itemHead ≤ length (now s) ⌝ }

@@ -4,6 +4,7 @@ ghost use Prim.Native.Nat.{_≤_};
 ghost use Rattle.item_list.specs.Steps.{listItems};
 ghost use Rattle.leaf_edit.specs.Division.{Sized, Divided, improved, chosen};
 use crate::Division;
+use format::ITEM_HEAD;
 use item_list::ItemStep;
 
 // The best two-way cut so far: the number of the item that it stands before, and its gap.
@@ -58,6 +59,7 @@ pub fn measure(s: &[u8], nodesize: usize, count: usize) -> Division
     ensures { λ r. ⌜ Divided nodesize (listItems (now (s .entry))) r ⌝ }
 {
     let mut at: usize = 1;
+    let mut long = ITEM_HEAD;
     let mut i: usize = 0;
     let mut left: usize = 101;
     let mut right = 100 + s.len() + 4 * count;
@@ -65,12 +67,13 @@ pub fn measure(s: &[u8], nodesize: usize, count: usize) -> Division
     let mut used: usize = 101;
     let mut leaves: usize = 0;
     loop {
-        let step = item_list::step_at(s, at);
+        let step = item_list::step_after(s, at, long);
         match step {
             ItemStep::End => return choose(best, leaves),
             ItemStep::Broken => return Division::TooLarge,
             ItemStep::Whole { next } => {
-                let space = next - at + 4;
+                long = next - at;
+                let space = long + 4;
                 if nodesize < 101 + space {
                     return Division::TooLarge;
                 }

@@ -6,6 +6,7 @@ ghost use Rattle.fields.specs.Parts.{written};
 ghost use Rattle.format.specs.Sheets.{filled};
 ghost use Rattle.item_list.specs.Steps.{listItems};
 ghost use Rattle.leaf_edit.specs.Division.{Sized};
+use format::ITEM_HEAD;
 use item_list::ItemStep;
 
 // The number of the first item of each later leaf.
@@ -14,16 +15,18 @@ pub fn fill_write(s: &[u8], nodesize: usize, count: usize, cuts: &mut [u16])
     ensures { λ _. ⌜ now (cuts .exit) ≡ written 0 (filled nodesize 0 101 (listItems (now (s .entry)))) (now (cuts .entry)) ⌝ }
 {
     let mut at: usize = 1;
+    let mut long = ITEM_HEAD;
     let mut used: usize = 101;
     let mut leaves: usize = 0;
     let mut i: usize = 0;
     loop {
-        let step = item_list::step_at(s, at);
+        let step = item_list::step_after(s, at, long);
         match step {
             ItemStep::End => return,
             ItemStep::Broken => return,
             ItemStep::Whole { next } => {
-                let space = next - at + 4;
+                long = next - at;
+                let space = long + 4;
                 at = next;
                 i += 1;
                 if used + space <= nodesize {

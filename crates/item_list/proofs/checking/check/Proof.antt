@@ -1,6 +1,6 @@
 use mathlib.Core.Path.{sym, ap, _∙_}
 use Rattle.item_list.specs.Steps.{checkedOf}
-use Rattle.item_list.proofs.Reading.{sheet-shut, sheet-read}
+use Rattle.item_list.proofs.Reading.{sheet-shut, sheet-read, opens-some}
 use borrow.Author.Needs.{needs}
 use Rattle.item_list.proofs.checking.check.Statement.{statement}
 use Rattle.item_list.proofs.checking.check.Tie as tie
@@ -12,5 +12,8 @@ returns-2 : tie.Need-returns-2
 unfolding checkedOf
 returns-2 c = sym (ap checkedOf (sheet-shut _ (sym (c .before .opens .ensures) ∙ c .if1 .left)))
 
+walk-requires : tie.Need-walk-requires
+walk-requires c κs = opens-some _ (sym (c .before .opens .ensures) ∙ c .if1 .taken)
+
 pub check-spec : {M : Type 1} → statement M
-check-spec = tie.close (tie.spec (λ c κs. search needs) (λ c κs. search needs) returns returns-2)
+check-spec = tie.close (tie.spec (λ c κs. search needs) walk-requires returns returns-2)

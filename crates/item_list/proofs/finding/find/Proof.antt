@@ -1,7 +1,7 @@
 use mathlib.Core.Path.{sym, ap, _∙_}
 use Rattle.item_list.specs.Seeks.{passing}
 use Rattle.item_list.specs.Listings.{listingOf}
-use Rattle.item_list.proofs.Reading.{sheet-shut, sheet-read}
+use Rattle.item_list.proofs.Reading.{sheet-shut, sheet-read, opens-some}
 use borrow.Author.Needs.{needs}
 use Rattle.item_list.proofs.finding.find.Statement.{statement}
 use Rattle.item_list.proofs.finding.find.Tie as tie
@@ -13,5 +13,8 @@ returns-2 : tie.Need-returns-2
 unfolding listingOf
 returns-2 c = sym (ap (listingOf (passing (c .before .before .before .args .query))) (sheet-shut _ (sym (c .before .opens .ensures) ∙ c .if1 .left)))
 
+walk-requires : tie.Need-walk-requires
+walk-requires c κs = opens-some _ (sym (c .before .opens .ensures) ∙ c .if1 .taken)
+
 pub find-spec : {M : Type 1} → statement M
-find-spec = tie.close (tie.spec (λ c κs. search needs) (λ c κs. search needs) returns returns-2)
+find-spec = tie.close (tie.spec (λ c κs. search needs) walk-requires returns returns-2)

@@ -1,4 +1,3 @@
-use borrow.Author.Needs.{needs}
 use mathlib.Core.Path.{sym, _∙_}
 use mathlib.Core.List.{List}
 use Prim.Native.Nat.{_-_, _<_}
@@ -7,57 +6,62 @@ use lib.ListN.{length}
 use denote.Ref.{now}
 use Rattle.format.specs.Items.{Item}
 use Rattle.item_list.specs.Steps.{listItems}
+use Rattle.item_list.proofs.Steps.{PastItem, past-first, past-next}
+use Rattle.item_list.proofs.Reading.{list-some}
 use Rattle.item_list.proofs.Walks.{Walked, More, rest-all, rest-end, rest-broken, rest-item}
 use Rattle.leaf_edit.proofs.Filling.{Writing, writing-none, writing-all, writing-stays, writing-starts, room-left, passed-fewer}
 use Rattle.leaf_edit.proofs.fill.fill_write.Statement.{statement}
 use Rattle.leaf_edit.proofs.fill.fill_write.Tie as tie
 
 abbrev Inv-loop : tie.InvT-loop
-Inv-loop s nodesize count cuts₀ at₀ used₀ leaves₀ i₀ cuts at used leaves i =
-    Walked s at (λ (rest : List Item). Writing nodesize (listItems s) cuts₀ cuts used leaves i rest)
+Inv-loop s nodesize count cuts₀ at₀ long₀ used₀ leaves₀ i₀ cuts at long used leaves i =
+    PastItem s at long × Walked s at (λ (rest : List Item). Writing nodesize (listItems s) cuts₀ cuts used leaves i rest)
 
 abbrev μ-loop : tie.MeasureT-loop
-μ-loop s nodesize count cuts₀ at₀ used₀ leaves₀ i₀ cuts at used leaves i = length s - at
+μ-loop s nodesize count cuts₀ at₀ long₀ used₀ leaves₀ i₀ cuts at long used leaves i = length s - at
 
 loop-holds : tie.Need-loop-holds Inv-loop μ-loop
-loop-holds c = record { items = _; rest = rest-all _ (c .before .before .pre .0 .listed); so = writing-none _ _ _ }
+loop-holds c = (past-first _ (list-some _ (c .before .before .pre .0 .listed)), record { items = _; rest = rest-all _ (c .before .before .pre .0 .listed); so = writing-none _ _ _ })
+
+step-after-requires : tie.Need-step-after-requires Inv-loop μ-loop
+step-after-requires c κs = let b = c .loop .inv .0 in (b .inside, b .low, b .high)
 
 enum-told : tie.Need-enum-told Inv-loop μ-loop
 enum-told c = c .match .keys1
 
 same-length : tie.Need-same-length Inv-loop μ-loop
-same-length c = c .before .before .before .loop .inv .so .long
+same-length c = c .before .before .before .loop .inv .1 .so .long
 
 returns : tie.Need-returns Inv-loop μ-loop
 returns c =
-    let i = c .before .before .before .loop .inv in
-    writing-all _ _ _ _ _ _ _ _ (i .so) (rest-end _ _ _ (i .rest) (sym (c .before .before .step-at .ensures) ∙ c .enum-told .given .1))
+    let i = c .before .before .before .loop .inv .1 in
+    writing-all _ _ _ _ _ _ _ _ (i .so) (rest-end _ _ _ (i .rest) (sym (c .before .before .step-after .ensures) ∙ c .enum-told .given .1))
 
 enum-told-2 : tie.Need-enum-told-2 Inv-loop μ-loop
 enum-told-2 c = c .match .keys2
 
 same-length-2 : tie.Need-same-length-2 Inv-loop μ-loop
-same-length-2 c = c .before .before .before .loop .inv .so .long
+same-length-2 c = c .before .before .before .loop .inv .1 .so .long
 
 returns-2 : tie.Need-returns-2 Inv-loop μ-loop
-returns-2 c = absurd (rest-broken _ _ _ (c .before .before .before .loop .inv .rest) (sym (c .before .before .step-at .ensures) ∙ c .enum-told2 .given .1))
+returns-2 c = absurd (rest-broken _ _ _ (c .before .before .before .loop .inv .1 .rest) (sym (c .before .before .step-after .ensures) ∙ c .enum-told2 .given .1))
 
 enum-known-step : tie.Need-enum-known-step Inv-loop μ-loop
 enum-known-step c = c .match .keys3
 
 -- an item is at hand
-more : (c : tie.After-known-told Inv-loop μ-loop) → More (now (c .before .before .before .before .before .before .before .args .s)) (c .before .before .before .before .loop .at) (c .before .step .given .0 .0) (c .before .before .before .before .loop .inv .items)
-more c = rest-item _ _ _ _ (c .before .before .before .before .loop .inv .rest) (sym (c .before .before .before .step-at .ensures) ∙ c .before .step .given .1)
+more : (c : tie.After-known-told Inv-loop μ-loop) → More (now (c .before .before .before .before .before .before .before .args .s)) (c .before .before .before .before .loop .at) (c .before .step .given .0 .0) (c .before .before .before .before .loop .inv .1 .items)
+more c = rest-item _ _ _ _ (c .before .before .before .before .loop .inv .1 .rest) (sym (c .before .before .before .step-after .ensures) ∙ c .before .step .given .1)
 
 -- an item is at hand, so that not all were passed
 fewer : (c : tie.After-known-told Inv-loop μ-loop) → c .before .before .before .before .loop .i < 4096
 fewer c =
     let z = c .before .before .before .before .before .before .before .pre .0 in
-    let e = passed-fewer _ _ _ _ _ _ _ _ _ _ _ (c .before .before .before .before .loop .inv .so) (more c) in
+    let e = passed-fewer _ _ _ _ _ _ _ _ _ _ _ (c .before .before .before .before .loop .inv .1 .so) (more c) in
     omega (arith, e, z .count-is, z .few)
 
-sub-space : tie.Need-sub-space Inv-loop μ-loop
-sub-space c = let w = more c .whole in omega arith
+sub-long : tie.Need-sub-long Inv-loop μ-loop
+sub-long c = let w = more c .whole in omega arith
 
 add-space : tie.Need-add-space Inv-loop μ-loop
 add-space c = let w = more c .whole in omega arith
@@ -66,10 +70,10 @@ add-i : tie.Need-add-i Inv-loop μ-loop
 add-i c = let e = fewer c in omega arith
 
 add-if1 : tie.Need-add-if1 Inv-loop μ-loop
-add-if1 c = let w = more c .whole in let l = c .before .before .before .before .loop .inv .so .small in omega (arith, w, l)
+add-if1 c = let w = more c .whole in let l = c .before .before .before .before .loop .inv .1 .so .small in omega (arith, w, l)
 
 add-used : tie.Need-add-used Inv-loop μ-loop
-add-used c = let w = more (c .before) .whole in let l = c .before .before .before .before .before .loop .inv .so .small in omega (arith, w, l)
+add-used c = let w = more (c .before) .whole in let l = c .before .before .before .before .before .loop .inv .1 .so .small in omega (arith, w, l)
 
 loop-less : tie.Need-loop-less Inv-loop μ-loop
 loop-less c = let w = more (c .before) .whole in omega arith
@@ -77,8 +81,8 @@ loop-less c = let w = more (c .before) .whole in omega arith
 loop-again : tie.Need-loop-again Inv-loop μ-loop
 loop-again c =
     let m = more (c .before) in
-    let i = c .before .before .before .before .before .loop .inv in
-    record { items = m .others; rest = m .rest; so = writing-stays _ _ _ _ _ _ _ _ _ _ _ (i .so) m (c .before .before .before .before .before .before .before .before .pre .1) (c .if1 .taken) }
+    let i = c .before .before .before .before .before .loop .inv .1 in
+    (past-next (m .whole), record { items = m .others; rest = m .rest; so = writing-stays _ _ _ _ _ _ _ _ _ _ _ (i .so) m (c .before .before .before .before .before .before .before .before .pre .1) (c .if1 .taken) })
 
 sub-cuts : tie.Need-sub-cuts Inv-loop μ-loop
 sub-cuts c = omega arith
@@ -89,16 +93,16 @@ cast-cuts c = let e = fewer (c .before) in omega arith
 mul-cuts : tie.Need-mul-cuts Inv-loop μ-loop
 mul-cuts c =
     let e = fewer (c .before) in
-    let f = c .before .before .before .before .before .loop .inv .so .few in
+    let f = c .before .before .before .before .before .loop .inv .1 .so .few in
     omega (arith, e, f)
 
 slice-write-cuts : tie.Need-slice-write-cuts Inv-loop μ-loop
-slice-write-cuts c = room-left _ _ _ _ _ _ _ _ _ _ _ (c .before .before .before .before .before .loop .inv .so) (more (c .before)) (c .if1 .left) (c .before .before .before .before .before .before .before .before .pre .2)
+slice-write-cuts c = room-left _ _ _ _ _ _ _ _ _ _ _ (c .before .before .before .before .before .loop .inv .1 .so) (more (c .before)) (c .if1 .left) (c .before .before .before .before .before .before .before .before .pre .2)
 
 add-leaves : tie.Need-add-leaves Inv-loop μ-loop
 add-leaves c =
     let e = fewer (c .before) in
-    let f = c .before .before .before .before .before .loop .inv .so .few in
+    let f = c .before .before .before .before .before .loop .inv .1 .so .few in
     omega (arith, e, f)
 
 add-used-2 : tie.Need-add-used-2 Inv-loop μ-loop
@@ -110,10 +114,10 @@ loop-less-2 c = let w = more (c .before) .whole in omega arith
 loop-again-2 : tie.Need-loop-again-2 Inv-loop μ-loop
 loop-again-2 c =
     let m = more (c .before) in
-    let i = c .before .before .before .before .before .loop .inv in
-    record { items = m .others; rest = m .rest; so = writing-starts _ _ _ _ _ _ _ _ _ _ _ (i .so) m (c .if1 .left) (c .before .before .before .before .before .before .before .before .pre .2) _ (omega arith) (c .before .before .before .before .before .before .before .before .pre .0 .small) }
+    let i = c .before .before .before .before .before .loop .inv .1 in
+    (past-next (m .whole), record { items = m .others; rest = m .rest; so = writing-starts _ _ _ _ _ _ _ _ _ _ _ (i .so) m (c .if1 .left) (c .before .before .before .before .before .before .before .before .pre .2) _ (omega arith) (c .before .before .before .before .before .before .before .before .pre .0 .small) })
 
 pub fill-write-spec : {M : Type 1} → statement M
 fill-write-spec =
     tie.close
-    (tie.spec Inv-loop μ-loop loop-holds (λ c κs. search needs) enum-told same-length returns enum-told-2 same-length-2 returns-2 enum-known-step sub-space add-space add-i add-if1 add-used loop-less loop-again sub-cuts cast-cuts mul-cuts slice-write-cuts add-leaves add-used-2 loop-less-2 loop-again-2)
+    (tie.spec Inv-loop μ-loop loop-holds step-after-requires enum-told same-length returns enum-told-2 same-length-2 returns-2 enum-known-step sub-long add-space add-i add-if1 add-used loop-less loop-again sub-cuts cast-cuts mul-cuts slice-write-cuts add-leaves add-used-2 loop-less-2 loop-again-2)
