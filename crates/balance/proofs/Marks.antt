@@ -36,8 +36,8 @@ use Rattle.balance.specs.declared.record.Weighed.{Weighed}
 use Rattle.balance.specs.declared.record.Weighed.the-variants.{Of, Bad as Unfit}
 use Rattle.balance.specs.Spans.{weighing, weighedOf, Light}
 use Rattle.balance.specs.declared.group.Group.{Group}
-use Rattle.balance.specs.declared.group.Turn.the-variants.{Next, Bad}
 use Rattle.balance.specs.Groups.{itemOf, tallyOf, afterRecord, Taking}
+use Rattle.balance.proofs.Fairness.{taken-fair, taken-unfair}
 
 -- ---- a weight comes from references that read
 
@@ -117,15 +117,20 @@ module _ (s : List ℕ) (g : Group) (at next : ℕ) (key : Key) (rec : T (isReco
   abbrev inner : List ℕ
   inner = part (at + 21) (next - (at + 21)) s
 
-  pub mark-twice : g .marked ≡ true → Taking s g (itemOf s at next key) next Bad
-  unfolding Taking tallyOf
-  mark-twice m = refused-by (tallyOf s g) (itemOf s at next key) rec (λ b e. rw m refl)
+  refused-mark : (h : Group) → h .fair ≡ false
+      → ((b : Body) → readBody (key .kind) inner ≡ accepted b → (not (tallyOf s g .marked) && sound start (b .refs)) ≡ false)
+      → Taking s g (itemOf s at next key) next h
+  refused-mark h u f = taken-unfair s g (itemOf s at next key) next h u (refused-by (tallyOf s g) (itemOf s at next key) rec f)
+
+  pub mark-twice : (h : Group) → h .fair ≡ false → g .marked ≡ true → Taking s g (itemOf s at next key) next h
+  unfolding tallyOf
+  mark-twice h u m = refused-mark h u (λ b e. rw m refl)
 
   module _ (fits : length inner ≤ 65535) where
-    pub mark-shut : (refusal : ℕ) → Shut refusal ≡ openOf (key .kind) inner → Taking s g (itemOf s at next key) next Bad
-    unfolding Taking refsIn onBody bodyFits ask bind
-    mark-shut refusal e =
-        refused-by (tallyOf s g) (itemOf s at next key) rec (λ b r.
+    pub mark-shut : (h : Group) → h .fair ≡ false → (refusal : ℕ) → Shut refusal ≡ openOf (key .kind) inner → Taking s g (itemOf s at next key) next h
+    unfolding refsIn onBody bodyFits ask bind
+    mark-shut h u refusal e =
+        refused-mark h u (λ b r.
         let a : refsIn (key .kind) inner ≡ refused refusal = opens (key .kind) inner (Shut refusal) e in
         let c : refsIn (key .kind) inner ≡ accepted (b .refs) = rw (le-leb (length inner) 65535 fits, r) refl in
         refused-not (sym a ∙ c))
@@ -146,35 +151,35 @@ module _ (s : List ℕ) (g : Group) (at next : ℕ) (key : Key) (rec : T (isReco
     bad-refs remove f b q = remove-not q
     bad-refs (accepted refs) f b q = subst (λ (x : Body). sound start (x .refs) ≡ false) (accepted-inj q) (f refs refl)
 
-    pub mark-unfit : Unfit ≡ weighedOf (readFrom inner from) → Taking s g (itemOf s at next key) next Bad
-    unfolding Taking
-    mark-unfit w =
-        refused-by (tallyOf s g) (itemOf s at next key) rec (λ b r.
+    pub mark-unfit : (h : Group) → h .fair ≡ false → Unfit ≡ weighedOf (readFrom inner from) → Taking s g (itemOf s at next key) next h
+    mark-unfit h u w =
+        refused-mark h u (λ b r.
         ap (λ (c : Bool). not (tallyOf s g .marked) && c)
         (bad-refs (readFrom inner from) (weighed-bad (readFrom inner from) w) b (sym (opens-read (key .kind) inner from opened) ∙ r))
         ∙ and-false (not (tallyOf s g .marked)))
 
     module _ (order : at + 21 ≤ next) (within : next ≤ length s) (total weight : ℕ) where
       pub mark-good : (h : Group) → h ≡ afterRecord (g .extent) (at + 21) next from total weight → g .marked ≡ false → Of weight ≡ weighedOf (readFrom inner from) → Light (length inner) (Of weight) → total ≡ le (part 0 8 inner)
-          → Taking s g (itemOf s at next key) next (Next h)
-      unfolding Taking tallyOf totalOf refsRead
+          → Taking s g (itemOf s at next key) next h
+      unfolding tallyOf totalOf refsRead
       mark-good made is m w l q =
-          subst (λ (x : Group). Taking s g (itemOf s at next key) next (Next x)) (sym is)
+          subst (λ (x : Group). Taking s g (itemOf s at next key) next x) (sym is)
           let h = weighed-of (readFrom inner from) weight w in
           let r : readFrom inner from ≡ accepted (h .refs) = h .reads in
           let f : refsFrom inner from ≡ h .refs = ap refsRead r in
           let n : length inner ≡ next - (at + 21) = length-part (next - (at + 21)) (at + 21) s (omega arith) in
-          let y = taken-by (tallyOf s g) (itemOf s at next key) rec (bodyFrom (key .kind) inner (h .refs)) (read-refs (h .refs) r) m (h .passes) in (
-            y ∙ (λ i. some (record { extent = g .extent; marked = true; refs = sym f i; total = sym q i; weight = sym (h .sums) i })),
-            record {
-              body = λ _. record {
-                order = order;
-                inside = within;
-                begins = opened .inside;
-                reads = record { reads = read-is inner from (h .refs) r };
-                sorted = subst (λ (k : List Ref). T (ordered k)) (sym f) (sound-out 0 (h .refs) (h .passes) .order);
-                spans = λ z. absurd (z refl);
-              };
-              light = omega arith;
-            },
-          )
+          let y = taken-by (tallyOf s g) (itemOf s at next key) rec (bodyFrom (key .kind) inner (h .refs)) (read-refs (h .refs) r) m (h .passes) in
+          taken-fair s g (itemOf s at next key) next (afterRecord (g .extent) (at + 21) next from total weight)
+          (y ∙ (λ i. some (record { extent = g .extent; marked = true; refs = sym f i; total = sym q i; weight = sym (h .sums) i })))
+          (record {
+            fair = refl;
+            body = λ _. record {
+              order = order;
+              inside = within;
+              begins = opened .inside;
+              reads = record { reads = read-is inner from (h .refs) r };
+              sorted = subst (λ (k : List Ref). T (ordered k)) (sym f) (sound-out 0 (h .refs) (h .passes) .order);
+              spans = λ z. absurd (z refl);
+            };
+            light = omega arith;
+          })

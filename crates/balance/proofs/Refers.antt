@@ -24,10 +24,10 @@ use Rattle.balance.proofs.Says.{naming-of}
 use Rattle.balance.specs.declared.span.Span.{Span}
 use Rattle.balance.specs.Ranks.{Spanned, absentIn}
 use Rattle.balance.specs.declared.group.Group.{Group}
-use Rattle.balance.specs.declared.group.Turn.the-variants.{Next, Bad}
 use Rattle.balance.specs.declared.reference.Named.{Named}
 use Rattle.balance.specs.declared.reference.Named.the-variants.{Of, Bad as NoForm}
 use Rattle.balance.specs.Groups.{itemOf, bodyOf, tallyOf, NamedBy, Naming, GroupKept, Taking}
+use Rattle.balance.proofs.Fairness.{taken-fair, taken-unfair}
 
 pub ref-known : (i : Item) → T (isRefItem i) → T (known (i .key .kind))
 ref-known i t = naming-known (i .key .kind) (naming-of i t)
@@ -59,11 +59,11 @@ module _ (s : List ℕ) (g : Group) (at next : ℕ) (key : Key) (isRef : T (isRe
   view-is : viewOf it ≡ viewRefItem it
   view-is = view-item it (naming-of it isRef)
 
-  pub name-missing : (r : Named) → r ≡ NoForm → Naming it r → Taking s g it next Bad
-  unfolding Taking Naming taken
-  name-missing r e n =
+  pub name-missing : (h : Group) → h .fair ≡ false → (r : Named) → r ≡ NoForm → Naming it r → Taking s g it next h
+  unfolding Naming taken
+  name-missing h u r e n =
       let m : viewRefItem it ≡ malformed = subst (Naming it) e n in
-      ap (taken (tallyOf s g)) (view-is ∙ m)
+      taken-unfair s g it next h u (ap (taken (tallyOf s g)) (view-is ∙ m))
 
   -- without a record
   module _ (m : g .marked ≡ false) where
@@ -72,9 +72,8 @@ module _ (s : List ℕ) (g : Group) (at next : ℕ) (key : Key) (isRef : T (isRe
     unmarked v e NoForm n = ap (taken (tallyOf s g)) (view-is ∙ n)
     unmarked v e (Of weight w) n = ap (taken (tallyOf s g)) (view-is ∙ n .says) ∙ rw m refl
 
-    pub name-unmarked : (n : Named) → Naming it n → Taking s g it next Bad
-    unfolding Taking
-    name-unmarked n h = unmarked (viewOf it) refl n h
+    pub name-unmarked : (h : Group) → h .fair ≡ false → (n : Named) → Naming it n → Taking s g it next h
+    name-unmarked h u n q = taken-unfair s g it next h u (unmarked (viewOf it) refl n q)
 
   module _ (weight : ℕ) (w : RefName) (n : NamedBy it weight w) where
     abbrev named-ref : Ref
@@ -83,11 +82,11 @@ module _ (s : List ℕ) (g : Group) (at next : ℕ) (key : Key) (isRef : T (isRe
     taken-is : taken (tallyOf s g) (viewOf it) ≡ taken (tallyOf s g) (reference named-ref)
     taken-is = ap (taken (tallyOf s g)) (view-is ∙ n .says)
 
-    pub name-light : weight ≡ 0 → Taking s g it next Bad
-    unfolding Taking taken
-    name-light e =
+    pub name-light : (h : Group) → h .fair ≡ false → weight ≡ 0 → Taking s g it next h
+    unfolding taken
+    name-light h u e =
         let z : leb 1 weight ≡ false = lt-leb 1 weight (omega arith) in
-        taken-is ∙ rw z (simp (and-false (tallyOf s g .marked)))
+        taken-unfair s g it next h u (taken-is ∙ rw z (simp (and-false (tallyOf s g .marked))))
 
     module _ (m : g .marked ≡ true) (span : Span) (sp : Spanned (bodyOf s g) (g .start) span) (sk : span .kind ≡ key .kind) where
       other-kind : (r : Ref) → r .kind ≢ span .kind → T (not (isWanted w r))
@@ -97,16 +96,16 @@ module _ (s : List ℕ) (g : Group) (at next : ℕ) (key : Key) (isRef : T (isRe
       unfolding unnamed tallyOf absentIn
       absent-is = rw m (sp .only (λ r. not (isWanted w r)) other-kind)
 
-      pub name-twice : absentIn (bodyOf s g) span w ≡ false → Taking s g it next Bad
-      unfolding Taking taken
-      name-twice a =
-          taken-is ∙ rw (absent-is ∙ a) (never (tallyOf s g .marked) (leb 1 weight) _)
+      pub name-twice : (h : Group) → h .fair ≡ false → absentIn (bodyOf s g) span w ≡ false → Taking s g it next h
+      unfolding taken
+      name-twice h u a = taken-unfair s g it next h u (taken-is ∙ rw (absent-is ∙ a) (never (tallyOf s g .marked) (leb 1 weight) _))
 
       module _ (k : GroupKept s g at) (order : at + 21 ≤ next) (light : weight < 4294967296) where
         abbrev pub weighed-group : Group
         weighed-group =
             record {
               extent = g .extent;
+              fair = true;
               marked = g .marked;
               from = g .from;
               to = g .to;
@@ -116,22 +115,22 @@ module _ (s : List ℕ) (g : Group) (at next : ℕ) (key : Key) (isRef : T (isRe
               span = span;
             }
 
-        pub name-good : (weight ≡ 0 → ⊥) → absentIn (bodyOf s g) span w ≡ true → Taking s g it next (Next weighed-group)
-        unfolding Taking taken tallyOf
+        pub name-good : (weight ≡ 0 → ⊥) → absentIn (bodyOf s g) span w ≡ true → Taking s g it next weighed-group
+        unfolding taken tallyOf
         name-good h a =
-            let z : leb 1 weight ≡ true = le-leb 1 weight (omega arith) in (
-              taken-is ∙ rw (absent-is ∙ a, z) (simp m refl),
-              record {
-                body = λ q.
-                    let b = k .body q in
-                    record {
-                      order = b .order;
-                      inside = b .inside;
-                      begins = b .begins;
-                      reads = b .reads;
-                      sorted = b .sorted;
-                      spans = λ z. sp;
-                    };
-                light = omega (arith, k .light);
-              },
-            )
+            let z : leb 1 weight ≡ true = le-leb 1 weight (omega arith) in
+            taken-fair s g it next weighed-group (taken-is ∙ rw (absent-is ∙ a, z) (simp m refl))
+            (record {
+              fair = refl;
+              body = λ q.
+                  let b = k .body q in
+                  record {
+                    order = b .order;
+                    inside = b .inside;
+                    begins = b .begins;
+                    reads = b .reads;
+                    sorted = b .sorted;
+                    spans = λ z. sp;
+                  };
+              light = omega (arith, k .light);
+            })

@@ -2,18 +2,19 @@
 use mathlib.Core.Path.{_≡_, refl, sym, ap, ap₂, _∙_, subst}
 use Prim.Native.Nat.{ℕ, _+_, _≤_}
 use native.Mathlib.Omega.{arith}
-use mathlib.Core.Bool.{Bool, true, false, not, cond}
+use mathlib.Core.Bool.{Bool, true, false}
 use mathlib.Core.Option.{Option}
 use mathlib.Core.List.{List, [], _∷_}
 use lib.Dec.{T, eqb}
 use lib.ListN.{length}
 use borrow.Author.Tests.{eq-eqb, ne-eqb}
 use Rattle.fields.specs.Numbers.{areBytes}
+use Rattle.fields.proofs.Lists.{by-test}
 use Rattle.format.specs.declared.Key.{Key}
 use Rattle.format.specs.References.{rowIn, known}
 use Rattle.format.specs.Items.{Item}
 use Rattle.format.specs.Apply.{isRecord}
-use Rattle.format.specs.Names.{unrelated, isRefItem, viewRefItem, viewOf, balanced}
+use Rattle.format.specs.Names.{isRefItem, viewOf, balanced}
 use Rattle.format.proofs.Items.{sheet-sane}
 use Rattle.theorems.proofs.Naming.{Naming as Kinds, is176, is178, is182, is184}
 use Rattle.item_list.specs.Steps.{itemAt, listItems, IsList}
@@ -22,66 +23,68 @@ use Rattle.balance.specs.Tally.{GroupTally, fresh, closed, taken, here, 
 use Rattle.balance.proofs.Says.{naming-of}
 use Rattle.balance.proofs.Passing.{pass-balanced}
 use Rattle.balance.specs.declared.group.Group.{Group}
-use Rattle.balance.specs.declared.group.Turn.{Turn}
-use Rattle.balance.specs.declared.group.Turn.the-variants.{Next, Bad}
 use Rattle.balance.specs.Groups.{itemOf, tallyOf, empty, GroupKept, Taking, Turning}
+use Rattle.balance.proofs.Fairness.{not-both, taken-fair}
 
 -- ---- by the type
 
 module _ (i : Item) where
-  pub is-168 : i .key .kind ≡ 168 → T (isRecord i)
+  pub record-168 : i .key .kind ≡ 168 → true ≡ isRecord i
   unfolding isRecord
-  is-168 e = rw e tt
+  record-168 e = rw e refl
 
-  pub is-169 : i .key .kind ≡ 169 → T (isRecord i)
+  pub record-other : (i .key .kind ≡ 168 → ⊥) → eqb (i .key .kind) 169 ≡ isRecord i
   unfolding isRecord
-  is-169 e = rw e tt
+  record-other n = rw (ne-eqb _ _ n) refl
 
-  pub ref-176 : i .key .kind ≡ 176 → T (isRefItem i)
+  pub ref-176 : i .key .kind ≡ 176 → true ≡ isRefItem i
   unfolding isRefItem known rowIn
-  ref-176 e = rw e tt
+  ref-176 e = rw e refl
 
-  pub ref-178 : i .key .kind ≡ 178 → T (isRefItem i)
+  pub ref-178 : i .key .kind ≡ 178 → true ≡ isRefItem i
   unfolding isRefItem known rowIn
-  ref-178 e = rw e tt
+  ref-178 e = rw e refl
 
-  pub ref-182 : i .key .kind ≡ 182 → T (isRefItem i)
+  pub ref-182 : i .key .kind ≡ 182 → true ≡ isRefItem i
   unfolding isRefItem known rowIn
-  ref-182 e = rw e tt
+  ref-182 e = rw e refl
 
-  pub ref-184 : i .key .kind ≡ 184 → T (isRefItem i)
+  ref-184 : i .key .kind ≡ 184 → true ≡ isRefItem i
   unfolding isRefItem known rowIn
-  ref-184 e = rw e tt
+  ref-184 e = rw e refl
 
-  other-view : (i .key .kind ≡ 168 → ⊥) → (i .key .kind ≡ 169 → ⊥) → (T (isRefItem i) → ⊥) → viewOf i ≡ unrelated
-  unfolding viewOf isRecord
-  other-view a b n = rw (ne-eqb _ _ a, ne-eqb _ _ b) (go (isRefItem i) refl)
+  pub ref-other : (i .key .kind ≡ 176 → ⊥) → (i .key .kind ≡ 178 → ⊥) → (i .key .kind ≡ 182 → ⊥) → eqb (i .key .kind) 184 ≡ isRefItem i
+  ref-other a b c = by-test (isRefItem i) (λ q. last (naming-of i (subst T (sym q) tt)) ∙ sym q) (λ q. ne-eqb _ _ (λ e. not-both (isRefItem i) (sym (ref-184 e)) q) ∙ sym q)
     where
-      go : (c : Bool) → isRefItem i ≡ c → cond c (viewRefItem i) unrelated ≡ unrelated
-      go true q = absurd (n (subst T (sym q) tt))
-      go false q = refl
+      last : Kinds (i .key .kind) → eqb (i .key .kind) 184 ≡ true
+      last (is176 q) = absurd (a q)
+      last (is178 q) = absurd (b q)
+      last (is182 q) = absurd (c q)
+      last (is184 q) = eq-eqb _ _ q
+
+-- a test of the key alone, of the item
+module _ (s : List ℕ) (at next : ℕ) (key : Key) (b : Bool) where
+  pub record-yes : b ≡ isRecord (record { key = key; bytes = [] }) → b ≡ true → T (isRecord (itemOf s at next key))
+  unfolding isRecord
+  record-yes e y = subst T (sym y ∙ e) tt
+
+  pub ref-yes : b ≡ isRefItem (record { key = key; bytes = [] }) → b ≡ true → T (isRefItem (itemOf s at next key))
+  unfolding isRefItem
+  ref-yes e y = subst T (sym y ∙ e) tt
 
 pub take-other : (s : List ℕ) (g : Group) (at next : ℕ) (key : Key) → at + 21 ≤ next → GroupKept s g at
-    → (key .kind ≡ 168 → ⊥) → (key .kind ≡ 169 → ⊥) → (key .kind ≡ 176 → ⊥) → (key .kind ≡ 178 → ⊥) → (key .kind ≡ 182 → ⊥) → (key .kind ≡ 184 → ⊥)
-    → Taking s g (itemOf s at next key) next (Next g)
-unfolding Taking taken
-take-other s g at next key o k a b c d e f = (
-  ap (taken (tallyOf s g)) (other-view (itemOf s at next key) a b (λ t. go (naming-of (itemOf s at next key) t))),
-  record { body = k .body; light = omega (arith, k .light) },
-)
-  where
-    go : Kinds (key .kind) → ⊥
-    go (is176 q) = c q
-    go (is178 q) = d q
-    go (is182 q) = e q
-    go (is184 q) = f q
+    → (a b : Bool) → a ≡ isRecord (record { key = key; bytes = [] }) → a ≡ false → b ≡ isRefItem (record { key = key; bytes = [] }) → b ≡ false
+    → Taking s g (itemOf s at next key) next g
+unfolding taken viewOf isRecord isRefItem
+take-other s g at next key o k a b p x q y =
+    taken-fair s g (itemOf s at next key) next g (rw (sym p ∙ x, sym q ∙ y) refl) (record { fair = k .fair; body = k .body; light = omega (arith, k .light) })
 
 -- ---- by the extent
 
 pub empty-kept : (s : List ℕ) (g : Group) (x at : ℕ) → g ≡ empty x → GroupKept s g at
 empty-kept s g x at e =
     subst (λ (h : Group). GroupKept s h at) (sym e)
-    (record { body = λ q. absurd (subst (λ (b : Bool). T (not b)) q tt); light = omega arith })
+    (record { fair = refl; body = λ q. absurd (not-both false q refl); light = omega arith })
 
 -- the pass over an item, from what was taken
 module _ (t : GroupTally) (i : Item) (rest : List Item) where
@@ -109,15 +112,17 @@ module _ (s : List ℕ) (g : Group) (at next : ℕ) (key : Key) (kis : key ≡ i
   unfolding here tallyOf
   here-no n = ne-eqb _ _ (λ e. n (ap (λ (k : Key). k .objectid) kis ∙ e))
 
-  pub turn-here : (r : Turn) → key .objectid ≡ g .extent → Taking s g (itemOf s at next key) next r → Turning s g (itemAt s at) next r
-  unfolding Taking Turning
-  turn-here Bad e h = λ rest. pass-here (tallyOf s g) (itemAt s at) rest (here-yes e)
-      ∙ ap (λ (o : Option GroupTally). onward (pass rest) o) (ap (λ (i : Item). taken (tallyOf s g) (viewOf i)) (sym is-item) ∙ h)
-  turn-here (Next x) e h = (
-    (λ rest. pass-here (tallyOf s g) (itemAt s at) rest (here-yes e)
-        ∙ ap (λ (o : Option GroupTally). onward (pass rest) o) (ap (λ (i : Item). taken (tallyOf s g) (viewOf i)) (sym is-item) ∙ h .0)),
-    h .1,
-  )
+  -- the extent to which the item goes: its items so far, and the pass over this one
+  pub record Enters (h : Group) : Type 0 where
+    pub kept : GroupKept s h at
+    pub goes : (rest : List Item) → pass (itemAt s at ∷ rest) (tallyOf s g) ≡ onward (pass rest) (taken (tallyOf s h) (viewOf (itemOf s at next key)))
+
+  pub enter-here : GroupKept s g at → key .objectid ≡ g .extent → Enters g
+  enter-here k e = record {
+    kept = k;
+    goes = λ rest.
+        pass-here (tallyOf s g) (itemAt s at) rest (here-yes e) ∙ ap (λ (i : Item). onward (pass rest) (taken (tallyOf s g) (viewOf i))) (sym is-item);
+  }
 
   fresh-is : (f : Group) → f ≡ empty (key .objectid) → tallyOf s f ≡ fresh (itemAt s at .key .objectid)
   unfolding tallyOf
@@ -127,29 +132,26 @@ module _ (s : List ℕ) (g : Group) (at next : ℕ) (key : Key) (kis : key ≡ i
   unfolding closed tallyOf
   closed-yes e = eq-eqb _ _ e
 
-  pub turn-new : (f : Group) (r : Turn) → f ≡ empty (key .objectid) → (key .objectid ≡ g .extent → ⊥) → g .total ≡ g .weight
-      → Taking s f (itemOf s at next key) next r → Turning s g (itemAt s at) next r
-  unfolding Taking Turning
-  turn-new f Bad e n c h = λ rest. pass-new (tallyOf s g) (itemAt s at) rest (here-no n) (closed-yes c)
-      ∙ ap (λ (o : Option GroupTally). onward (pass rest) o) (ap₂ (λ (t : GroupTally) (i : Item). taken t (viewOf i)) (sym (fresh-is f e)) (sym is-item) ∙ h)
-  turn-new f (Next x) e n c h = (
-    (λ rest. pass-new (tallyOf s g) (itemAt s at) rest (here-no n) (closed-yes c)
-        ∙ ap (λ (o : Option GroupTally). onward (pass rest) o) (ap₂ (λ (t : GroupTally) (i : Item). taken t (viewOf i)) (sym (fresh-is f e)) (sym is-item) ∙ h .0)),
-    h .1,
-  )
+  pub enter-new : (f : Group) → f ≡ empty (key .objectid) → (key .objectid ≡ g .extent → ⊥) → g .total ≡ g .weight → Enters f
+  enter-new f e n c = record {
+    kept = empty-kept s f (key .objectid) at e;
+    goes = λ rest.
+        pass-new (tallyOf s g) (itemAt s at) rest (here-no n) (closed-yes c)
+        ∙ ap₂ (λ (t : GroupTally) (i : Item). onward (pass rest) (taken t (viewOf i))) (sym (fresh-is f e)) (sym is-item);
+  }
 
-  pub turn-open : (key .objectid ≡ g .extent → ⊥) → (g .total ≡ g .weight → ⊥) → Turning s g (itemAt s at) next Bad
-  unfolding Turning closed tallyOf
-  turn-open n c = λ rest. pass-open (tallyOf s g) (itemAt s at) rest (here-no n) (ne-eqb _ _ c)
+  pub turned : (h r : Group) → Enters h → Taking s h (itemOf s at next key) next r → Turning s g (itemAt s at) next r
+  turned h r w t = record {
+    fair = λ q. (λ rest. w .goes rest ∙ ap (λ (o : Option GroupTally). onward (pass rest) o) (t .fair q .0), t .fair q .1);
+    unfair = λ q rest. w .goes rest ∙ ap (λ (o : Option GroupTally). onward (pass rest) o) (t .unfair q);
+  }
 
-pub turned-next : (s : List ℕ) (g : Group) (i : Item) (next : ℕ) (r : Turn) (h : Group) → r ≡ Next h → Turning s g i next r
-    → ((rest : List Item) → pass (i ∷ rest) (tallyOf s g) ≡ pass rest (tallyOf s h)) × GroupKept s h next
-unfolding Turning
-turned-next s g i next r h e t = subst (Turning s g i next) e t
-
-pub turned-bad : (s : List ℕ) (g : Group) (i : Item) (next : ℕ) (r : Turn) → r ≡ Bad → Turning s g i next r → (rest : List Item) → pass (i ∷ rest) (tallyOf s g) ≡ false
-unfolding Turning
-turned-bad s g i next r e t = subst (Turning s g i next) e t
+  pub turn-open : (r : Group) → r .fair ≡ false → (key .objectid ≡ g .extent → ⊥) → (g .total ≡ g .weight → ⊥) → Turning s g (itemAt s at) next r
+  unfolding closed tallyOf
+  turn-open r u n c = record {
+    fair = λ q. absurd (not-both (r .fair) q u);
+    unfair = λ q rest. pass-open (tallyOf s g) (itemAt s at) rest (here-no n) (ne-eqb _ _ c);
+  }
 
 -- ---- the whole sheet
 

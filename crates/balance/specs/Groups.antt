@@ -16,8 +16,6 @@ use Rattle.inline_refs.specs.Scans.{kindOf, fieldsOf}
 use Rattle.balance.specs.Tally.{GroupTally, taken, pass}
 use Rattle.balance.specs.Ranks.{refsFrom, Readable, Spanned}
 use Rattle.balance.specs.declared.group.Group.{Group}
-use Rattle.balance.specs.declared.group.Turn.{Turn}
-use Rattle.balance.specs.declared.group.Turn.the-variants.{Next, Bad}
 use Rattle.balance.specs.declared.reference.Named.{Named}
 use Rattle.balance.specs.declared.reference.Named.the-variants.{Of, Bad as NoForm}
 
@@ -61,6 +59,7 @@ pub record GroupBody (s : List ℕ) (g : Group) : Type 0 where
   pub spans : (g .span .kind ≡ 0 → ⊥) → Spanned (bodyOf s g) (g .start) (g .span)
 
 pub record GroupKept (s : List ℕ) (g : Group) (at : ℕ) : Type 0 where
+  pub fair : g .fair ≡ true
   pub body : g .marked ≡ true → GroupBody s g
   pub light : g .weight ≤ 4294967296 * at
 
@@ -69,6 +68,7 @@ abbrev pub afterRecord : ℕ → ℕ → ℕ → ℕ → ℕ → ℕ → Group
 afterRecord extent from to start total weight =
     record {
       extent = extent;
+      fair = true;
       marked = true;
       from = from;
       to = to;
@@ -83,6 +83,7 @@ abbrev pub empty : ℕ → Group
 empty extent =
     record {
       extent = extent;
+      fair = true;
       marked = false;
       from = 0;
       to = 0;
@@ -92,12 +93,12 @@ empty extent =
       span = record { kind = 0; from = 0; n = 0 };
     }
 
--- an item of the extent at hand, up to `next`
-unfoldable pub Taking : List ℕ → Group → Item → ℕ → Turn → Type 0
-Taking s g i next Bad = taken (tallyOf s g) (viewOf i) ≡ none
-Taking s g i next (Next h) = (taken (tallyOf s g) (viewOf i) ≡ some (tallyOf s h)) × GroupKept s h next
+-- an item of the extent at hand, up to `next`: what is kept after it, or that it may not stand there
+pub record Taking (s : List ℕ) (g : Group) (i : Item) (next : ℕ) (h : Group) : Type 0 where
+  pub fair : h .fair ≡ true → (taken (tallyOf s g) (viewOf i) ≡ some (tallyOf s h)) × GroupKept s h next
+  pub unfair : h .fair ≡ false → taken (tallyOf s g) (viewOf i) ≡ none
 
 -- an item of any extent
-unfoldable pub Turning : List ℕ → Group → Item → ℕ → Turn → Type 0
-Turning s g i next Bad = (rest : List Item) → pass (i ∷ rest) (tallyOf s g) ≡ false
-Turning s g i next (Next h) = ((rest : List Item) → pass (i ∷ rest) (tallyOf s g) ≡ pass rest (tallyOf s h)) × GroupKept s h next
+pub record Turning (s : List ℕ) (g : Group) (i : Item) (next : ℕ) (h : Group) : Type 0 where
+  pub fair : h .fair ≡ true → ((rest : List Item) → pass (i ∷ rest) (tallyOf s g) ≡ pass rest (tallyOf s h)) × GroupKept s h next
+  pub unfair : h .fair ≡ false → (rest : List Item) → pass (i ∷ rest) (tallyOf s g) ≡ false

@@ -1,8 +1,8 @@
 // The record of an extent.
 use crate::Span;
 use crate::Weighed;
+use crate::group;
 use crate::group::Group;
-use crate::group::Turn;
 use format::ITEM_HEAD;
 use format::Key;
 use inline_refs::Start;
@@ -21,6 +21,7 @@ fn marked(extent: u64, from: usize, to: usize, start: usize, total: u64, weight:
 {
     Group {
         extent,
+        fair: true,
         marked: true,
         from,
         to,
@@ -42,14 +43,14 @@ pub fn take_record(
     next: usize,
     key: Key,
     g: Group,
-) -> Turn
+) -> Group
     requires { ⌜ now rows ≡ kinds ⌝ }
     requires { ⌜ (at + itemHead ≤ next) × ((next ≤ length (now s)) × (next ≤ at + 65556)) ⌝ }
     requires { ⌜ T (isRecord (itemOf (now s) at next key)) ⌝ }
     ensures { λ r. ⌜ Taking (now (s .entry)) g (itemOf (now (s .entry)) at next key) next r ⌝ }
 {
     if g.marked {
-        return Turn::Bad;
+        return group::unfair();
     }
     let from = at + ITEM_HEAD;
     let body = &s[from..next];
@@ -57,10 +58,10 @@ pub fn take_record(
         Start::From(start) => match crate::weigh_refs(rows, body, start) {
             Weighed::Of(weight) => {
                 let total = fields::get_u64_le(body, 0);
-                Turn::Next(marked(g.extent, from, next, start, total, weight))
+                marked(g.extent, from, next, start, total, weight)
             }
-            Weighed::Bad => Turn::Bad,
+            Weighed::Bad => group::unfair(),
         },
-        Start::Refused(_) => Turn::Bad,
+        Start::Refused(_) => group::unfair(),
     }
 }

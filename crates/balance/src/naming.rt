@@ -1,6 +1,6 @@
 // A reference item of an extent.
+use crate::group;
 use crate::group::Group;
-use crate::group::Turn;
 use crate::reference;
 use crate::reference::Named;
 use format::ITEM_HEAD;
@@ -26,7 +26,7 @@ fn take_name(
     g: Group,
     weight: u32,
     wanted: RefName,
-) -> Turn
+) -> Group
     requires { ⌜ now rows ≡ kinds ⌝ }
     requires { ⌜ (at + itemHead ≤ next) × (next ≤ mostSheet) ⌝ }
     requires { ⌜ T (isRefItem (itemOf (now s) at next key)) × ((g .marked ≡ true) × GroupKept (now s) g at) ⌝ }
@@ -34,7 +34,7 @@ fn take_name(
     ensures { λ r. ⌜ Taking (now (s .entry)) g (itemOf (now (s .entry)) at next key) next r ⌝ }
 {
     if weight == 0 {
-        return Turn::Bad;
+        return group::unfair();
     }
     let from = g.from;
     let to = g.to;
@@ -42,10 +42,11 @@ fn take_name(
     let span = crate::span_for(rows, body, g.start, g.span, key.kind);
     let size = crate::stride(rows, key.kind);
     if crate::stands(body, size, span, wanted, key.offset) {
-        return Turn::Bad;
+        return group::unfair();
     }
-    Turn::Next(Group {
+    Group {
         extent: g.extent,
+        fair: true,
         marked: g.marked,
         from: g.from,
         to: g.to,
@@ -53,10 +54,10 @@ fn take_name(
         total: g.total,
         weight: g.weight + weight as u64,
         span,
-    })
+    }
 }
 
-pub fn take_ref(rows: &[[u8; 3]; 5], s: &[u8], at: usize, next: usize, key: Key, g: Group) -> Turn
+pub fn take_ref(rows: &[[u8; 3]; 5], s: &[u8], at: usize, next: usize, key: Key, g: Group) -> Group
     requires { ⌜ now rows ≡ kinds ⌝ }
     requires { ⌜ (at + itemHead ≤ next) × ((next ≤ length (now s)) × (next ≤ mostSheet)) ⌝ }
     requires { ⌜ T (isRefItem (itemOf (now s) at next key)) × GroupKept (now s) g at ⌝ }
@@ -68,8 +69,8 @@ pub fn take_ref(rows: &[[u8; 3]; 5], s: &[u8], at: usize, next: usize, key: Key,
             if g.marked {
                 return take_name(rows, s, at, next, key, g, weight, wanted);
             }
-            Turn::Bad
+            group::unfair()
         }
-        Named::Bad => Turn::Bad,
+        Named::Bad => group::unfair(),
     }
 }

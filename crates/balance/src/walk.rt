@@ -1,5 +1,4 @@
 // The pass over the items of a sheet.
-use crate::group::Turn;
 use crate::turning;
 use item_list::ItemStep;
 ghost use mathlib.Core.Path.{_≡_};
@@ -16,13 +15,13 @@ pub fn balanced(sheet: &[u8]) -> bool
     let mut g = turning::begin(0);
     loop {
         match item_list::step_at(sheet, at) {
-            ItemStep::Whole { next } => match turning::turn(&rows, sheet, at, next, g) {
-                Turn::Next(after) => {
-                    g = after;
-                    at = next;
+            ItemStep::Whole { next } => {
+                g = turning::turn(&rows, sheet, at, next, g);
+                if !g.fair {
+                    return false;
                 }
-                Turn::Bad => return false,
-            },
+                at = next;
+            }
             ItemStep::End => return g.total == g.weight,
             ItemStep::Broken => return false,
         }

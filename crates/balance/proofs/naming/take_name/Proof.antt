@@ -2,11 +2,14 @@ use denote.Ref.{now}
 use native.Mathlib.Omega.{arith}
 use Rattle.balance.proofs.Admits.{not-true, not-false}
 use Rattle.balance.proofs.Refers.{ref-known, ref-owner, span-known, stride-is, name-light, name-twice, name-good}
+use borrow.Author.Needs.{needs}
 use Rattle.balance.proofs.naming.take_name.Statement.{statement}
 use Rattle.balance.proofs.naming.take_name.Tie as tie
 
 returns : tie.Need-returns
-returns c = let s = c .before .before in name-light (now (s .args .s)) (s .args .g) (s .args .at) (s .args .next) (s .args .key) (s .pre .1 .1 .0 .0) _ _ (s .pre .1 .1 .1) (c .if1 .taken)
+returns c =
+    let s = c .before .before .before in
+    name-light (now (s .args .s)) (s .args .g) (s .args .at) (s .args .next) (s .args .key) (s .pre .1 .1 .0 .0) _ _ (s .pre .1 .1 .1) _ (c .unfair .ensures) (c .before .if1 .taken)
 
 sub-body : tie.Need-sub-body
 sub-body c = let p = c .before .before .pre .1 .1 .0 .1 in omega (arith, p .1 .body (p .0) .order)
@@ -35,9 +38,9 @@ stands-requires c κs =
 
 returns-2 : tie.Need-returns-2
 returns-2 c =
-    let s = c .before .before .before .before .before .before .before in
-    let sp = c .before .before .before .span-for .ensures in
-    name-twice (now (s .args .s)) (s .args .g) (s .args .at) (s .args .next) (s .args .key) (s .pre .1 .1 .0 .0) _ _ (s .pre .1 .1 .1) (s .pre .1 .1 .0 .1 .0) _ (sp .0) (sp .1) (not-true _ _ (c .before .stands .ensures) (c .if2 .taken))
+    let s = c .before .before .before .before .before .before .before .before in
+    let sp = c .before .before .before .before .span-for .ensures in
+    name-twice (now (s .args .s)) (s .args .g) (s .args .at) (s .args .next) (s .args .key) (s .pre .1 .1 .0 .0) _ _ (s .pre .1 .1 .1) (s .pre .1 .1 .0 .1 .0) _ (sp .0) (sp .1) _ (c .unfair2 .ensures) (not-true _ _ (c .before .before .stands .ensures) (c .before .if2 .taken))
 
 add-t20 : tie.Need-add-t20
 add-t20 c =
@@ -54,4 +57,4 @@ returns-3 c =
 pub take-name-spec : {M : Type 1} → statement M
 take-name-spec =
     tie.close
-    (tie.spec returns sub-body part-body-start part-body-end span-for-requires stride-requires stands-requires returns-2 add-t20 returns-3)
+    (tie.spec (λ c κs. search needs) returns sub-body part-body-start part-body-end span-for-requires stride-requires stands-requires (λ c κs. search needs) returns-2 add-t20 returns-3)

@@ -1,6 +1,8 @@
 use denote.Ref.{now}
+use mathlib.Core.Path.{sym, _∙_, subst}
+use mathlib.Core.Logic.{⊎-elim}
 use native.Mathlib.Omega.{arith}
-use Rattle.balance.proofs.Turns.{empty-kept, turn-here, turn-new, turn-open}
+use Rattle.balance.proofs.Turns.{Enters, enter-here, enter-new, turned, turn-open}
 use borrow.Author.Needs.{needs}
 use Rattle.balance.proofs.turning.turn.Statement.{statement}
 use Rattle.balance.proofs.turning.turn.Tie as tie
@@ -8,22 +10,33 @@ use Rattle.balance.proofs.turning.turn.Tie as tie
 key-at-requires : tie.Need-key-at-requires
 key-at-requires c κs = let s = c .before in omega (arith, s .pre .1 .0 .0, s .pre .1 .0 .1 .0)
 
-take-requires : tie.Need-take-requires
-take-requires c κs = let s = c .before .before .before .before .before in (s .pre .0, (s .pre .1 .0, s .pre .1 .1 .1))
-
 returns : tie.Need-returns
-returns c = let s = c .before .before .before .before .before .before in turn-here (now (s .args .s)) (s .args .g) (s .args .at) (s .args .next) _ (c .before .before .before .before .key-at .ensures) (s .pre .1 .1 .0) _ (c .before .if1 .taken) (c .take .ensures)
+returns c =
+    let s = c .before .before .before .before .before .before .before .before in
+    turn-open (now (s .args .s)) (s .args .g) (s .args .at) (s .args .next) _ (c .before .before .before .before .before .before .key-at .ensures) (s .pre .1 .1 .0) _ (c .unfair .ensures) (c .before .before .before .if1 .taken) (c .before .if2 .taken)
 
-take-requires-2 : tie.Need-take-requires-2
-take-requires-2 c κs = let s = c .before .before .before .before .before .before .before .before in (s .pre .0, (s .pre .1 .0, empty-kept _ _ _ _ (c .begin .ensures)))
+entered : (c : tie.Joined1)
+    → let s = c .before .before .before .before .before in
+    let k = c .before .before .before .key-at in
+    Enters (now (s .args .s)) (s .args .g) (s .args .at) (s .args .next) (k .result) (k .ensures) (s .pre .1 .1 .0) (c .if1 .h)
+entered c =
+    let s = c .before .before .before .before .before in
+    let k = c .before .before .before .key-at in
+    let q = s .pre .1 .1 in
+    ⊎-elim
+    (λ w. enter-new (now (s .args .s)) (s .args .g) (s .args .at) (s .args .next) _ (k .ensures) (q .0) _ (w .4 ∙ w .3 .ensures) (w .0 .taken) (w .2 .left))
+    (λ w. subst (Enters (now (s .args .s)) (s .args .g) (s .args .at) (s .args .next) _ (k .ensures) (q .0)) (sym (w .1)) (enter-here (now (s .args .s)) (s .args .g) (s .args .at) (s .args .next) _ (k .ensures) (q .0) (q .1) (w .0 .left)))
+    (c .if1 .came)
+
+take-requires : tie.Need-take-requires
+take-requires c κs = let s = c .before .before .before .before .before in (s .pre .0, (s .pre .1 .0, entered c .kept))
 
 returns-2 : tie.Need-returns-2
-returns-2 c = let s = c .before .before .before .before .before .before .before .before .before in turn-new (now (s .args .s)) (s .args .g) (s .args .at) (s .args .next) _ (c .before .before .before .before .before .before .before .key-at .ensures) (s .pre .1 .1 .0) _ _ (c .before .begin .ensures) (c .before .before .before .before .if1 .left) (c .before .before .if2 .taken) (c .take2 .ensures)
-
-returns-3 : tie.Need-returns-3
-returns-3 c = let s = c .before .before .before .before .before .before .before in turn-open (now (s .args .s)) (s .args .g) (s .args .at) (s .args .next) _ (c .before .before .before .before .before .key-at .ensures) (s .pre .1 .1 .0) (c .before .before .if1 .left) (c .if2 .left)
+returns-2 c =
+    let s = c .before .before .before .before .before .before in
+    turned (now (s .args .s)) (s .args .g) (s .args .at) (s .args .next) _ _ (s .pre .1 .1 .0) _ _ (entered (c .before)) (c .take .ensures)
 
 pub turn-spec : {M : Type 1} → statement M
 turn-spec =
     tie.close
-    (tie.spec key-at-requires take-requires returns (λ c κs. search needs) take-requires-2 returns-2 returns-3)
+    (tie.spec key-at-requires (λ c κs. search needs) returns (λ c κs. search needs) take-requires returns-2)

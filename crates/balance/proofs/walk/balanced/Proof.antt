@@ -1,5 +1,5 @@
 use denote.Ref.{now}
-use mathlib.Core.Path.{_≡_, sym, _∙_}
+use mathlib.Core.Path.{_≡_, refl, sym, _∙_}
 use mathlib.Core.List.{List}
 use Prim.Native.Nat.{_-_}
 use native.Mathlib.Omega.{arith}
@@ -11,7 +11,8 @@ use Rattle.item_list.specs.Steps.{listItems}
 use Rattle.item_list.proofs.Walks.{Walked, rest-all, rest-end, rest-broken, rest-item}
 use Rattle.balance.specs.Tally.{pass}
 use Rattle.balance.specs.Groups.{tallyOf, GroupKept}
-use Rattle.balance.proofs.Turns.{empty-kept, turned-next, turned-bad, item-whole, sheet-short, pass-all, pass-end, pass-on, pass-off}
+use Rattle.balance.proofs.Admits.{not-true, not-false}
+use Rattle.balance.proofs.Turns.{empty-kept, item-whole, sheet-short, pass-all, pass-end, pass-on, pass-off}
 use borrow.Author.Needs.{needs}
 use Rattle.balance.proofs.walk.balanced.Statement.{statement}
 use Rattle.balance.proofs.walk.balanced.Tie as tie
@@ -41,35 +42,34 @@ turn-requires c κs =
 
 loop-less : tie.Need-loop-less Inv-loop μ-loop
 loop-less c =
-    let i = c .before .before .before .before .before .before .before .before .before .loop .inv in
-    let w = rest-item _ _ _ _ (i .0 .rest) (sym (c .before .before .before .before .before .before .before .before .step-at .ensures) ∙ c .before .before .before .before .before .before .next .given .1) .whole in
+    let i = c .before .before .before .before .before .before .before .before .loop .inv in
+    let w = rest-item _ _ _ _ (i .0 .rest) (sym (c .before .before .before .before .before .before .before .step-at .ensures) ∙ c .before .before .before .before .before .next .given .1) .whole in
     omega arith
 
 loop-again : tie.Need-loop-again Inv-loop μ-loop
 loop-again c =
-    let i = c .before .before .before .before .before .before .before .before .before .loop .inv in
-    let m = rest-item _ _ _ _ (i .0 .rest) (sym (c .before .before .before .before .before .before .before .before .step-at .ensures) ∙ c .before .before .before .before .before .before .next .given .1) in
-    let t = turned-next _ _ _ _ _ _ (c .before .after .given .1) (c .before .before .before .turn .ensures) in
+    let i = c .before .before .before .before .before .before .before .before .loop .inv in
+    let m = rest-item _ _ _ _ (i .0 .rest) (sym (c .before .before .before .before .before .before .before .step-at .ensures) ∙ c .before .before .before .before .before .next .given .1) in
+    let t = c .before .before .turn .ensures .fair (not-false _ _ refl (c .if1 .left)) in
     (record { items = m .others; rest = m .rest; so = pass-on _ _ _ _ _ _ (m .is) (t .0) ∙ i .0 .so }, t .1)
 
 returns : tie.Need-returns Inv-loop μ-loop
 returns c =
     let i = c .before .before .before .before .before .before .before .before .loop .inv in
     let m = rest-item _ _ _ _ (i .0 .rest) (sym (c .before .before .before .before .before .before .before .step-at .ensures) ∙ c .before .before .before .before .before .next .given .1) in
-    let t = turned-bad _ _ _ _ _ (c .enum-told .given .1) (c .before .before .turn .ensures) in
-    pass-off _ _ _ _ _ (m .is) t ∙ i .0 .so
+    pass-off _ _ _ _ _ (m .is) (c .before .before .turn .ensures .unfair (not-true _ _ refl (c .if1 .taken))) ∙ i .0 .so
 
 returns-2 : tie.Need-returns-2 Inv-loop μ-loop
 returns-2 c =
     let i = c .before .before .before .before .loop .inv in
-    sym (pass-end _ _ _ (rest-end _ _ _ (i .0 .rest) (sym (c .before .before .before .step-at .ensures) ∙ c .before .enum-told2 .given .1))) ∙ i .0 .so
+    sym (pass-end _ _ _ (rest-end _ _ _ (i .0 .rest) (sym (c .before .before .before .step-at .ensures) ∙ c .before .enum-told .given .1))) ∙ i .0 .so
 
 returns-3 : tie.Need-returns-3 Inv-loop μ-loop
 returns-3 c =
     let i = c .before .before .before .loop .inv in
-    absurd (rest-broken _ _ _ (i .0 .rest) (sym (c .before .before .step-at .ensures) ∙ c .enum-told3 .given .1))
+    absurd (rest-broken _ _ _ (i .0 .rest) (sym (c .before .before .step-at .ensures) ∙ c .enum-told2 .given .1))
 
 pub balanced-spec : {M : Type 1} → statement M
 balanced-spec =
     tie.close
-    (tie.spec Inv-loop μ-loop (λ c κs. search needs) (λ c κs. search needs) loop-holds (λ c κs. search needs) (λ c. search needs) turn-requires (λ c. search needs) loop-less loop-again (λ c. search needs) returns (λ c. search needs) returns-2 (λ c. search needs) returns-3)
+    (tie.spec Inv-loop μ-loop (λ c κs. search needs) (λ c κs. search needs) loop-holds (λ c κs. search needs) (λ c. search needs) turn-requires returns loop-less loop-again (λ c. search needs) returns-2 (λ c. search needs) returns-3)
