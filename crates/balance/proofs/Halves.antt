@@ -1,4 +1,4 @@
--- The search by halves among references of one type, and the scan over those of one rank. Assumes nothing.
+-- The search among references of one type, which narrows two bounds, and the scan over those of one rank. Assumes nothing.
 use mathlib.Core.Path.{_≡_, refl, sym, ap, ap₂, _∙_, subst}
 use mathlib.Core.Logic.{_≢_, _⊎_, inl, inr}
 use Prim.Native.Nat.{ℕ, _+_, _-_, _*_, _≤_, _<_}
@@ -40,7 +40,11 @@ pub rank-is : (body : List ℕ) (s : Span) (size j own-rank : ℕ) → size ≡ 
     → own-rank ≡ rank (refAt (s .kind) (drop (s .from + j * size + 1) body)) → own-rank ≡ rankAt body (s .kind) (s .from) j
 rank-is body s size j own-rank e q = q ∙ ap (λ (m : ℕ). rank (refAt (s .kind) (drop m body))) (payload-is s size j e)
 
--- ---- by halves
+-- ---- two bounds
+
+-- while the bounds are apart, the next number looked at is between them
+abbrev pub Aims : Bounds → ℕ → ℕ → Type 0
+Aims b mid step = b .low < b .high → (b .low ≤ mid) × ((mid < b .high) × (1 ≤ step))
 
 module _ (body : List ℕ) (s : Span) (own-rank : ℕ) where
   pub record Halving (b : Bounds) : Type 0 where

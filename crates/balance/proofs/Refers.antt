@@ -23,6 +23,7 @@ use Rattle.balance.specs.Tally.{taken, unnamed}
 use Rattle.balance.proofs.Says.{naming-of}
 use Rattle.balance.specs.declared.span.Span.{Span}
 use Rattle.balance.specs.Ranks.{Spanned, absentIn}
+use Rattle.balance.proofs.Spanning.{spanned-near}
 use Rattle.balance.specs.declared.group.Group.{Group}
 use Rattle.balance.specs.declared.reference.Named.{Named}
 use Rattle.balance.specs.declared.reference.Named.the-variants.{Of, Bad as NoForm}
@@ -100,7 +101,7 @@ module _ (s : List ℕ) (g : Group) (at next : ℕ) (key : Key) (isRef : T (isRe
       unfolding taken
       name-twice h u a = taken-unfair s g it next h u (taken-is ∙ rw (absent-is ∙ a) (never (tallyOf s g .marked) (leb 1 weight) _))
 
-      module _ (k : GroupKept s g at) (order : at + 21 ≤ next) (light : weight < 4294967296) where
+      module _ (k : GroupKept s g at) (order : at + 21 ≤ next) (light : weight < 4294967296) (near : ℕ) where
         abbrev pub weighed-group : Group
         weighed-group =
             record {
@@ -112,7 +113,7 @@ module _ (s : List ℕ) (g : Group) (at next : ℕ) (key : Key) (isRef : T (isRe
               start = g .start;
               total = g .total;
               weight = g .weight + weight;
-              span = span;
+              span = record { kind = span .kind; from = span .from; n = span .n; near = near };
             }
 
         pub name-good : (weight ≡ 0 → ⊥) → absentIn (bodyOf s g) span w ≡ true → Taking s g it next weighed-group
@@ -130,7 +131,7 @@ module _ (s : List ℕ) (g : Group) (at next : ℕ) (key : Key) (isRef : T (isRe
                     begins = b .begins;
                     reads = b .reads;
                     sorted = b .sorted;
-                    spans = λ z. sp;
+                    spans = λ z. spanned-near (bodyOf s g) (g .start) span near sp;
                   };
               light = omega (arith, k .light);
             })

@@ -15,6 +15,7 @@ use Rattle.fields.proofs.Lists.{T-eq, all-right, all-map, all-two}
 use Rattle.format.specs.References.{known, payloadLength, Ref, refAt, rank, falls, follows, leads, ordered}
 use Rattle.theorems.proofs.Order.{follows-out, ordered-back, follows-trans}
 use Rattle.balance.specs.SideBySide.{spanRefs}
+use Rattle.balance.specs.declared.span.Span.{Span}
 use Rattle.balance.specs.Ranks.{refsFrom, reached, left, Skips, CountsIn, payloadAt, rankAt, Spanned}
 
 -- ---- those of a span, by number
@@ -157,7 +158,7 @@ module _ (body : List ℕ) (start kind from n : ℕ) (s : Skips body start kind 
       ∙ all-cut P (s .front) (spanRefs kind body from n ++ c .rest)
       ∙ ap₂ (λ (x y : Bool). x && y) front (all-cut P (spanRefs kind body from n) (c .rest) ∙ ap (λ (x : Bool). all P (spanRefs kind body from n) && x) rest ∙ and-true _)
 
-  pub spanned : T (known kind) → Spanned body start (record { kind = kind; from = from; n = n })
+  pub spanned : T (known kind) → Spanned body start (record { kind = kind; from = from; n = n; near = n })
   spanned k = record {
     falling = record {
       kindKnown = k;
@@ -166,3 +167,11 @@ module _ (body : List ℕ) (start kind from n : ℕ) (s : Skips body start kind 
     };
     only = span-only;
   }
+
+-- wherever the next search begins
+pub spanned-near : (body : List ℕ) (start : ℕ) (s : Span) (near : ℕ) → Spanned body start s
+    → Spanned body start (record { kind = s .kind; from = s .from; n = s .n; near = near })
+spanned-near body start s near p = record {
+  falling = record { kindKnown = p .falling .kindKnown; inside = p .falling .inside; falls = p .falling .falls };
+  only = p .only;
+}

@@ -75,7 +75,7 @@ afterRecord extent from to start total weight =
       start = start;
       total = total;
       weight = weight;
-      span = record { kind = 0; from = 0; n = 0 };
+      span = record { kind = 0; from = 0; n = 0; near = 0 };
     }
 
 -- an extent of which no item was read
@@ -90,7 +90,7 @@ empty extent =
       start = 0;
       total = 0;
       weight = 0;
-      span = record { kind = 0; from = 0; n = 0 };
+      span = record { kind = 0; from = 0; n = 0; near = 0 };
     }
 
 -- an item of the extent at hand, up to `next`: what is kept after it, or that it may not stand there

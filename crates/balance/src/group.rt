@@ -35,6 +35,7 @@ pub fn unfair() -> Group
             kind: 0,
             from: 0,
             n: 0,
+            near: 0,
         },
     }
 }

@@ -12,6 +12,7 @@ mod walk;
 
 pub use record::Weighed;
 pub use record::weigh_refs;
+pub use search::first_below;
 pub use search::stands;
 pub use span::Span;
 pub use span::span_for;

@@ -32,6 +32,7 @@ fn marked(extent: u64, from: usize, to: usize, start: usize, total: u64, weight:
             kind: 0,
             from: 0,
             n: 0,
+            near: 0,
         },
     }
 }

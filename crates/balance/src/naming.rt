@@ -1,4 +1,5 @@
 // A reference item of an extent.
+use crate::Span;
 use crate::group;
 use crate::group::Group;
 use crate::reference;
@@ -41,7 +42,8 @@ fn take_name(
     let body = &s[from..to];
     let span = crate::span_for(rows, body, g.start, g.span, key.kind);
     let size = crate::stride(rows, key.kind);
-    if crate::stands(body, size, span, wanted, key.offset) {
+    let first = crate::first_below(body, size, span, key.offset);
+    if crate::stands(body, size, span, wanted, key.offset, first) {
         return group::unfair();
     }
     Group {
@@ -53,7 +55,12 @@ fn take_name(
         start: g.start,
         total: g.total,
         weight: g.weight + weight as u64,
-        span,
+        span: Span {
+            kind: span.kind,
+            from: span.from,
+            n: span.n,
+            near: first,
+        },
     }
 }
 

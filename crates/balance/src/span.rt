@@ -9,11 +9,13 @@ ghost use lib.ListN.{length};
 ghost use Rattle.format.specs.References.{kinds, known as isKnown, payloadLength, ordered};
 ghost use Rattle.balance.specs.Ranks.{Readable, refsFrom, Skips, CountsIn, Spanned};
 
-// The references of a type: where the first of them stands, and how many there are.
+// The references of a type: where the first of them stands, how many there are, and at which of them the last search ended (`n`:
+// none was made, or all are above). The next search begins there, which is a hint and no more: it may be any number.
 pub struct Span {
     pub kind: u8,
     pub from: usize,
     pub n: usize,
+    pub near: usize,
 }
 
 // Where the first reference of this type or a higher one stands.
@@ -82,7 +84,12 @@ pub fn find_span(rows: &[[u8; 3]; 5], body: &[u8], start: usize, kind: u8) -> Sp
 {
     let from = skip(rows, body, start, kind);
     let n = count(rows, body, from, kind);
-    Span { kind, from, n }
+    Span {
+        kind,
+        from,
+        n,
+        near: n,
+    }
 }
 
 // The same where those of one type are known already.

@@ -39,6 +39,7 @@ pub fn begin(extent: u64) -> Group
             kind: 0,
             from: 0,
             n: 0,
+            near: 0,
         },
     }
 }

@@ -30,31 +30,33 @@ span-for-requires c κs =
 stride-requires : tie.Need-stride-requires
 stride-requires c κs = let s = c .before .before .before .before in (s .pre .0, ref-known _ (s .pre .1 .1 .0 .0))
 
+first-below-requires : tie.Need-first-below-requires
+first-below-requires c κs = let sp = c .before .span-for .ensures in (stride-is _ _ _ (c .stride .ensures) (sp .1), sp .0 .falling)
+
 stands-requires : tie.Need-stands-requires
 stands-requires c κs =
-    let s = c .before .before .before .before .before in
-    let sp = c .before .span-for .ensures in
-    ((stride-is _ _ _ (c .stride .ensures) (sp .1), sp .0 .falling), s .pre .1 .1 .1 .rank)
+    let s = c .before .before .before .before .before .before in
+    (first-below-requires (c .before) κs, (s .pre .1 .1 .1 .rank, c .first-below .ensures))
 
 returns-2 : tie.Need-returns-2
 returns-2 c =
-    let s = c .before .before .before .before .before .before .before .before in
-    let sp = c .before .before .before .before .span-for .ensures in
+    let s = c .before .before .before .before .before .before .before .before .before in
+    let sp = c .before .before .before .before .before .span-for .ensures in
     name-twice (now (s .args .s)) (s .args .g) (s .args .at) (s .args .next) (s .args .key) (s .pre .1 .1 .0 .0) _ _ (s .pre .1 .1 .1) (s .pre .1 .1 .0 .1 .0) _ (sp .0) (sp .1) _ (c .unfair2 .ensures) (not-true _ _ (c .before .before .stands .ensures) (c .before .if2 .taken))
 
-add-t20 : tie.Need-add-t20
-add-t20 c =
-    let s = c .before .before .before .before .before .before .before .before in
+add-t21 : tie.Need-add-t21
+add-t21 c =
+    let s = c .before .before .before .before .before .before .before .before .before in
     omega (arith, s .pre .1 .1 .0 .1 .1 .light, s .pre .1 .0 .0, s .pre .1 .0 .1)
 
 returns-3 : tie.Need-returns-3
 returns-3 c =
-    let s = c .before .before .before .before .before .before .before .before in
-    let sp = c .before .before .before .before .span-for .ensures in
+    let s = c .before .before .before .before .before .before .before .before .before in
+    let sp = c .before .before .before .before .before .span-for .ensures in
     name-good (now (s .args .s)) (s .args .g) (s .args .at) (s .args .next) (s .args .key) (s .pre .1 .1 .0 .0) _ _ (s .pre .1 .1 .1) (s .pre .1 .1 .0 .1 .0) _ (sp .0) (sp .1) (s .pre .1 .1 .0 .1 .1) (s .pre .1 .0 .0) (omega arith)
-    (c .before .before .before .before .before .before .if1 .left) (not-false _ _ (c .before .before .stands .ensures) (c .before .if2 .left))
+    (c .before .before .before .first-below .result) (c .before .before .before .before .before .before .before .if1 .left) (not-false _ _ (c .before .before .stands .ensures) (c .before .if2 .left))
 
 pub take-name-spec : {M : Type 1} → statement M
 take-name-spec =
     tie.close
-    (tie.spec (λ c κs. search needs) returns sub-body part-body-start part-body-end span-for-requires stride-requires stands-requires (λ c κs. search needs) returns-2 add-t20 returns-3)
+    (tie.spec (λ c κs. search needs) returns sub-body part-body-start part-body-end span-for-requires stride-requires first-below-requires stands-requires (λ c κs. search needs) returns-2 add-t21 returns-3)
