@@ -6,7 +6,7 @@ use mathlib.Core.Logic.{_⊎_, inl, inr}
 use mathlib.Core.Bool.{Bool, true, false, not, _&&_, _||_, cond}
 use mathlib.Core.List.{List, [], _∷_, _++_}
 use lib.Dec.{T, leb, eqb}
-use lib.ListN.{drop}
+use lib.ListN.{length, drop}
 use borrow.Author.Tests.{eq-eqb, ne-eqb, le-leb, lt-leb, lt-ltb, le-ltb}
 use Rattle.fields.specs.Lists.{all, same}
 use Rattle.fields.specs.Numbers.{words}
@@ -21,7 +21,7 @@ use Rattle.balance.proofs.SideBySide.{span-snoc}
 use Rattle.balance.specs.declared.record.Run.{Run as Passed}
 use Rattle.balance.specs.declared.record.Admitted.{Admitted}
 use Rattle.balance.specs.declared.record.Admitted.the-variants.{Yes, No}
-use Rattle.balance.specs.Spans.{clear, runOf, Reaches, SpansApart, Admitting}
+use Rattle.balance.specs.Spans.{clear, lastRank, runOf, RunKept, Admitting}
 
 pub payload-178 : payloadLength 178 ≡ 28
 unfolding payloadLength rowIn
@@ -234,7 +234,15 @@ module _ (run : RefRun) (r : Ref) where
 
 -- ---- what code answers, from what it tested
 
-module _ (body : List ℕ) (p : Passed) (at kind start : ℕ) (s : start ≡ at + 1) (reach : Reaches p at) where
+pub rank-computed : (body : List ℕ) (p : Passed) → p .ranked ≡ true → p .rank ≡ lastRank body p
+unfolding lastRank
+rank-computed body p e = rw e refl
+
+pub rank-open : (body : List ℕ) (p : Passed) (own : ℕ) → p .ranked ≡ false → own ≡ rank (refAt (p .kind) (drop (p .from + 1) body)) → own ≡ lastRank body p
+unfolding lastRank
+rank-open body p own e o = rw e o
+
+module _ (body : List ℕ) (p : Passed) (at kind start : ℕ) (s : start ≡ at + 1) (kept : RunKept body p at) where
   abbrev here : Ref
   here = refAt kind (drop start body)
 
@@ -242,99 +250,112 @@ module _ (body : List ℕ) (p : Passed) (at kind start : ℕ) (s : start ≡ at 
   unfolding runOf refAt Admitting
   says-lower h = admits-lower (runOf body p) here h
 
-  module _ (weight own-rank : ℕ) (w : weight ≡ here .weight) (o : own-rank ≡ rank here) where
-    abbrev pub alone : Passed
-    alone = record { kind = kind; rank = own-rank; from = at; n = 1; known = 0 }
+  module _ (weight : ℕ) (w : weight ≡ here .weight) where
+    abbrev alone : Bool → ℕ → Passed
+    alone ranked own = record { kind = kind; ranked = ranked; rank = own; from = at; n = 1; known = 0 }
 
-    alone-is : runOf body alone ≡ record { kind = here .kind; rank = rank here; back = here ∷ [] }
-    unfolding runOf spanRefs refAt
-    alone-is = λ i. record { kind = kind; rank = o i; back = refAt kind (drop (sym s i) body) ∷ [] }
+    module _ (ranked : Bool) (own : ℕ) (o : lastRank body (alone ranked own) ≡ rank here) (inside : ranked ≡ false → at + 1 + payloadLength kind ≤ length body) where
+      alone-is : runOf body (alone ranked own) ≡ record { kind = here .kind; rank = rank here; back = here ∷ [] }
+      unfolding runOf spanRefs refAt
+      alone-is = λ i. record { kind = kind; rank = o i; back = refAt kind (drop (sym s i) body) ∷ [] }
 
-    alone-reaches : Reaches alone (start + payloadLength kind)
-    alone-reaches e = rw (e, payload-178) (omega arith)
+      alone-reaches : kind ≡ 178 → at + tripleSize * 1 ≡ start + payloadLength kind
+      alone-reaches e = rw (e, payload-178) (omega arith)
 
-    says-alone : Begins (runOf body p) here → Admitting body p here (start + payloadLength kind) (Yes alone weight)
-    unfolding Admitting
-    says-alone b = (b .0, (alone-is ∙ b .1, (alone-reaches, (w, none-twice body at))))
+      says-alone : Begins (runOf body p) here → Admitting body p here (start + payloadLength kind) (Yes (alone ranked own) weight)
+      unfolding Admitting
+      says-alone b = (b .0, (alone-is ∙ b .1, (w, record { reaches = alone-reaches; inside = inside; apart = none-twice body at })))
 
-    pub says-owner : p .kind ≤ kind → kind ≡ 172 → Admitting body p here (start + payloadLength kind) (Yes alone weight)
-    unfolding runOf refAt Admitting
-    says-owner h e = says-alone (admits-owner (runOf body p) here h e)
+    module _ (long : start + payloadLength kind ≤ length body) where
+      open-is : lastRank body (alone false 0) ≡ rank here
+      unfolding lastRank
+      open-is = ap (λ (q : ℕ). rank (refAt kind (drop q body))) (sym s)
+
+      says-open : Begins (runOf body p) here → Admitting body p here (start + payloadLength kind) (Yes (alone false 0) weight)
+      says-open = says-alone false 0 open-is (λ e. omega (arith, s, long))
+
+      pub says-owner : p .kind ≤ kind → kind ≡ 172 → Admitting body p here (start + payloadLength kind) (Yes (alone false 0) weight)
+      unfolding runOf refAt
+      says-owner h e = says-open (admits-owner (runOf body p) here h e)
+
+      pub says-higher : (weight ≡ 0 → ⊥) → p .kind < kind → Admitting body p here (start + payloadLength kind) (Yes (alone false 0) weight)
+      unfolding runOf refAt
+      says-higher heavy h = says-open (admits-higher (runOf body p) here h (rw (← w) (omega arith)))
 
     module _ (owner : kind ≡ 172 → ⊥) where
       pub says-light : weight ≡ 0 → Admitting body p here (start + payloadLength kind) No
       unfolding runOf refAt Admitting
       says-light e = admits-light (runOf body p) here owner (sym w ∙ e)
 
-      module _ (heavy : weight ≡ 0 → ⊥) where
+      module _ (heavy : weight ≡ 0 → ⊥) (same-kind : p .kind ≡ kind) where
         some-weight : 0 < here .weight
         some-weight = rw (← w) (omega arith)
 
-        pub says-higher : p .kind < kind → Admitting body p here (start + payloadLength kind) (Yes alone weight)
-        unfolding runOf refAt Admitting
-        says-higher h = says-alone (admits-higher (runOf body p) here h some-weight)
+        module _ (last own : ℕ) (l : last ≡ lastRank body p) (o : own ≡ rank here) where
+          pub says-falls : own < last → Admitting body p here (start + payloadLength kind) (Yes (alone true own) weight)
+          unfolding runOf refAt lastRank
+          says-falls h = says-alone true own o (λ e. absurd (subst T e tt)) (admits-falls (runOf body p) here same-kind owner (rw (← o, ← l) h) some-weight)
 
-        module _ (same-kind : p .kind ≡ kind) where
-          pub says-falls : own-rank < p .rank → Admitting body p here (start + payloadLength kind) (Yes alone weight)
+          pub says-stays : (kind ≡ 178 → ⊥) → last ≤ own → Admitting body p here (start + payloadLength kind) No
           unfolding runOf refAt Admitting
-          says-falls h = says-alone (admits-falls (runOf body p) here same-kind owner (rw (← o) h) some-weight)
+          says-stays n h = admits-stays (runOf body p) here same-kind owner n (rw (← o, ← l) h)
 
-          pub says-stays : (kind ≡ 178 → ⊥) → p .rank ≤ own-rank → Admitting body p here (start + payloadLength kind) No
+          pub says-rises : kind ≡ 178 → last < own → Admitting body p here (start + payloadLength kind) No
           unfolding runOf refAt Admitting
-          says-stays n h = admits-stays (runOf body p) here same-kind owner n (rw (← o) h)
+          says-rises d h = admits-rises (runOf body p) here same-kind d (rw (← o, ← l) h)
 
-          module _ (d : kind ≡ 178) where
-            pub says-rises : p .rank < own-rank → Admitting body p here (start + payloadLength kind) No
+        module _ (d : kind ≡ 178) (e : rank here ≡ lastRank body p) where
+          rank-is : rank here ≡ runOf body p .rank
+          unfolding runOf
+          rank-is = e
+
+          clear-is : (b : Bool) → clear body at (p .from) (p .n) ≡ b
+              → all (λ x. not (same (x .fields) (here .fields))) (runOf body p .back) ≡ b
+          unfolding runOf clear refAt
+          clear-is b c =
+              let k : p .kind ≡ 178 = same-kind ∙ d in
+              (λ i. all (λ x. not (same (x .fields) (refAt (d i) (drop (s i) body) .fields))) (spanRefs (k i) body (p .from) (p .n))) ∙ c
+
+          pub says-twice : clear body at (p .from) (p .n) ≡ false → Admitting body p here (start + payloadLength kind) No
+          unfolding runOf refAt Admitting
+          says-twice c = admits-twice (runOf body p) here same-kind d rank-is (clear-is false c)
+
+          module _ (own known : ℕ) (o : own ≡ lastRank body p) (a : Distinct body (p .from) known) where
+            abbrev pub grown : Passed
+            grown = record { kind = kind; ranked = true; rank = own; from = p .from; n = p .n + 1; known = known }
+
+            ends-here : p .from + p .n * (1 + payloadLength (p .kind)) + 1 ≡ start
+            ends-here =
+                let k : p .kind ≡ 178 = same-kind ∙ d in
+                let z : p .n * (1 + payloadLength (p .kind)) ≡ p .n * tripleSize = ap (λ (j : ℕ). p .n * (1 + payloadLength j)) k ∙ ap (λ (j : ℕ). p .n * (1 + j)) payload-178 in
+                omega (arith, kept .reaches k)
+
+            grown-is : runOf body grown ≡ record { kind = runOf body p .kind; rank = runOf body p .rank; back = runOf body p .back ++ here ∷ [] }
+            unfolding runOf
+            grown-is =
+                (λ i. record { kind = sym same-kind i; rank = (sym (rank-computed body grown refl) ∙ o) i; back = spanRefs (sym same-kind i) body (p .from) (p .n + 1) })
+                ∙ ap (λ (l : List Ref). record { kind = p .kind; rank = lastRank body p; back = l })
+                (span-snoc (p .kind) body (p .from) (p .n)
+                ∙ (λ i. spanRefs (p .kind) body (p .from) (p .n) ++ refAt (same-kind i) (drop (ends-here i) body) ∷ []))
+
+            grown-kept : RunKept body grown (start + payloadLength kind)
+            grown-kept =
+                record {
+                  reaches = (λ z. rw (d, payload-178) (omega (arith, kept .reaches (same-kind ∙ d))));
+                  inside = (λ z. absurd (subst T z tt));
+                  apart = a;
+                }
+
+            pub says-joins : clear body at (p .from) (p .n) ≡ true → Admitting body p here (start + payloadLength kind) (Yes grown weight)
             unfolding runOf refAt Admitting
-            says-rises h = admits-rises (runOf body p) here same-kind d (rw (← o) h)
-
-            module _ (e : own-rank ≡ p .rank) where
-              rank-is : rank here ≡ runOf body p .rank
-              unfolding runOf
-              rank-is = sym o ∙ e
-
-              clear-is : (b : Bool) → clear body at (p .from) (p .n) ≡ b
-                  → all (λ x. not (same (x .fields) (here .fields))) (runOf body p .back) ≡ b
-              unfolding runOf clear refAt
-              clear-is b c =
-                  let k : p .kind ≡ 178 = same-kind ∙ d in
-                  (λ i. all (λ x. not (same (x .fields) (refAt (d i) (drop (s i) body) .fields))) (spanRefs (k i) body (p .from) (p .n))) ∙ c
-
-              pub says-twice : clear body at (p .from) (p .n) ≡ false → Admitting body p here (start + payloadLength kind) No
-              unfolding runOf refAt Admitting
-              says-twice c = admits-twice (runOf body p) here same-kind d rank-is (clear-is false c)
-
-              abbrev pub grown : ℕ → Passed
-              grown k = record { kind = kind; rank = own-rank; from = p .from; n = p .n + 1; known = k }
-
-              ends-here : p .from + p .n * (1 + payloadLength (p .kind)) + 1 ≡ start
-              ends-here =
-                  let k : p .kind ≡ 178 = same-kind ∙ d in
-                  let z : p .n * (1 + payloadLength (p .kind)) ≡ p .n * tripleSize = ap (λ (j : ℕ). p .n * (1 + payloadLength j)) k ∙ ap (λ (j : ℕ). p .n * (1 + j)) payload-178 in
-                  omega (arith, reach k)
-
-              grown-is : (k : ℕ) → runOf body (grown k) ≡ record { kind = runOf body p .kind; rank = runOf body p .rank; back = runOf body p .back ++ here ∷ [] }
-              unfolding runOf
-              grown-is k =
-                  (λ i. record { kind = sym same-kind i; rank = e i; back = spanRefs (sym same-kind i) body (p .from) (p .n + 1) })
-                  ∙ ap (λ (l : List Ref). record { kind = p .kind; rank = p .rank; back = l })
-                  (span-snoc (p .kind) body (p .from) (p .n)
-                  ∙ (λ i. spanRefs (p .kind) body (p .from) (p .n) ++ refAt (same-kind i) (drop (ends-here i) body) ∷ []))
-
-              grown-reaches : (k : ℕ) → Reaches (grown k) (start + payloadLength kind)
-              grown-reaches k z = rw (d, payload-178) (omega (arith, reach (same-kind ∙ d)))
-
-              pub says-joins : (k : ℕ) → Distinct body (p .from) k → clear body at (p .from) (p .n) ≡ true
-                  → Admitting body p here (start + payloadLength kind) (Yes (grown k) weight)
-              unfolding runOf refAt Admitting
-              says-joins k a c =
-                  let j = admits-joins (runOf body p) here same-kind d rank-is (clear-is true c) some-weight in
-                  (j .0, (grown-is k ∙ j .1, (grown-reaches k, (w, a))))
+            says-joins c =
+                let j = admits-joins (runOf body p) here same-kind d rank-is (clear-is true c) some-weight in
+                (j .0, (grown-is ∙ j .1, (w, grown-kept)))
 
 -- ---- and back
 
 pub admitted-yes : (body : List ℕ) (p : Passed) (r : Ref) (next : ℕ) (a : Admitted) (q : Passed) (weight : ℕ) → a ≡ Yes q weight → Admitting body p r next a
-    → (admits (runOf body p) r ≡ true) × ((runOf body q ≡ keptRun (runOf body p) r) × (Reaches q next × ((weight ≡ r .weight) × SpansApart body q)))
+    → (admits (runOf body p) r ≡ true) × ((runOf body q ≡ keptRun (runOf body p) r) × ((weight ≡ r .weight) × RunKept body q next))
 unfolding Admitting
 admitted-yes body p r next a q weight e h = subst (Admitting body p r next) e h
 
@@ -342,16 +363,21 @@ pub admitted-no : (body : List ℕ) (p : Passed) (r : Ref) (next : ℕ) (a : Adm
 unfolding Admitting
 admitted-no body p r next a e h = subst (Admitting body p r next) e h
 
--- ---- a type that is known to be 178
+-- ---- a type that is known
 
 pub no-172 : _≡_ {A = ℕ} 178 172 → ⊥
 no-172 e = omega arith
 
-pub at-178 : (body : List ℕ) (start kind weight own-rank : ℕ) → kind ≡ 178 → weight ≡ refAt kind (drop start body) .weight → own-rank ≡ rank (refAt kind (drop start body))
-    → (weight ≡ refAt 178 (drop start body) .weight) × (own-rank ≡ rank (refAt 178 (drop start body)))
-at-178 body start kind weight own-rank e w o =
+pub at-kind : (body : List ℕ) (start kind own weight own-rank : ℕ) → kind ≡ own → weight ≡ refAt kind (drop start body) .weight → own-rank ≡ rank (refAt kind (drop start body))
+    → (weight ≡ refAt own (drop start body) .weight) × (own-rank ≡ rank (refAt own (drop start body)))
+at-kind body start kind own weight own-rank e w o =
     subst (λ (k : ℕ). (weight ≡ refAt k (drop start body) .weight) × (own-rank ≡ rank (refAt k (drop start body)))) e (w, o)
 
-pub as-178 : (body : List ℕ) (p : Passed) (start kind : ℕ) (r : Admitted) → kind ≡ 178
-    → Admitting body p (refAt 178 (drop start body)) (start + payloadLength 178) r → Admitting body p (refAt kind (drop start body)) (start + payloadLength kind) r
-as-178 body p start kind r e h = subst (λ (k : ℕ). Admitting body p (refAt k (drop start body)) (start + payloadLength k) r) (sym e) h
+pub of-kind : (body : List ℕ) (start kind own weight : ℕ) → kind ≡ own → T (known kind) → (kind ≡ 172 → ⊥) → start + payloadLength kind ≤ length body → weight ≡ refAt kind (drop start body) .weight
+    → T (known own) × ((own ≡ 172 → ⊥) × ((start + payloadLength own ≤ length body) × (weight ≡ refAt own (drop start body) .weight)))
+of-kind body start kind own weight e k n l w =
+    subst (λ (j : ℕ). T (known j) × ((j ≡ 172 → ⊥) × ((start + payloadLength j ≤ length body) × (weight ≡ refAt j (drop start body) .weight)))) e (k, (n, (l, w)))
+
+pub as-kind : (body : List ℕ) (p : Passed) (start kind own : ℕ) (r : Admitted) → kind ≡ own
+    → Admitting body p (refAt own (drop start body)) (start + payloadLength own) r → Admitting body p (refAt kind (drop start body)) (start + payloadLength kind) r
+as-kind body p start kind own r e h = subst (λ (k : ℕ). Admitting body p (refAt k (drop start body)) (start + payloadLength k) r) (sym e) h

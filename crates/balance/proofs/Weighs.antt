@@ -1,25 +1,34 @@
 -- The pass over a record's references, a step at a time. Assumes nothing.
-use mathlib.Core.Path.{_≡_, refl, sym, ap, ap₂, _∙_}
+use mathlib.Core.Path.{_≡_, refl, sym, ap, ap₂, _∙_, subst}
 use Prim.Native.Nat.{ℕ, _+_}
 use native.Mathlib.Omega.{arith}
 use mathlib.Core.Bool.{true, false}
 use mathlib.Core.List.{List, [], _∷_}
+use lib.Dec.{T}
 use lib.ListN.{drop}
 use Rattle.fields.specs.Lists.{sum}
 use Rattle.format.specs.Questions.{Answer, refused, absent, remove, accepted, bind}
 use Rattle.format.specs.References.{Ref, refAt}
 use Rattle.inline_refs.specs.Steps.{readFrom}
 use Rattle.inline_refs.proofs.Steps.{At}
+use Rattle.distinct_triples.proofs.Orders.{none-twice}
 use Rattle.balance.specs.SideBySide.{spanRefs}
 use Rattle.balance.specs.Runs.{RefRun, keptRun, admits, sound}
 use Rattle.balance.specs.Tally.{weightIn}
+use Rattle.balance.specs.declared.record.Run.{Run}
 use Rattle.balance.specs.declared.record.Weighed.the-variants.{Of, Bad}
-use Rattle.balance.specs.Spans.{runOf, weighing, weighedOf}
+use Rattle.balance.specs.Spans.{lastRank, runOf, RunKept, weighing, weighedOf}
 
 pub weigh-start : (body : List ℕ) (from : ℕ) (a : Answer (List Ref))
-    → weighing (runOf body (record { kind = 0; rank = 0; from = from; n = 0; known = 0 })) 0 a ≡ weighedOf a
-unfolding weighedOf runOf spanRefs
+    → weighing (runOf body (record { kind = 0; ranked = true; rank = 0; from = from; n = 0; known = 0 })) 0 a ≡ weighedOf a
+unfolding weighedOf runOf lastRank spanRefs
 weigh-start body from a = refl
+
+pub none-passed : (body : List ℕ) (from : ℕ) → RunKept body (record { kind = 0; ranked = true; rank = 0; from = from; n = 0; known = 0 }) from
+none-passed body from = record { reaches = (λ e. absurd (omega arith)); inside = (λ e. absurd (subst T e tt)); apart = none-twice body from }
+
+pub kept-to : (body : List ℕ) (p : Run) (at next : ℕ) → at ≡ next → RunKept body p at → RunKept body p next
+kept-to body p at next e h = subst (RunKept body p) e h
 
 more : (run : RefRun) (weight : ℕ) (r : Ref) (a : Answer (List Ref)) → admits run r ≡ true
     → weighing (keptRun run r) (weight + r .weight) a ≡ weighing run weight (bind a (λ refs. accepted (r ∷ refs)))

@@ -3,10 +3,10 @@ use mathlib.Core.Path.{_≡_}
 use mathlib.Core.Bool.{Bool, true, false, not, cond}
 use mathlib.Core.List.{List}
 use Prim.Native.Nat.{ℕ, _+_, _*_, _≤_}
-use lib.ListN.{drop}
+use lib.ListN.{length, drop}
 use Rattle.fields.specs.Lists.{sum, all, same}
 use Rattle.format.specs.Questions.{Answer, refused, absent, remove, accepted}
-use Rattle.format.specs.References.{Ref, refAt}
+use Rattle.format.specs.References.{payloadLength, Ref, refAt, rank}
 use Rattle.distinct_triples.specs.Triples.{tripleSize, Distinct}
 use Rattle.balance.specs.SideBySide.{spanRefs}
 use Rattle.balance.specs.Runs.{RefRun, start, keptRun, admits, sound}
@@ -21,22 +21,25 @@ use Rattle.balance.specs.declared.record.Weighed.the-variants.{Of, Bad}
 unfoldable pub clear : List ℕ → ℕ → ℕ → ℕ → Bool
 clear body at from n = all (λ s. not (same (s .fields) (refAt 178 (drop (at + 1) body) .fields))) (spanRefs 178 body from n)
 
+-- what the references passed are ordered by: as it was computed, else as the first of them has it
+unfoldable pub lastRank : List ℕ → Passed → ℕ
+lastRank body p = cond (p .ranked) (p .rank) (rank (refAt (p .kind) (drop (p .from + 1) body)))
+
 unfoldable pub runOf : List ℕ → Passed → RefRun
-runOf body p = record { kind = p .kind; rank = p .rank; back = spanRefs (p .kind) body (p .from) (p .n) }
+runOf body p = record { kind = p .kind; rank = lastRank body p; back = spanRefs (p .kind) body (p .from) (p .n) }
 
--- the data references passed end where the next one stands
-abbrev pub Reaches : Passed → ℕ → Type 0
-Reaches p at = p .kind ≡ 178 → p .from + tripleSize * p .n ≡ at
-
--- the triples of so many from the first on differ
-abbrev pub SpansApart : List ℕ → Passed → Type 0
-SpansApart body p = Distinct body (p .from) (p .known)
+-- the data references passed end where the next one stands; a rank that was not computed can be read; the triples of so many from
+-- the first on differ
+pub record RunKept (body : List ℕ) (p : Passed) (at : ℕ) : Type 0 where
+  pub reaches : p .kind ≡ 178 → p .from + tripleSize * p .n ≡ at
+  pub inside : p .ranked ≡ false → p .from + 1 + payloadLength (p .kind) ≤ length body
+  pub apart : Distinct body (p .from) (p .known)
 
 -- what the answer says of the reference that ends at `next`
 unfoldable pub Admitting : List ℕ → Passed → Ref → ℕ → Admitted → Type 0
 Admitting body p r next No = admits (runOf body p) r ≡ false
 Admitting body p r next (Yes q weight) =
-    (admits (runOf body p) r ≡ true) × ((runOf body q ≡ keptRun (runOf body p) r) × (Reaches q next × ((weight ≡ r .weight) × SpansApart body q)))
+    (admits (runOf body p) r ≡ true) × ((runOf body q ≡ keptRun (runOf body p) r) × ((weight ≡ r .weight) × RunKept body q next))
 
 -- the weight of the references that are left, after those of a run and their weight
 unfoldable pub weighing : RefRun → ℕ → Answer (List Ref) → Weighed

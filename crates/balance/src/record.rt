@@ -6,7 +6,7 @@ use inline_refs::Cursor;
 use inline_refs::RefName;
 use inline_refs::RefStep;
 ghost use mathlib.Core.Path.{_≡_};
-ghost use mathlib.Core.Bool.{not};
+ghost use mathlib.Core.Bool.{false, not};
 ghost use Prim.Native.Nat.{_+_, _*_, _≤_};
 ghost use lib.Dec.{T};
 ghost use lib.ListN.{length, drop};
@@ -14,12 +14,14 @@ ghost use Rattle.format.specs.Constants.{mostSheet};
 ghost use Rattle.format.specs.References.{kinds, known, payloadLength, countPosition, refAt, rank};
 ghost use Rattle.inline_refs.specs.Steps.{readFrom};
 ghost use Rattle.distinct_triples.specs.Triples.{tripleSize, Distinct};
-ghost use Rattle.balance.specs.Spans.{clear, Admitting, Reaches, SpansApart, weighedOf, Light};
+ghost use Rattle.balance.specs.Spans.{clear, lastRank, RunKept, Admitting, weighedOf, Light};
 
 // The references passed last: their type, what they are ordered by, where the first of them stands, how many there are, and of
-// how many from the first on it is known that their triples differ. Only data references of one hash are more than one.
+// how many from the first on it is known that their triples differ. Only data references of one hash are more than one. The rank
+// of a reference is computed once another of its type stands beside it: `ranked` says whether it was.
 pub struct Run {
     pub kind: u8,
+    pub ranked: bool,
     pub rank: u64,
     pub from: usize,
     pub n: usize,
@@ -69,15 +71,34 @@ fn stands_twice(body: &[u8], from: usize, n: usize, known: usize, at: usize) -> 
     repeated(body, from, n, at)
 }
 
-// A data reference whose hash is not below that of the data references passed.
-fn join(body: &[u8], run: Run, at: usize, start: usize, own: u64, weight: u32) -> Admitted
-    requires { ⌜ (run .kind ≡ 178) × ((run .rank ≤ own) × (weight ≡ 0 → ⊥)) ⌝ }
-    requires { ⌜ (start ≡ at + 1) × ((at + tripleSize ≤ length (now body)) × Reaches run at) ⌝ }
+// What the references passed are ordered by.
+fn last_rank(body: &[u8], run: Run) -> u64
+    requires { ⌜ T (known (run .kind)) × (run .ranked ≡ false → run .from + 1 + payloadLength (run .kind) ≤ length (now body)) ⌝ }
+    ensures { λ r. ⌜ r ≡ lastRank (now (body .entry)) run ⌝ }
+{
+    if run.ranked {
+        return run.rank;
+    }
+    inline_refs::rank_at(body, run.kind, run.from + 1)
+}
+
+// A data reference whose hash is not below that of the data references passed, `last`.
+fn join(
+    body: &[u8],
+    run: Run,
+    at: usize,
+    start: usize,
+    last: u64,
+    own: u64,
+    weight: u32,
+) -> Admitted
+    requires { ⌜ (run .kind ≡ 178) × ((last ≡ lastRank (now body) run) × ((last ≤ own) × (weight ≡ 0 → ⊥))) ⌝ }
+    requires { ⌜ (start ≡ at + 1) × ((at + tripleSize ≤ length (now body)) × RunKept (now body) run at) ⌝ }
     requires { ⌜ (weight ≡ refAt 178 (drop start (now body)) .weight) × (own ≡ rank (refAt 178 (drop start (now body)))) ⌝ }
-    requires { ⌜ (length (now body) ≤ mostSheet) × SpansApart (now body) run ⌝ }
+    requires { ⌜ length (now body) ≤ mostSheet ⌝ }
     ensures { λ r. ⌜ Admitting (now (body .entry)) run (refAt 178 (drop start (now (body .entry)))) (start + payloadLength 178) r ⌝ }
 {
-    if run.rank < own {
+    if last < own {
         return Admitted::No;
     }
     let known = together::known_in(body, run.from, run.n, run.known, own);
@@ -88,6 +109,7 @@ fn join(body: &[u8], run: Run, at: usize, start: usize, own: u64, weight: u32) -
     Admitted::Yes {
         run: Run {
             kind: EXTENT_DATA_REF,
+            ranked: true,
             rank: own,
             from: run.from,
             n,
@@ -97,21 +119,49 @@ fn join(body: &[u8], run: Run, at: usize, start: usize, own: u64, weight: u32) -
     }
 }
 
+// A reference of the type of those passed: the two are ordered by their ranks.
+fn follow(body: &[u8], run: Run, at: usize, start: usize, weight: u32) -> Admitted
+    requires { ⌜ T (known (run .kind)) × ((run .kind ≡ 172 → ⊥) × (weight ≡ 0 → ⊥)) ⌝ }
+    requires { ⌜ (start ≡ at + 1) × ((start + payloadLength (run .kind) ≤ length (now body)) × RunKept (now body) run at) ⌝ }
+    requires { ⌜ (weight ≡ refAt (run .kind) (drop start (now body)) .weight) × (length (now body) ≤ mostSheet) ⌝ }
+    ensures { λ r. ⌜ Admitting (now (body .entry)) run (refAt (run .kind) (drop start (now (body .entry)))) (start + payloadLength (run .kind)) r ⌝ }
+{
+    let last = last_rank(body, run);
+    let own = inline_refs::rank_at(body, run.kind, start);
+    if own < last {
+        return Admitted::Yes {
+            run: Run {
+                kind: run.kind,
+                ranked: true,
+                rank: own,
+                from: at,
+                n: 1,
+                known: 0,
+            },
+            weight,
+        };
+    }
+    if run.kind != EXTENT_DATA_REF {
+        return Admitted::No;
+    }
+    join(body, run, at, start, last, own, weight)
+}
+
 // Whether the reference of this kind that stands at `at`, with its payload at `start`, may follow those passed.
 fn admit(body: &[u8], run: Run, at: usize, kind: u8, start: usize, count: usize) -> Admitted
     requires { ⌜ T (known kind) × (start + payloadLength kind ≤ length (now body)) × (count ≡ countPosition kind) ⌝ }
-    requires { ⌜ (start ≡ at + 1) × Reaches run at ⌝ }
-    requires { ⌜ (length (now body) ≤ mostSheet) × SpansApart (now body) run ⌝ }
+    requires { ⌜ (start ≡ at + 1) × RunKept (now body) run at ⌝ }
+    requires { ⌜ length (now body) ≤ mostSheet ⌝ }
     ensures { λ r. ⌜ Admitting (now (body .entry)) run (refAt kind (drop start (now (body .entry)))) (start + payloadLength kind) r ⌝ }
 {
     if kind < run.kind {
         return Admitted::No;
     }
     let weight = inline_refs::weight_at(body, kind, start, count);
-    let rank = inline_refs::rank_at(body, kind, start);
     let alone = Run {
         kind,
-        rank,
+        ranked: false,
+        rank: 0,
         from: at,
         n: 1,
         known: 0,
@@ -125,13 +175,7 @@ fn admit(body: &[u8], run: Run, at: usize, kind: u8, start: usize, count: usize)
     if run.kind < kind {
         return Admitted::Yes { run: alone, weight };
     }
-    if rank < run.rank {
-        return Admitted::Yes { run: alone, weight };
-    }
-    if kind != EXTENT_DATA_REF {
-        return Admitted::No;
-    }
-    join(body, run, at, start, rank, weight)
+    follow(body, run, at, start, weight)
 }
 
 // The weight of the references from `start` to the end of a body.
@@ -143,6 +187,7 @@ pub fn weigh_refs(rows: &[[u8; 3]; 5], body: &[u8], start: usize) -> Weighed
     let mut at = start;
     let mut run = Run {
         kind: 0,
+        ranked: true,
         rank: 0,
         from: start,
         n: 0,

@@ -5,9 +5,8 @@ use native.Mathlib.Omega.{arith}
 use lib.ListN.{length}
 use Rattle.inline_refs.specs.Steps.{readFrom}
 use Rattle.inline_refs.proofs.Steps.{seen}
-use Rattle.distinct_triples.proofs.Orders.{none-twice}
-use Rattle.balance.specs.Spans.{runOf, Reaches, SpansApart, weighing, weighedOf}
-use Rattle.balance.proofs.Weighs.{weigh-start, weigh-step, weigh-no, weigh-end, weigh-fault}
+use Rattle.balance.specs.Spans.{runOf, RunKept, weighing, weighedOf}
+use Rattle.balance.proofs.Weighs.{weigh-start, none-passed, kept-to, weigh-step, weigh-no, weigh-end, weigh-fault}
 use Rattle.balance.proofs.Admits.{admitted-yes, admitted-no}
 use borrow.Author.Needs.{needs}
 use Rattle.balance.proofs.record.weigh_refs.Statement.{statement}
@@ -15,19 +14,19 @@ use Rattle.balance.proofs.record.weigh_refs.Tie as tie
 
 abbrev Inv-loop : tie.InvT-loop
 Inv-loop rows body start at₀ run₀ sum₀ at run sum =
-    (weighing (runOf body run) sum (readFrom body at) ≡ weighedOf (readFrom body start)) × (Reaches run at × ((sum ≤ 4294967296 * at) × ((at ≤ length body) × SpansApart body run)))
+    (weighing (runOf body run) sum (readFrom body at) ≡ weighedOf (readFrom body start)) × (RunKept body run at × ((sum ≤ 4294967296 * at) × (at ≤ length body)))
 
 abbrev μ-loop : tie.MeasureT-loop
 μ-loop rows body start at₀ run₀ sum₀ at run sum = length body - at
 
 loop-holds : tie.Need-loop-holds Inv-loop μ-loop
-loop-holds c = (weigh-start (now (c .before .args .body)) (c .before .args .start) _, ((λ e. absurd (omega arith)), (omega arith, (c .before .pre .1 .1, none-twice _ _))))
+loop-holds c = (weigh-start (now (c .before .args .body)) (c .before .args .start) _, (none-passed (now (c .before .args .body)) (c .before .args .start), (omega arith, c .before .pre .1 .1)))
 
 admit-requires : tie.Need-admit-requires Inv-loop μ-loop
 admit-requires c κs =
     let step = c .before .before .before in
     let w = seen (now (step .before .before .before .args .body)) (step .before .loop .at) _ (sym (c .before .kind .given .1) ∙ step .step .ensures) in
-    ((w .kindKnown, omega (arith, w .start, w .further, w .within, w .long), w .count-at), ((w .start, c .before .before .before .before .loop .inv .1 .0), (c .before .before .before .before .before .before .pre .1 .0, c .before .before .before .before .loop .inv .1 .1 .1 .1)))
+    ((w .kindKnown, omega (arith, w .start, w .further, w .within, w .long), w .count-at), ((w .start, c .before .before .before .before .loop .inv .1 .0), c .before .before .before .before .before .before .pre .1 .0))
 
 add-sum : tie.Need-add-sum Inv-loop μ-loop
 add-sum c =
@@ -48,8 +47,8 @@ loop-again c =
     let w = seen (now (step .before .before .before .args .body)) (step .before .loop .at) _ (sym (c .before .before .before .before .before .kind .given .1) ∙ step .step .ensures) in
     let i = c .before .before .before .before .before .before .before .before .loop .inv in
     let a = admitted-yes _ _ _ _ _ _ _ (c .before .grown .given .1) (c .before .before .before .admit .ensures) in (
-      weigh-step _ _ _ _ _ _ _ w _ _ _ _ (a .0) (a .1 .0) (a .1 .1 .1 .0) ∙ i .0,
-      ((λ e. a .1 .1 .0 e ∙ omega (arith, w .start, w .further, w .long)), (omega (arith, i .1 .1 .0, w .further), (w .within, a .1 .1 .1 .1))),
+      weigh-step _ _ _ _ _ _ _ w _ _ _ _ (a .0) (a .1 .0) (a .1 .1 .0) ∙ i .0,
+      (kept-to _ _ _ _ (omega (arith, w .start, w .further, w .long)) (a .1 .1 .1), (omega (arith, i .1 .1 .0, w .further), w .within)),
     )
 
 returns : tie.Need-returns Inv-loop μ-loop
@@ -63,7 +62,7 @@ returns-2 : tie.Need-returns-2 Inv-loop μ-loop
 returns-2 c =
     let step = c .before .before in
     let w = seen (now (step .before .before .before .args .body)) (step .before .loop .at) _ (sym (c .enum-told2 .given .1) ∙ step .step .ensures) in
-    (weigh-end _ _ _ w ∙ step .before .loop .inv .0, omega (arith, step .before .loop .inv .1 .1 .0, step .before .loop .inv .1 .1 .1 .0))
+    (weigh-end _ _ _ w ∙ step .before .loop .inv .0, omega (arith, step .before .loop .inv .1 .1 .0, step .before .loop .inv .1 .1 .1))
 
 returns-3 : tie.Need-returns-3 Inv-loop μ-loop
 returns-3 c =
