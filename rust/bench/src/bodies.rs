@@ -65,7 +65,7 @@ pub fn rows(b: &mut Bench) {
         },
     );
     made(b);
-    for count in [1, 6, 60, 1_000] {
+    for count in [1, 6, 60, 250, 1_000] {
         with_references(b, count);
     }
 }
@@ -192,6 +192,7 @@ fn with_references(b: &mut Bench, count: u64) {
         || backref::with_flags(&data, 256),
         |out, len| lent::backref_with_flags(&data, 256, out, len).into(),
     );
+    b.beside("memcpy", size, |out| out[..data.len()].copy_from_slice(&data));
     b.row(
         "backref_holds_inline_data_ref",
         size,

@@ -1,32 +1,33 @@
-//! How much longer ten times the items take. The two lengths are measured by turns and on lists made
-//! anew for each turn, and the middle one of the turns' ratios is given: what the machine does
-//! meanwhile, and where the lists happen to lie, falls on both lengths.
-use crate::lists;
-use crate::measure::Bench;
+//! What an item costs in lists of 50, 200 and 2,000, and what a call costs beside a copy of its list.
+use crate::measure::{middle, Bench};
 
-const TURNS: usize = 41;
+const SIZES: [u64; 3] = [50, 200, 2_000];
 
-fn middle(mut ratios: Vec<f64>) -> String {
-    ratios.sort_by(f64::total_cmp);
-    ratios.get(ratios.len() / 2).map_or("".into(), |ratio| format!("{ratio:.1}"))
+/// The archive's time for a call on so many items, or of `memcpy`.
+fn time(bench: &Bench, call: &str, items: u64) -> Option<f64> {
+    let size = format!("{items} items");
+    let row = bench.rows.iter().find(|row| row.call == call && row.size == size)?;
+    middle(if call == "memcpy" { &row.original } else { &row.archive })
 }
 
-pub fn table(bench: &mut Bench) {
-    let long = bench.rows.iter().filter(|row| row.size.starts_with("2000 items"));
+pub fn table(bench: &Bench) {
+    let long = bench.rows.iter().filter(|row| row.size == "2000 items" && row.call != "memcpy");
     let calls: Vec<String> = long.map(|row| row.call.clone()).collect();
     if calls.is_empty() {
         return;
     }
-    println!("\n| call | 2,000 items / 200 items, original | archive |\n|---|---|---|");
+    println!(
+        "\n| call | ns an item: 50 items | 200 | 2,000 | times `memcpy`: 50 items | 200 | 2,000 |"
+    );
+    println!("|---|---|---|---|---|---|---|");
     for call in calls {
-        let (mut original, mut archive) = (Vec::new(), Vec::new());
-        for _ in 0..TURNS {
-            let short = bench.turn(&call, |b| lists::with_items(b, 200));
-            let long = bench.turn(&call, |b| lists::with_items(b, 2_000));
-            let Some((short, long)) = short.zip(long) else { continue };
-            original.push(long.original / short.original);
-            archive.extend(long.archive.zip(short.archive).map(|(long, short)| long / short));
-        }
-        println!("| `{call}` | {} | {} |", middle(original), middle(archive));
+        let each = SIZES.map(|n| time(bench, &call, n).map(|ns| format!("{:.2}", ns / n as f64)));
+        let beside = SIZES.map(|n| {
+            let (ns, copy) = time(bench, &call, n).zip(time(bench, "memcpy", n))?;
+            Some(format!("{:.1}", ns / copy))
+        });
+        let cells: Vec<String> =
+            each.into_iter().chain(beside).map(Option::unwrap_or_default).collect();
+        println!("| `{call}` | {} |", cells.join(" | "));
     }
 }

@@ -1,5 +1,5 @@
-//! The calls on item lists. The original's list is made beforehand and the archive reads its
-//! sheet in every call; where the original takes its list by value, its copy is measured too.
+//! The calls on item lists. The original's list is made beforehand, and the archive reads its sheet in
+//! every call.
 use crate::measure::Bench;
 use extent_refs::lent;
 use original::backref::Keyed;
@@ -10,7 +10,7 @@ use original::transaction::public;
 use std::hint::black_box;
 
 /// Records of data extents, with a tree block's record last.
-fn list(count: u64) -> Vec<OwnedItem> {
+pub fn list(count: u64) -> Vec<OwnedItem> {
     let record = |n: u64| OwnedItem {
         key: DiskKey { objectid: 4096 * (n + 1), key_type: 168, offset: 4096 },
         data: public::data_extent_body(7, 5, 257 + n, 0),
@@ -43,10 +43,22 @@ pub fn rows(b: &mut Bench) {
     }
 }
 
-/// Where there is nothing left to copy the original allocates nothing, while the archive still reads the list.
+/// To delete the only item the original allocates nothing, while the archive still reads the list.
 fn only_item(b: &mut Bench) {
     let items = list(1);
     let (sheet, key) = (sheet(&items), items[0].key);
+    let (new, data) = (DiskKey { objectid: 1, ..key }, vec![0; 53]);
+    let item = OwnedItem { key: new, data: data.clone() };
+    b.row(
+        "leaf_edit_insert",
+        "1 item",
+        || leaf_edit::insert(65_536, &items, item.clone()),
+        |out, len| {
+            let DiskKey { objectid, key_type, offset } = new;
+            lent::leaf_edit_insert(65_536, &sheet, objectid, key_type, offset, &data, out, len)
+                .into()
+        },
+    );
     b.row(
         "leaf_edit_delete",
         "1 item",
@@ -54,6 +66,24 @@ fn only_item(b: &mut Bench) {
         |out, len| {
             lent::leaf_edit_delete(&sheet, key.objectid, key.key_type, key.offset, out, len).into()
         },
+    );
+    let block = Keyed::Block { tree: 7 };
+    b.row_by_value(
+        "transaction_apply_keyed_add_block",
+        "1 item",
+        &items,
+        |items| public::apply_keyed_add(16_384, items, 4096, block, 1, false),
+        |out, len| {
+            lent::transaction_apply_keyed_add_block(16_384, &sheet, 4096, 7, 1, false, out, len)
+                .into()
+        },
+    );
+    b.row_by_value(
+        "ledger_post",
+        "1 item",
+        &items,
+        |items| public::apply_keyed_add(16_384, items, 4096, block, 1, false),
+        |out, len| lent::ledger_post(16_384, &sheet, 1, 4096, 7, 0, 0, 1, out, len).into(),
     );
 }
 
@@ -140,20 +170,22 @@ pub fn with_items(b: &mut Bench, count: u64) {
         |_, number| lent::transaction_record_of(&sheet, last, number).into(),
     );
     let block = Keyed::Block { tree: 7 };
-    b.row(
+    b.row_by_value(
         "transaction_apply_keyed_add_block",
         size,
-        || public::apply_keyed_add(16_384, items.clone(), last, block, 1, false),
+        &items,
+        |items| public::apply_keyed_add(16_384, items, last, block, 1, false),
         |out, len| {
             lent::transaction_apply_keyed_add_block(16_384, &sheet, last, 7, 1, false, out, len)
                 .into()
         },
     );
     let name = Keyed::Data { tree: 6, objectid: 257, offset: 0 };
-    b.row(
+    b.row_by_value(
         "transaction_apply_keyed_add_data",
         size,
-        || public::apply_keyed_add(16_384, items.clone(), middle, name, 1, false),
+        &items,
+        |items| public::apply_keyed_add(16_384, items, middle, name, 1, false),
         |out, len| {
             lent::transaction_apply_keyed_add_data(
                 16_384, &sheet, middle, 6, 257, 0, 1, false, out, len,
@@ -161,10 +193,11 @@ pub fn with_items(b: &mut Bench, count: u64) {
             .into()
         },
     );
-    b.row(
+    b.row_by_value(
         "transaction_apply_shared_add",
         size,
-        || public::apply_shared_add(16_384, items.clone(), middle, 184, 8192, 2, false),
+        &items,
+        |items| public::apply_shared_add(16_384, items, middle, 184, 8192, 2, false),
         |out, len| {
             lent::transaction_apply_shared_add(
                 16_384, &sheet, middle, 184, 8192, 2, false, out, len,
@@ -175,10 +208,11 @@ pub fn with_items(b: &mut Bench, count: u64) {
     drops(b, size, &items, middle, last);
     b.beside("memcpy", size, |out| out[..sheet.len()].copy_from_slice(&sheet));
     // The books have no counterpart in the original: beside it stands its call for the same edit.
-    b.row(
+    b.row_by_value(
         "ledger_post",
-        &format!("{size}, give data"),
-        || public::apply_keyed_add(16_384, items.clone(), middle, name, 1, false),
+        size,
+        &items,
+        |items| public::apply_keyed_add(16_384, items, middle, name, 1, false),
         |out, len| lent::ledger_post(16_384, &sheet, 2, middle, 6, 257, 0, 1, out, len).into(),
     );
 }
@@ -190,19 +224,21 @@ fn drops(b: &mut Bench, size: &str, items: &[OwnedItem], middle: u64, last: u64)
         .and_then(|items| public::apply_keyed_add(16_384, items, last, block, 1, false))
         .expect("room for both");
     let sheet = sheet(&items);
-    b.row(
+    b.row_by_value(
         "transaction_apply_shared_drop",
         size,
-        || public::apply_shared_drop(items.clone(), middle, 184, 8192, 2, false),
+        &items,
+        |items| public::apply_shared_drop(items, middle, 184, 8192, 2, false),
         |out, len| {
             lent::transaction_apply_shared_drop(&sheet, middle, 184, 8192, 2, false, out, len)
                 .into()
         },
     );
-    b.row(
+    b.row_by_value(
         "transaction_drop_kept_tree_ref",
         size,
-        || public::drop_kept_tree_ref(items.clone(), last, 7, 0, false),
+        &items,
+        |items| public::drop_kept_tree_ref(items, last, 7, 0, false),
         |out, len| lent::transaction_drop_kept_tree_ref(&sheet, last, 0, 7, false, out, len).into(),
     );
 }

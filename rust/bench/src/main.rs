@@ -18,6 +18,8 @@ mod growth;
 mod lists;
 mod measure;
 #[cfg(original_here)]
+mod postings;
+#[cfg(original_here)]
 mod worst;
 
 use measure::{Asked, Bench};
@@ -44,6 +46,7 @@ fn main() {
     for _ in 0..passes {
         bodies::rows(&mut bench);
         lists::rows(&mut bench);
+        postings::rows(&mut bench);
     }
     if !original::HERE {
         println!(
@@ -61,7 +64,7 @@ fn main() {
     }
     #[cfg(original_here)]
     {
-        growth::table(&mut bench);
+        growth::table(&bench);
         worst::table(&mut bench);
     }
 }

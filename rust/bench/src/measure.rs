@@ -1,5 +1,5 @@
-//! Thread CPU time, best of many batches, the two sides by turns; the whole table is made several
-//! times over, so that a busy moment of the machine does not stay in a row.
+//! Thread CPU time, best of many batches, the two sides by turns. The whole table is made several
+//! times over: a figure is the middle one of the passes, and the ratios' least and greatest stand beside.
 use std::hint::black_box;
 
 #[repr(C)]
@@ -20,42 +20,34 @@ fn now() -> u64 {
     time.seconds as u64 * 1_000_000_000 + time.nanoseconds as u64
 }
 
-pub const PASSES: usize = 6;
-const BATCHES: usize = 12;
-const TURN_BATCHES: usize = 3;
+pub const PASSES: usize = 7;
+const BATCHES: usize = 10;
 const BATCH_NANOSECONDS: u64 = 1_000_000;
 
-/// What is asked for: times of the calls whose name holds a word; one call alone, in few batches; or so
-/// many runs of one side of one row, for a profiler.
+/// What is asked for: times of the calls whose name holds a word; or so many runs of one side of one
+/// row, for a profiler.
 pub enum Asked {
     Times(Option<String>),
-    Turn(String),
     Runs { side: String, call: String, size: String, rounds: usize },
 }
 
 impl Asked {
-    fn times_of(&self, call: &str) -> bool {
+    pub fn times_of(&self, call: &str) -> bool {
         match self {
             Asked::Times(word) => word.as_ref().is_none_or(|word| call.contains(word.as_str())),
-            Asked::Turn(only) => call == only,
             Asked::Runs { .. } => false,
-        }
-    }
-
-    fn batches(&self) -> usize {
-        if matches!(self, Asked::Turn(_)) {
-            TURN_BATCHES
-        } else {
-            BATCHES
         }
     }
 }
 
+/// One call at one size, with a time for each pass.
 pub struct Row {
     pub call: String,
     pub size: String,
-    pub original: f64,
-    pub archive: Option<f64>,
+    pub original: Vec<f64>,
+    /// The original with a copy of the list that it takes by value.
+    pub copied: Vec<f64>,
+    pub archive: Vec<f64>,
 }
 
 pub struct Bench {
@@ -64,9 +56,33 @@ pub struct Bench {
     out: Vec<u8>,
 }
 
+/// The middle one.
+pub fn middle(times: &[f64]) -> Option<f64> {
+    let mut times = times.to_vec();
+    times.sort_by(f64::total_cmp);
+    times.get(times.len() / 2).copied()
+}
+
+/// The middle ratio of the passes, and the least and the greatest.
+fn ratios(over: &[f64], under: &[f64]) -> String {
+    let each: Vec<f64> = over.iter().zip(under).map(|(a, b)| a / b).collect();
+    let Some(ratio) = middle(&each) else { return String::new() };
+    let least = each.iter().copied().fold(f64::MAX, f64::min);
+    let most = each.iter().copied().fold(0.0, f64::max);
+    format!("{ratio:.2} ({least:.2} to {most:.2})")
+}
+
+fn shown(times: &[f64]) -> String {
+    middle(times).map_or(String::new(), |ns| format!("{ns:.1}"))
+}
+
 impl Bench {
     pub fn new(asked: Asked) -> Self {
         Bench { asked, rows: Vec::new(), out: vec![0; 262_144] }
+    }
+
+    pub fn asks(&self, call: &str) -> bool {
+        self.asked.times_of(call)
     }
 
     /// `archive` is given an output and a number; it is not run where the archive has no such call.
@@ -75,20 +91,62 @@ impl Bench {
         call: &str,
         size: &str,
         mut original: impl FnMut() -> T,
+        archive: impl FnMut(&mut [u8], &mut u64) -> u64,
+    ) {
+        let mut original = || {
+            black_box(original());
+        };
+        self.measured(call, size, &mut |rounds| batch(&mut original, rounds), archive, None);
+    }
+
+    /// The same for a call of the original that takes a list by value. Its lists are made before the clock
+    /// starts; beside that stands the time with the copy that a caller makes who keeps the list.
+    pub fn row_by_value<I: Clone, T>(
+        &mut self,
+        call: &str,
+        size: &str,
+        items: &[I],
+        original: impl Fn(Vec<I>) -> T,
+        archive: impl FnMut(&mut [u8], &mut u64) -> u64,
+    ) {
+        let mut ready: Vec<Vec<I>> = Vec::new();
+        let mut alone = |rounds: usize| {
+            ready.extend((0..rounds).map(|_| items.to_vec()));
+            let begun = now();
+            for items in ready.drain(..) {
+                black_box(original(items));
+            }
+            (now() - begun) as f64 / rounds as f64
+        };
+        let mut copied = || {
+            black_box(original(items.to_vec()));
+        };
+        self.measured(
+            call,
+            size,
+            &mut alone,
+            archive,
+            Some(&mut |rounds| batch(&mut copied, rounds)),
+        );
+    }
+
+    fn measured(
+        &mut self,
+        call: &str,
+        size: &str,
+        original: &mut dyn FnMut(usize) -> f64,
         mut archive: impl FnMut(&mut [u8], &mut u64) -> u64,
+        mut copied: Option<&mut dyn FnMut(usize) -> f64>,
     ) {
         let mut len = 0;
         // Hidden from the compiler once and not in each round: a slice that goes through memory as two
         // words and comes back as one costs about five nanoseconds.
         let out = black_box(&mut self.out[..]);
         let there = !extent_refs::MISSING.contains(&call);
-        let mut first = || {
-            black_box(original());
-        };
         if let Asked::Runs { side, call: only, size: of, rounds } = &self.asked {
             if call == only && size == of {
                 if side == "original" {
-                    batch(&mut first, *rounds);
+                    original(*rounds);
                 } else {
                     let mut second = || {
                         black_box(archive(out, &mut len));
@@ -108,15 +166,24 @@ impl Bench {
         let mut second = || {
             black_box(archive(&mut *out, &mut len));
         };
-        let rounds = (calibrated(&mut first), if there { calibrated(&mut second) } else { 0 });
-        let mut best = (f64::MAX, f64::MAX);
-        for _ in 0..self.asked.batches() {
-            best.0 = best.0.min(batch(&mut first, rounds.0));
+        let mut second = |rounds: usize| batch(&mut second, rounds);
+        let first = calibrated(original);
+        let with_copy = copied.as_mut().map_or(0, |copied| calibrated(*copied));
+        let ours = if there { calibrated(&mut second) } else { 0 };
+        let mut best = [None; 3];
+        let mut note = |side: usize, ns: f64| {
+            best[side] = Some(best[side].map_or(ns, |least: f64| least.min(ns)));
+        };
+        for _ in 0..BATCHES {
+            note(0, original(first));
+            if let Some(copied) = copied.as_mut() {
+                note(1, copied(with_copy));
+            }
             if there {
-                best.1 = best.1.min(batch(&mut second, rounds.1));
+                note(2, second(ours));
             }
         }
-        self.keep(call, size, best.0, there.then_some(best.1));
+        self.keep(call, size, best);
     }
 
     /// Something beside the calls, to hold them against.
@@ -124,25 +191,25 @@ impl Bench {
         if !self.asked.times_of(name) {
             return;
         }
-        let batches = self.asked.batches();
         let out = &mut self.out[..];
         let mut call = || call(black_box(&mut *out));
+        let mut call = |rounds: usize| batch(&mut call, rounds);
         let rounds = calibrated(&mut call);
-        let best = (0..batches).map(|_| batch(&mut call, rounds)).fold(f64::MAX, f64::min);
-        self.keep(name, size, best, None);
+        let best = (0..BATCHES).map(|_| call(rounds)).fold(f64::MAX, f64::min);
+        self.keep(name, size, [Some(best), None, None]);
     }
 
-    /// The best of all passes.
-    fn keep(&mut self, call: &str, size: &str, original: f64, archive: Option<f64>) {
-        match self.rows.iter_mut().find(|row| row.call == call && row.size == size) {
-            None => {
-                self.rows.push(Row { call: call.into(), size: size.into(), original, archive });
-            }
-            Some(row) => {
-                row.original = row.original.min(original);
-                row.archive = row.archive.zip(archive).map(|(a, b)| a.min(b));
-            }
+    /// One more pass.
+    fn keep(&mut self, call: &str, size: &str, [original, copied, archive]: [Option<f64>; 3]) {
+        let there = self.rows.iter().position(|row| row.call == call && row.size == size);
+        let at = there.unwrap_or(self.rows.len());
+        if there.is_none() {
+            let (call, size) = (call.into(), size.into());
+            self.rows.push(Row { call, size, original: vec![], copied: vec![], archive: vec![] });
         }
+        self.rows[at].original.extend(original);
+        self.rows[at].copied.extend(copied);
+        self.rows[at].archive.extend(archive);
     }
 
     /// A call of the archive alone, in nanoseconds, or nothing where it is not asked for.
@@ -159,29 +226,19 @@ impl Bench {
         let mut call = || {
             black_box(archive(&mut *out, &mut len));
         };
+        let mut call = |rounds: usize| batch(&mut call, rounds);
         let rounds = calibrated(&mut call);
-        Some((0..PASSES * BATCHES).map(|_| batch(&mut call, rounds)).fold(f64::MAX, f64::min))
+        Some((0..PASSES * BATCHES).map(|_| call(rounds)).fold(f64::MAX, f64::min))
     }
 
     pub fn print(&self) {
-        println!("| call | size | original, ns | archive, ns | original / archive |");
-        println!("|---|---|---|---|---|");
-        for Row { call, size, original, archive } in &self.rows {
-            let (ns, ratio) = match archive {
-                Some(ns) => (format!("{ns:.1}"), format!("{:.2}", original / ns)),
-                None => ("".into(), "".into()),
-            };
-            println!("| `{call}` | {size} | {original:.1} | {ns} | {ratio} |");
+        println!("| call | size | original, ns | with a copy of its list | archive, ns | original / archive | with the copy |");
+        println!("|---|---|---|---|---|---|---|");
+        for Row { call, size, original, copied, archive } in &self.rows {
+            let times = [original, copied, archive].map(|times| shown(times)).join(" | ");
+            let ratios = [original, copied].map(|times| ratios(times, archive)).join(" | ");
+            println!("| `{call}` | {size} | {times} | {ratios} |");
         }
-    }
-
-    /// One call alone: its row now, apart from the table.
-    pub fn turn(&mut self, call: &str, rows: impl FnOnce(&mut Bench)) -> Option<Row> {
-        let asked = std::mem::replace(&mut self.asked, Asked::Turn(call.into()));
-        let kept = std::mem::take(&mut self.rows);
-        rows(self);
-        self.asked = asked;
-        std::mem::replace(&mut self.rows, kept).pop()
     }
 }
 
@@ -194,16 +251,10 @@ fn batch(call: &mut impl FnMut(), rounds: usize) -> f64 {
 }
 
 /// As many rounds as fill a batch.
-fn calibrated(call: &mut impl FnMut()) -> usize {
+fn calibrated(call: &mut (impl FnMut(usize) -> f64 + ?Sized)) -> usize {
     let mut rounds = 1;
-    loop {
-        let begun = now();
-        for _ in 0..rounds {
-            call();
-        }
-        if now() - begun >= BATCH_NANOSECONDS {
-            return rounds;
-        }
+    while call(rounds) * (rounds as f64) < BATCH_NANOSECONDS as f64 {
         rounds *= 2;
     }
+    rounds
 }

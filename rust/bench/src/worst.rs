@@ -1,5 +1,5 @@
-//! Lists of about 262,144 bytes that cost a posting the most, beside an ordinary one. A posting that
-//! is refused 5, after the check of balance, which is what costs.
+//! Lists of about 262,144 bytes that cost a posting the most, beside an ordinary one. The posting is
+//! refused 5, after the check of balance, which is what costs; or 1 or 2, by the list's last item.
 use crate::lists::sheet;
 use crate::measure::Bench;
 use extent_refs::lent;
@@ -76,29 +76,47 @@ fn one_hash(records: u64) -> Vec<OwnedItem> {
     (1..=records).map(|n| record(4096 * n, references.len(), &references)).collect()
 }
 
+/// The same behind a long record with types 176 and 182 by turns, so that keys fall at each second item.
+fn by_turns() -> Vec<OwnedItem> {
+    let mut items = one_block();
+    for (n, item) in items.iter_mut().skip(1).enumerate() {
+        item.key.key_type = if n % 2 == 0 { 182 } else { 176 };
+    }
+    items
+}
+
+/// Its last byte cut off.
+fn cut(items: &[OwnedItem]) -> Vec<u8> {
+    let mut sheet = sheet(items);
+    sheet.pop();
+    sheet
+}
+
 pub fn table(bench: &mut Bench) {
     let lists = [
-        ("3,542 extents, one data reference each", ordinary()),
-        ("one extent, the longest record, as many data items as fit", one_extent()),
-        ("one extent, the longest record, as many block items as fit", one_block()),
-        ("one longest record of data references that have one hash", one_hash(1)),
-        ("three such records", one_hash(3)),
+        ("3,542 extents, one data reference each", 5, sheet(&ordinary())),
+        ("one extent, the longest record, as many data items as fit", 5, sheet(&one_extent())),
+        ("the same with its last byte cut off", 1, cut(&one_extent())),
+        ("one extent, the longest record, as many block items as fit", 5, sheet(&one_block())),
+        ("the same with types 176 and 182 by turns", 2, sheet(&by_turns())),
+        ("one longest record of data references that have one hash", 5, sheet(&one_hash(1))),
+        ("three such records", 5, sheet(&one_hash(3))),
+        ("the same with the last byte cut off", 1, cut(&one_hash(3))),
     ];
     let mut usual = None;
-    for (name, items) in lists {
-        let sheet = sheet(&items);
+    for (name, refusal, sheet) in lists {
         let Some(ns) = bench.alone("ledger_post", |out, len| {
             let code = lent::ledger_post(16_384, &sheet, 5, 4096, 1, 1, 1, 0, out, len);
-            assert_eq!(code, 5, "{name}: balanced, and the name is not there");
+            assert_eq!(code, refusal, "{name}");
             code.into()
         }) else {
             return;
         };
         if usual.is_none() {
-            println!("\n| list | bytes | `ledger_post`, ns | times the first |");
-            println!("|---|---|---|---|");
+            println!("\n| list | bytes | refusal | `ledger_post`, ns | times the first |");
+            println!("|---|---|---|---|---|");
         }
         let first = *usual.get_or_insert(ns);
-        println!("| {name} | {} | {ns:.0} | {:.1} |", sheet.len(), ns / first);
+        println!("| {name} | {} | {refusal} | {ns:.0} | {:.1} |", sheet.len(), ns / first);
     }
 }

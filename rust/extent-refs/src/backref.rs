@@ -1,5 +1,5 @@
 //! Inline references of an extent item, with the signatures of the driver's `backref`.
-use crate::answer::{accepted, edited, number, written};
+use crate::answer::{accepted, cuts, edited, number, written};
 use crate::error::Result;
 use crate::lent;
 
@@ -12,6 +12,8 @@ pub const SHARED_DATA_REF: u8 = 184;
 
 /// The longest inline reference: a data reference with its type byte.
 const LONGEST: usize = 29;
+/// The shortest: its type byte and one field.
+const SHORTEST: usize = 9;
 
 /// One inline reference: its type byte and the payload after it, a part of the caller's body.
 #[derive(Debug, Clone, Copy, PartialEq, Eq)]
@@ -39,12 +41,21 @@ pub fn flags(body: &[u8]) -> Option<u64> {
     number(|value| lent::backref_flags(body, value)).ok()
 }
 
-/// Each reference is one call, which reads the body from its start.
+/// One call says where each reference stands; they lie side by side up to the body's end.
 pub fn inline_refs(item_type: u8, body: &[u8]) -> Result<Vec<InlineRef<'_>>> {
-    let mut refs = Vec::new();
-    while let Some(next) = inline_ref(item_type, body, refs.len() as u64)? {
-        refs.push(next);
+    let positions = cuts(body.len() / SHORTEST, |positions, count| {
+        lent::backref_inline_refs(item_type, body, positions, count)
+    })?;
+    let mut refs = Vec::with_capacity(positions.len());
+    let mut end = body.len();
+    for &at in positions.iter().rev() {
+        let one = &body[at as usize..end];
+        let field: [u8; 8] = one[1..9].try_into().expect("eight bytes");
+        let offset = u64::from_le_bytes(field);
+        refs.push(InlineRef { kind: one[0], payload: &one[1..], offset });
+        end = at as usize;
     }
+    refs.reverse();
     Ok(refs)
 }
 

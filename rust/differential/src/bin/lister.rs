@@ -43,7 +43,8 @@ fn main() -> ExitCode {
     // What arrives in parts is read to its end.
     let parts = run.prints(&[&e()[..20], &e()[20..]], E_TEXT);
     run.count("E in two parts", parts);
-    let said = |(name, said): (String, Result<(), String>)| said.map_err(|f| format!("{name}: {f}"));
+    let said =
+        |(name, said): (String, Result<(), String>)| said.map_err(|f| format!("{name}: {f}"));
     let broken = read_errors(&run.path).into_iter().try_for_each(said);
     run.count("inputs whose reading fails", broken);
     run.all("generated bodies", &generated(most));
