@@ -21,7 +21,7 @@ use Rattle.balance.proofs.SideBySide.{span-snoc}
 use Rattle.balance.specs.declared.record.Run.{Run as Passed}
 use Rattle.balance.specs.declared.record.Admitted.{Admitted}
 use Rattle.balance.specs.declared.record.Admitted.the-variants.{Yes, No}
-use Rattle.balance.specs.Spans.{clear, lastRank, runOf, RunKept, Admitting}
+use Rattle.balance.specs.Spans.{clear, lastRank, runOf, OneRank, RunKept, oneMore, Admitting}
 
 pub payload-178 : payloadLength 178 ≡ 28
 unfolding payloadLength rowIn
@@ -34,6 +34,9 @@ not-true b false e t = refl
 pub not-false : (b c : Bool) → b ≡ not c → b ≡ false → c ≡ true
 not-false b true e t = refl
 not-false b false e t = let z : T false = subst T (sym e ∙ t) tt in absurd z
+
+pub no-172 : _≡_ {A = ℕ} 178 172 → ⊥
+no-172 e = omega arith
 
 pub known-178 : T (known 178)
 unfolding known rowIn
@@ -234,6 +237,9 @@ module _ (run : RefRun) (r : Ref) where
 
 -- ---- what code answers, from what it tested
 
+pub none-ahead : (body : List ℕ) (from n own : ℕ) → OneRank body from n 0 own
+none-ahead body from n own = record { ranks = (λ i l h. absurd (omega arith)) }
+
 pub rank-computed : (body : List ℕ) (p : Passed) → p .ranked ≡ true → p .rank ≡ lastRank body p
 unfolding lastRank
 rank-computed body p e = rw e refl
@@ -262,9 +268,12 @@ module _ (body : List ℕ) (p : Passed) (at kind start : ℕ) (s : start ≡ at 
       alone-reaches : kind ≡ 178 → at + tripleSize * 1 ≡ start + payloadLength kind
       alone-reaches e = rw (e, payload-178) (omega arith)
 
+      kept-one : RunKept body (alone ranked own) (start + payloadLength kind)
+      kept-one = record { reaches = alone-reaches; inside = inside; apart = none-twice body at; hashed = (λ h. absurd (omega arith)); ahead = none-ahead body at 1 own }
+
       says-alone : Begins (runOf body p) here → Admitting body p here (start + payloadLength kind) (Yes (alone ranked own) weight)
       unfolding Admitting
-      says-alone b = (b .0, (alone-is ∙ b .1, (w, record { reaches = alone-reaches; inside = inside; apart = none-twice body at })))
+      says-alone b = (b .0, (alone-is ∙ b .1, (w, kept-one)))
 
     module _ (long : start + payloadLength kind ≤ length body) where
       open-is : lastRank body (alone false 0) ≡ rank here
@@ -320,7 +329,7 @@ module _ (body : List ℕ) (p : Passed) (at kind start : ℕ) (s : start ≡ at 
           unfolding runOf refAt Admitting
           says-twice c = admits-twice (runOf body p) here same-kind d rank-is (clear-is false c)
 
-          module _ (own known : ℕ) (o : own ≡ lastRank body p) (a : Distinct body (p .from) known) where
+          module _ (own known : ℕ) (o : own ≡ lastRank body p) (a : Distinct body (p .from) known) (f : OneRank body (p .from) (p .n + 1) known own) where
             abbrev pub grown : Passed
             grown = record { kind = kind; ranked = true; rank = own; from = p .from; n = p .n + 1; known = known }
 
@@ -344,6 +353,8 @@ module _ (body : List ℕ) (p : Passed) (at kind start : ℕ) (s : start ≡ at 
                   reaches = (λ z. rw (d, payload-178) (omega (arith, kept .reaches (same-kind ∙ d))));
                   inside = (λ z. absurd (subst T z tt));
                   apart = a;
+                  hashed = (λ z. (d, refl));
+                  ahead = f;
                 }
 
             pub says-joins : clear body at (p .from) (p .n) ≡ true → Admitting body p here (start + payloadLength kind) (Yes grown weight)
@@ -365,9 +376,6 @@ admitted-no body p r next a e h = subst (Admitting body p r next) e h
 
 -- ---- a type that is known
 
-pub no-172 : _≡_ {A = ℕ} 178 172 → ⊥
-no-172 e = omega arith
-
 pub at-kind : (body : List ℕ) (start kind own weight own-rank : ℕ) → kind ≡ own → weight ≡ refAt kind (drop start body) .weight → own-rank ≡ rank (refAt kind (drop start body))
     → (weight ≡ refAt own (drop start body) .weight) × (own-rank ≡ rank (refAt own (drop start body)))
 at-kind body start kind own weight own-rank e w o =
@@ -381,3 +389,26 @@ of-kind body start kind own weight e k n l w =
 pub as-kind : (body : List ℕ) (p : Passed) (start kind own : ℕ) (r : Admitted) → kind ≡ own
     → Admitting body p (refAt own (drop start body)) (start + payloadLength own) r → Admitting body p (refAt kind (drop start body)) (start + payloadLength kind) r
 as-kind body p start kind own r e h = subst (λ (k : ℕ). Admitting body p (refAt k (drop start body)) (start + payloadLength k) r) (sym e) h
+
+pub as-run : (body : List ℕ) (p : Passed) (r : Ref) (next weight : ℕ) (q grown : Passed) → q ≡ grown → Admitting body p r next (Yes grown weight) → Admitting body p r next (Yes q weight)
+as-run body p r next weight q grown e h = subst (λ (k : Passed). Admitting body p r next (Yes k weight)) (sym e) h
+
+-- ---- one of those that are known to have the hash of those passed and to differ
+
+module _ (body : List ℕ) (p : Passed) (at start : ℕ) (s : start ≡ at + 1) (kept : RunKept body p at) (h : p .n < p .known) where
+  rank-ahead : rank (refAt 178 (drop start body)) ≡ p .rank
+  rank-ahead =
+      let l : p .n ≤ p .n = omega arith in
+      let q : p .from + tripleSize * p .n + 1 ≡ start = omega (arith, kept .reaches (kept .hashed h .0)) in
+      subst (λ (k : ℕ). rank (refAt 178 (drop k body)) ≡ p .rank) q (kept .ahead .ranks (p .n) l h)
+
+  pub says-known : (weight : ℕ) → weight ≡ refAt (p .kind) (drop start body) .weight → (weight ≡ 0 → ⊥)
+      → Admitting body p (refAt (p .kind) (drop start body)) (start + payloadLength (p .kind)) (Yes (oneMore p (p .rank) (p .known)) weight)
+  says-known weight w heavy =
+      let d : p .kind ≡ 178 = kept .hashed h .0 in
+      let o : p .rank ≡ lastRank body p = rank-computed body p (kept .hashed h .1) in
+      let f : OneRank body (p .from) (p .n + 1) (p .known) (p .rank) = record { ranks = (λ i l m. kept .ahead .ranks i (omega (arith, l)) m) } in
+      let v : weight ≡ refAt 178 (drop start body) .weight = subst (λ (k : ℕ). weight ≡ refAt k (drop start body) .weight) d w in
+      as-kind body p start (p .kind) 178 _ d
+      (says-joins body p at 178 start s kept weight v no-172 heavy d refl (rank-ahead ∙ o) (p .rank) (p .known) o (kept .apart) f
+      (clear-by body (p .from) (p .n) (p .known) (kept .apart) h at (kept .reaches d)))

@@ -1,4 +1,5 @@
 pub mod Admits
+pub mod OneHash
 pub mod Weighs
 pub mod Steps
 pub mod Spanning

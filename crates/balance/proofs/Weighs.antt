@@ -12,6 +12,7 @@ use Rattle.format.specs.References.{Ref, refAt}
 use Rattle.inline_refs.specs.Steps.{readFrom}
 use Rattle.inline_refs.proofs.Steps.{At}
 use Rattle.distinct_triples.proofs.Orders.{none-twice}
+use Rattle.balance.proofs.Admits.{none-ahead}
 use Rattle.balance.specs.SideBySide.{spanRefs}
 use Rattle.balance.specs.Runs.{RefRun, keptRun, admits, sound}
 use Rattle.balance.specs.Tally.{weightIn}
@@ -25,7 +26,14 @@ unfolding weighedOf runOf lastRank spanRefs
 weigh-start body from a = refl
 
 pub none-passed : (body : List ℕ) (from : ℕ) → RunKept body (record { kind = 0; ranked = true; rank = 0; from = from; n = 0; known = 0 }) from
-none-passed body from = record { reaches = (λ e. absurd (omega arith)); inside = (λ e. absurd (subst T e tt)); apart = none-twice body from }
+none-passed body from =
+    record {
+      reaches = (λ e. absurd (omega arith));
+      inside = (λ e. absurd (subst T e tt));
+      apart = none-twice body from;
+      hashed = (λ h. absurd (omega arith));
+      ahead = none-ahead body from 0 0;
+    }
 
 pub kept-to : (body : List ℕ) (p : Run) (at next : ℕ) → at ≡ next → RunKept body p at → RunKept body p next
 kept-to body p at next e h = subst (RunKept body p) e h

@@ -2,7 +2,7 @@
 use mathlib.Core.Path.{_≡_}
 use mathlib.Core.Bool.{Bool, true, false, not, cond}
 use mathlib.Core.List.{List}
-use Prim.Native.Nat.{ℕ, _+_, _*_, _≤_}
+use Prim.Native.Nat.{ℕ, _+_, _*_, _≤_, _<_}
 use lib.ListN.{length, drop}
 use Rattle.fields.specs.Lists.{sum, all, same}
 use Rattle.format.specs.Questions.{Answer, refused, absent, remove, accepted}
@@ -28,12 +28,22 @@ lastRank body p = cond (p .ranked) (p .rank) (rank (refAt (p .kind) (drop (p .fr
 unfoldable pub runOf : List ℕ → Passed → RefRun
 runOf body p = record { kind = p .kind; rank = lastRank body p; back = spanRefs (p .kind) body (p .from) (p .n) }
 
+-- the data references from number n on, up to number m, have that rank
+pub record OneRank (body : List ℕ) (from n m own : ℕ) : Type 0 where
+  pub ranks : (i : ℕ) → n ≤ i → i < m → rank (refAt 178 (drop (from + tripleSize * i + 1) body)) ≡ own
+
 -- the data references passed end where the next one stands; a rank that was not computed can be read; the triples of so many from
--- the first on differ
+-- the first on differ, and those of them that were not passed are data references of the same hash
 pub record RunKept (body : List ℕ) (p : Passed) (at : ℕ) : Type 0 where
   pub reaches : p .kind ≡ 178 → p .from + tripleSize * p .n ≡ at
   pub inside : p .ranked ≡ false → p .from + 1 + payloadLength (p .kind) ≤ length body
   pub apart : Distinct body (p .from) (p .known)
+  pub hashed : p .n < p .known → (p .kind ≡ 178) × (p .ranked ≡ true)
+  pub ahead : OneRank body (p .from) (p .n) (p .known) (p .rank)
+
+-- the data references passed and one more of their hash
+abbrev pub oneMore : Passed → ℕ → ℕ → Passed
+oneMore p own known = record { kind = 178; ranked = true; rank = own; from = p .from; n = p .n + 1; known = known }
 
 -- what the answer says of the reference that ends at `next`
 unfoldable pub Admitting : List ℕ → Passed → Ref → ℕ → Admitted → Type 0

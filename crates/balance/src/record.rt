@@ -3,22 +3,21 @@ use crate::together;
 use format::EXTENT_DATA_REF;
 use format::EXTENT_OWNER_REF;
 use inline_refs::Cursor;
-use inline_refs::RefName;
 use inline_refs::RefStep;
 ghost use mathlib.Core.Path.{_≡_};
-ghost use mathlib.Core.Bool.{false, not};
-ghost use Prim.Native.Nat.{_+_, _*_, _≤_};
+ghost use mathlib.Core.Bool.{false};
+ghost use Prim.Native.Nat.{_+_, _≤_};
 ghost use lib.Dec.{T};
 ghost use lib.ListN.{length, drop};
 ghost use Rattle.format.specs.Constants.{mostSheet};
 ghost use Rattle.format.specs.References.{kinds, known, payloadLength, countPosition, refAt, rank};
 ghost use Rattle.inline_refs.specs.Steps.{readFrom};
-ghost use Rattle.distinct_triples.specs.Triples.{tripleSize, Distinct};
-ghost use Rattle.balance.specs.Spans.{clear, lastRank, RunKept, Admitting, weighedOf, Light};
+ghost use Rattle.distinct_triples.specs.Triples.{tripleSize};
+ghost use Rattle.balance.specs.Spans.{lastRank, RunKept, oneMore, Admitting, weighedOf, Light};
 
 // The references passed last: their type, what they are ordered by, where the first of them stands, how many there are, and of
-// how many from the first on it is known that their triples differ. Only data references of one hash are more than one. The rank
-// of a reference is computed once another of its type stands beside it: `ranked` says whether it was.
+// how many from the first on it is known that they have that rank and that their triples differ. Only data references of one hash
+// are more than one. The rank of a reference is computed once another of its type stands beside it: `ranked` says whether it was.
 pub struct Run {
     pub kind: u8,
     pub ranked: bool,
@@ -40,37 +39,6 @@ pub enum Weighed {
     Bad,
 }
 
-// Whether the triple of the data reference at `at` stands among the `n` data references from `from` on.
-fn repeated(body: &[u8], from: usize, n: usize, at: usize) -> bool
-    requires { ⌜ (from + tripleSize * n ≤ at) × (at + tripleSize ≤ length (now body)) ⌝ }
-    ensures { λ r. ⌜ r ≡ not (clear (now (body .entry)) at from n) ⌝ }
-{
-    let wanted = RefName::Data(distinct_triples::triple_at(body, at + 1));
-    let size = distinct_triples::data_size();
-    let mut p = from;
-    let mut left = n;
-    while 0 < left {
-        if inline_refs::names(wanted, body, EXTENT_DATA_REF, p + 1) {
-            return true;
-        }
-        p += size;
-        left -= 1;
-    }
-    false
-}
-
-// The same where the first `known` data references from `from` on are known to differ, and `at` is where one more stands.
-fn stands_twice(body: &[u8], from: usize, n: usize, known: usize, at: usize) -> bool
-    requires { ⌜ (from + tripleSize * n ≡ at) × (at + tripleSize ≤ length (now body)) ⌝ }
-    requires { ⌜ Distinct (now body) from known ⌝ }
-    ensures { λ r. ⌜ r ≡ not (clear (now (body .entry)) at from n) ⌝ }
-{
-    if n < known {
-        return false;
-    }
-    repeated(body, from, n, at)
-}
-
 // What the references passed are ordered by.
 fn last_rank(body: &[u8], run: Run) -> u64
     requires { ⌜ T (known (run .kind)) × (run .ranked ≡ false → run .from + 1 + payloadLength (run .kind) ≤ length (now body)) ⌝ }
@@ -80,6 +48,21 @@ fn last_rank(body: &[u8], run: Run) -> u64
         return run.rank;
     }
     inline_refs::rank_at(body, run.kind, run.from + 1)
+}
+
+// The data references passed and one more of their hash.
+fn one_more(run: Run, own: u64, known: usize) -> Run
+    requires { ⌜ run .n ≤ mostSheet ⌝ }
+    ensures { λ r. ⌜ r ≡ oneMore run own known ⌝ }
+{
+    Run {
+        kind: EXTENT_DATA_REF,
+        ranked: true,
+        rank: own,
+        from: run.from,
+        n: run.n + 1,
+        known,
+    }
 }
 
 // A data reference whose hash is not below that of the data references passed, `last`.
@@ -101,31 +84,29 @@ fn join(
     if last < own {
         return Admitted::No;
     }
-    let known = together::known_in(body, run.from, run.n, run.known, own);
-    if stands_twice(body, run.from, run.n, known, at) {
+    let known = together::known_in(body, run.from, run.n, own);
+    if together::stands_twice(body, run.from, run.n, known, at) {
         return Admitted::No;
     }
-    let n = run.n + 1;
     Admitted::Yes {
-        run: Run {
-            kind: EXTENT_DATA_REF,
-            ranked: true,
-            rank: own,
-            from: run.from,
-            n,
-            known,
-        },
+        run: one_more(run, own, known),
         weight,
     }
 }
 
-// A reference of the type of those passed: the two are ordered by their ranks.
+// A reference of the type of those passed: they are ordered by their ranks.
 fn follow(body: &[u8], run: Run, at: usize, start: usize, weight: u32) -> Admitted
     requires { ⌜ T (known (run .kind)) × ((run .kind ≡ 172 → ⊥) × (weight ≡ 0 → ⊥)) ⌝ }
     requires { ⌜ (start ≡ at + 1) × ((start + payloadLength (run .kind) ≤ length (now body)) × RunKept (now body) run at) ⌝ }
     requires { ⌜ (weight ≡ refAt (run .kind) (drop start (now body)) .weight) × (length (now body) ≤ mostSheet) ⌝ }
     ensures { λ r. ⌜ Admitting (now (body .entry)) run (refAt (run .kind) (drop start (now (body .entry)))) (start + payloadLength (run .kind)) r ⌝ }
 {
+    if run.n < run.known {
+        return Admitted::Yes {
+            run: one_more(run, run.rank, run.known),
+            weight,
+        };
+    }
     let last = last_rank(body, run);
     let own = inline_refs::rank_at(body, run.kind, start);
     if own < last {

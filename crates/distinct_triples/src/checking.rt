@@ -109,12 +109,11 @@ fn first_repeat(body: &[u8], from: usize, n: usize, order: &[u16]) -> usize
     least
 }
 
-// How many of the n data references from `from` on, from the first on, are shown to have different triples: all, or those
-// before the first one whose triple stands twice. How far it gets is left open on purpose: the caller compares the others one by
-// one, so a lower number costs time and changes no answer.
-pub fn distinct_front(body: &[u8], from: usize, n: usize) -> usize
+// All n, where an order shows that their triples differ; else the number of the first one whose triple stands before it too. The
+// arrays are in the frame of this function alone: few callers get so far.
+fn differing(body: &[u8], from: usize, n: usize) -> usize
     requires { ⌜ (from + tripleSize * n ≤ length (now body)) × ((length (now body) ≤ mostSheet) × (n ≤ 2259)) ⌝ }
-    ensures { λ r. ⌜ Distinct (now (body .entry)) from r ⌝ }
+    ensures { λ r. ⌜ (r ≤ n) × (r ≡ n → Distinct (now (body .entry)) from n) ⌝ }
 {
     let mut order: [u16; 2260] = [0; 2260];
     let mut rank: [u16; 2260] = [0; 2260];
@@ -122,7 +121,24 @@ pub fn distinct_front(body: &[u8], from: usize, n: usize) -> usize
         return n;
     }
     let m = first_repeat(body, from, n, &order);
-    if distinct(body, from, m, &mut order, &mut rank) {
+    if m == n {
+        return 0;
+    }
+    m
+}
+
+// How many of the n data references from `from` on, from the first on, are shown to have different triples: all, or those
+// before the first one whose triple stands twice. How far it gets is left open on purpose: the caller compares the others one by
+// one, so a lower number costs time and changes no answer.
+pub fn distinct_front(body: &[u8], from: usize, n: usize) -> usize
+    requires { ⌜ (from + tripleSize * n ≤ length (now body)) × ((length (now body) ≤ mostSheet) × (n ≤ 2259)) ⌝ }
+    ensures { λ r. ⌜ (r ≤ n) × Distinct (now (body .entry)) from r ⌝ }
+{
+    let m = differing(body, from, n);
+    if m == n {
+        return n;
+    }
+    if differing(body, from, m) == m {
         return m;
     }
     0

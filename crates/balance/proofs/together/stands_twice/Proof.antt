@@ -3,8 +3,8 @@ use mathlib.Core.Path.{sym, ap}
 use mathlib.Core.Bool.{not}
 use Rattle.balance.proofs.Admits.{clear-by}
 use borrow.Author.Needs.{needs}
-use Rattle.balance.proofs.record.stands_twice.Statement.{statement}
-use Rattle.balance.proofs.record.stands_twice.Tie as tie
+use Rattle.balance.proofs.together.stands_twice.Statement.{statement}
+use Rattle.balance.proofs.together.stands_twice.Tie as tie
 
 returns : tie.Need-returns
 returns c =

@@ -8,8 +8,8 @@ use Rattle.distinct_triples.specs.Triples.{tripleSize}
 use Rattle.balance.specs.Spans.{clear}
 use Rattle.balance.proofs.Admits.{payload-178, known-178, clear-hit, clear-miss, clear-none}
 use borrow.Author.Needs.{needs}
-use Rattle.balance.proofs.record.repeated.Statement.{statement}
-use Rattle.balance.proofs.record.repeated.Tie as tie
+use Rattle.balance.proofs.together.repeated.Statement.{statement}
+use Rattle.balance.proofs.together.repeated.Tie as tie
 
 abbrev Inv-loop : tie.InvT-loop
 Inv-loop body from n at wanted size p₀ left₀ p left = (p + tripleSize * left ≡ from + tripleSize * n) × (clear body at p left ≡ clear body at from n)
