@@ -65,15 +65,31 @@ fn one_block() -> Vec<OwnedItem> {
 
 /// The longest records of data references that have one hash: each offset is the checksum's
 /// register after the inode, so that the register after both is always the same.
-fn one_hash(records: u64) -> Vec<OwnedItem> {
+fn one_hash(records: u64, shuffled: bool) -> Vec<OwnedItem> {
     let register = |inode: u64| {
         let step = |r: u32| if r & 1 == 1 { (r >> 1) ^ 0x82f6_3b78 } else { r >> 1 };
         let byte = |r: u32, b: u8| (0..8).fold(r ^ u32::from(b), |r, _| step(r));
         u64::from(inode.to_le_bytes().into_iter().fold(u32::MAX, byte))
     };
     let inline = (RECORD - 24) / 29;
-    let references: Vec<Vec<u8>> = (0..inline).map(|n| data_ref(5, n, register(n))).collect();
-    (1..=records).map(|n| record(4096 * n, references.len(), &references)).collect()
+    let mut references: Vec<Vec<u8>> = (0..inline).map(|n| data_ref(5, n, register(n))).collect();
+    let of = |n: u64, references: &mut Vec<Vec<u8>>| {
+        if shuffled {
+            shuffle(references);
+        }
+        record(4096 * n, references.len(), references)
+    };
+    (1..=records).map(|n| of(n, &mut references)).collect()
+}
+
+/// Always the same order, and none that a processor foresees.
+fn shuffle(references: &mut [Vec<u8>]) {
+    let mut state = 1u64;
+    for last in (1..references.len()).rev() {
+        state =
+            state.wrapping_mul(6_364_136_223_846_793_005).wrapping_add(1_442_695_040_888_963_407);
+        references.swap(last, (state >> 33) as usize % (last + 1));
+    }
 }
 
 /// The same behind a long record with types 176 and 182 by turns, so that keys fall at each second item.
@@ -99,9 +115,10 @@ pub fn table(bench: &mut Bench) {
         ("the same with its last byte cut off", 1, cut(&one_extent())),
         ("one extent, the longest record, as many block items as fit", 5, sheet(&one_block())),
         ("the same with types 176 and 182 by turns", 2, sheet(&by_turns())),
-        ("one longest record of data references that have one hash", 5, sheet(&one_hash(1))),
-        ("three such records", 5, sheet(&one_hash(3))),
-        ("the same with the last byte cut off", 1, cut(&one_hash(3))),
+        ("one longest record of data references that have one hash", 5, sheet(&one_hash(1, false))),
+        ("three such records", 5, sheet(&one_hash(3, false))),
+        ("three such records, each shuffled", 5, sheet(&one_hash(3, true))),
+        ("the same with its last byte cut off", 1, cut(&one_hash(3, true))),
     ];
     let mut usual = None;
     for (name, refusal, sheet) in lists {
