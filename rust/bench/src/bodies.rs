@@ -252,11 +252,4 @@ fn with_references(b: &mut Bench, count: u64) {
         || backref::drop_inline_tree_ref(169, &two, 5),
         |out, len| lent::backref_drop_inline_tree_ref(169, &two, 5, out, len).into(),
     );
-    let offsets = vec![0; 1];
-    b.row(
-        "transaction_held_only_by",
-        size,
-        || public::held_only_by(&data, 5, 257, &offsets),
-        |_, holds| lent::transaction_held_only_by(&data, 5, 257, &offsets, holds).into(),
-    );
 }

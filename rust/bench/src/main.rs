@@ -15,6 +15,8 @@ mod bodies;
 #[cfg(original_here)]
 mod growth;
 #[cfg(original_here)]
+mod held;
+#[cfg(original_here)]
 mod lists;
 mod measure;
 #[cfg(original_here)]
@@ -45,6 +47,7 @@ fn main() {
     #[cfg(original_here)]
     for _ in 0..passes {
         bodies::rows(&mut bench);
+        held::rows(&mut bench);
         lists::rows(&mut bench);
         postings::rows(&mut bench);
     }
