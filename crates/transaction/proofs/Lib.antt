@@ -2,6 +2,8 @@ pub mod Sizes
 pub mod Triples
 pub mod Singles
 pub mod Readings
+pub mod FileRefs
+pub mod Links
 pub mod Only
 pub mod ItemDrops
 pub mod RefDrops

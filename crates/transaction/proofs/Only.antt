@@ -20,7 +20,8 @@ use Rattle.format.proofs.Refs.{readRefs-enough}
 use Rattle.inline_refs.specs.Steps.{readFrom}
 use Rattle.inline_refs.specs.Scans.{refsIn}
 use Rattle.inline_refs.proofs.Notes.{Opens}
-use Rattle.transaction.specs.Counts.{allOf, sumOf, addsAt, isOurs, isOnce, isCounted, heldIn}
+use Rattle.transaction.specs.Counts.{allOf, sumOf, addsAt, isOfFile, isLent, isOurs, isOnce, isCounted, agrees, heldIn}
+use Rattle.transaction.proofs.Readings.{not-ours}
 
 pub at-total : (d : List ℕ) (n : ℕ) → n ≡ le (part 0 8 d) → n ≡ totalOf d
 unfolding totalOf
@@ -29,6 +30,27 @@ at-total d n e = e
 pub at-flags : (d : List ℕ) (n : ℕ) → n ≡ le (part 16 8 d) → n ≡ flagsOf d
 unfolding flagsOf
 at-flags d n e = e
+
+-- ---- references and offsets
+
+module _ (root ino : ℕ) (offsets : List ℕ) (x : Answer (List Ref)) where
+  pub agrees-ours : allOf (isOurs root ino offsets) x ≡ false → false ≡ agrees root ino offsets x
+  unfolding agrees
+  agrees-ours f = simp f
+
+  module _ (t : allOf (isOurs root ino offsets) x ≡ true) where
+    pub agrees-once : allOf (isOnce x) x ≡ false → false ≡ agrees root ino offsets x
+    unfolding agrees
+    agrees-once f = simp (t, f)
+
+    pub agrees-counted : (b : Bool) → allOf (isOnce x) x ≡ true → b ≡ all (isCounted x offsets) offsets → b ≡ agrees root ino offsets x
+    unfolding agrees
+    agrees-counted b f e = e ∙ simp (t, f)
+
+  pub agrees-not : allOf (isOfFile root ino) x ≡ false → false ≡ agrees root ino offsets x
+  agrees-not f = agrees-ours (not-ours root ino offsets x f)
+
+-- ---- the total and the flags
 
 module _ (root ino : ℕ) (offsets : List ℕ) (total flags : ℕ) (x : Answer (List Ref)) where
   pub held-total : (total ≡ length offsets → ⊥) → false ≡ heldIn root ino offsets total flags x
@@ -41,18 +63,12 @@ module _ (root ino : ℕ) (offsets : List ℕ) (total flags : ℕ) (x : Answer (
     held-flags g = simp (eq-eqb _ _ h, ne-eqb _ _ g)
 
     module _ (g : flags ≡ 1) where
-      pub held-ours : allOf (isOurs root ino offsets) x ≡ false → false ≡ heldIn root ino offsets total flags x
-      unfolding heldIn
-      held-ours f = simp (eq-eqb _ _ h, eq-eqb _ _ g, f)
+      pub held-agrees : (b : Bool) → b ≡ agrees root ino offsets x → b ≡ heldIn root ino offsets total flags x
+      unfolding heldIn agrees
+      held-agrees b e = e ∙ simp (eq-eqb _ _ h, eq-eqb _ _ g)
 
-      module _ (t : allOf (isOurs root ino offsets) x ≡ true) where
-        pub held-once : allOf (isOnce x) x ≡ false → false ≡ heldIn root ino offsets total flags x
-        unfolding heldIn
-        held-once f = simp (eq-eqb _ _ h, eq-eqb _ _ g, t, f)
-
-        pub held-counted : (b : Bool) → allOf (isOnce x) x ≡ true → b ≡ all (isCounted x offsets) offsets → b ≡ heldIn root ino offsets total flags x
-        unfolding heldIn
-        held-counted b f e = e ∙ simp (eq-eqb _ _ h, eq-eqb _ _ g, t, f)
+      pub held-not : allOf (isOfFile root ino) x ≡ false → false ≡ heldIn root ino offsets total flags x
+      held-not f = held-agrees false (agrees-not root ino offsets x f)
 
 -- ---- from the reading to the body
 
@@ -70,7 +86,7 @@ module _ (root ino : ℕ) (offsets : List ℕ) (flags : ℕ) where
 
   held-body : (total : ℕ) (fixed : List ℕ) (x : Answer (List Ref)) → heldIn root ino offsets total flags x
       ≡ heldBy root ino offsets flags (bind x (λ refs. accepted (record { total = total; fixed = fixed; refs = refs })))
-  unfolding heldIn heldBy bind allOf sumOf addsAt isOurs isOnce isCounted
+  unfolding heldIn heldBy bind allOf sumOf addsAt isOfFile isLent isOurs isOnce isCounted
   held-body total fixed (refused refusal) = no-read total (refused refusal) refl
   held-body total fixed absent = no-read total absent refl
   held-body total fixed remove = no-read total remove refl

@@ -2,18 +2,20 @@
 use mathlib.Core.Path.{_≡_, refl, sym, ap, _∙_, subst}
 use mathlib.Core.Bool.{Bool, true, false, _&&_}
 use mathlib.Core.List.{List, [], _∷_}
-use Prim.Native.Nat.{ℕ, _+_}
+use Prim.Native.Nat.{ℕ, _+_, _≤_}
+use native.Mathlib.Nat.{zero-add}
 use native.Mathlib.Omega.{arith}
-use lib.Dec.{T}
+use lib.Dec.{T, eqb, leb}
 use lib.ListN.{drop}
-use borrow.Author.Tests.{eq-eqb, ne-eqb}
-use Rattle.fields.proofs.Lists.{and-false}
+use borrow.Author.Tests.{eq-eqb, ne-eqb, eqb-true}
+use Rattle.fields.specs.Lists.{sum, all}
+use Rattle.fields.proofs.Lists.{by-test, and-false}
 use Rattle.format.specs.Questions.{Answer, refused, absent, remove, accepted, bind}
 use Rattle.format.specs.References.{Ref, refAt}
 use Rattle.format.specs.Bodies.{times, offsetOf}
 use Rattle.inline_refs.specs.Steps.{readFrom}
 use Rattle.inline_refs.proofs.Steps.{At}
-use Rattle.transaction.specs.Counts.{reads, allOf, sumOf, addsAt, isOnce, isCounted}
+use Rattle.transaction.specs.Counts.{reads, allOf, sumOf, addsAt, isOfFile, isLent, isOurs, isOnce, isCounted, agrees}
 
 -- ---- one more reference in front
 
@@ -106,3 +108,74 @@ module _ (x : Answer (List Ref)) (sum : ℕ) where
     pub counted-no : (sum ≡ t → ⊥) → isCounted x offsets o ≡ false
     unfolding isCounted
     counted-no h = ne-eqb _ _ (λ e. h (q ∙ e ∙ sym z))
+
+-- ---- an offset that shows that the references are not held
+
+all-spoilt : (p : Ref → Bool) (o : ℕ) (refs : List Ref) → 1 ≤ sum (addsAt o false) refs → ((r : Ref) → offsetOf r ≡ o → p r ≡ false) → all p refs ≡ false
+unfolding addsAt
+all-spoilt p o [] h f = absurd (omega arith)
+all-spoilt p o (r ∷ refs) h f =
+    by-test (eqb (offsetOf r) o)
+    (λ y. ap (λ (b : Bool). b && all p refs) (f r (eqb-true _ _ y)))
+    (λ y. ap (λ (b : Bool). p r && b) (all-spoilt p o refs (simp (y, zero-add) at h) f) ∙ and-false (p r))
+
+lent-spoilt : (p : ℕ → Bool) (o : ℕ) (l : List ℕ) → 1 ≤ times o l → p o ≡ false → all p l ≡ false
+lent-spoilt p o [] h f = absurd (omega arith)
+lent-spoilt p o (x ∷ l) h f =
+    by-test (eqb x o)
+    (λ y. ap (λ (b : Bool). b && all p l) (ap p (eqb-true _ _ y) ∙ f))
+    (λ y. ap (λ (b : Bool). p x && b) (lent-spoilt p o l (simp (y, zero-add) at h) f) ∙ and-false (p x))
+
+pub spoilt : (p : Ref → Bool) (o : ℕ) (x : Answer (List Ref)) → 1 ≤ sumOf (addsAt o false) x → ((r : Ref) → offsetOf r ≡ o → p r ≡ false) → allOf p x ≡ false
+unfolding allOf sumOf
+spoilt p o (refused refusal) h f = refl
+spoilt p o absent h f = refl
+spoilt p o remove h f = refl
+spoilt p o (accepted refs) h f = all-spoilt p o refs h f
+
+not-lent : (root ino : ℕ) (offsets : List ℕ) (o : ℕ) → times o offsets ≡ 0 → (r : Ref) → offsetOf r ≡ o → isOurs root ino offsets r ≡ false
+unfolding isOurs isLent
+not-lent root ino offsets o e r h =
+    let z : times (offsetOf r) offsets ≡ 0 = ap (λ (y : ℕ). times y offsets) h ∙ e in
+    ap (λ (b : Bool). isOfFile root ino r && b) (ap (leb 1) z) ∙ and-false (isOfFile root ino r)
+
+module _ (offsets : List ℕ) (o : ℕ) (x : Answer (List Ref)) (here : ℕ) (e : here ≡ sumOf (addsAt o false) x) (root ino : ℕ) where
+  pub denied-not-lent : times o offsets ≡ 0 → 1 ≤ here → agrees root ino offsets x ≡ false
+  unfolding agrees
+  denied-not-lent z h =
+      let f : allOf (isOurs root ino offsets) x ≡ false = spoilt (isOurs root ino offsets) o x (subst (λ (m : ℕ). 1 ≤ m) e h) (not-lent root ino offsets o z) in
+      rw f refl
+
+  pub denied-twice : 2 ≤ here → agrees root ino offsets x ≡ false
+  unfolding agrees isOnce
+  denied-twice h =
+      let l : 1 ≤ here = omega arith in
+      let n : here ≡ 1 → ⊥ = (λ d. omega arith) in
+      let f : allOf (isOnce x) x ≡ false =
+      spoilt (isOnce x) o x (subst (λ (m : ℕ). 1 ≤ m) e l)
+      (λ r d. ap (λ (y : ℕ). eqb (sumOf (addsAt y false) x) 1) d ∙ ne-eqb _ _ (λ q. n (e ∙ q))) in
+      ap (λ (b : Bool). allOf (isOurs root ino offsets) x && b && all (isCounted x offsets) offsets) f
+      ∙ ap (λ (b : Bool). b && all (isCounted x offsets) offsets) (and-false (allOf (isOurs root ino offsets) x))
+
+pub denied-counted : (offsets : List ℕ) (o : ℕ) (x : Answer (List Ref)) (root ino : ℕ) → 1 ≤ times o offsets → isCounted x offsets o ≡ false → agrees root ino offsets x ≡ false
+unfolding agrees
+denied-counted offsets o x root ino h f =
+    ap (λ (b : Bool). allOf (isOurs root ino offsets) x && allOf (isOnce x) x && b) (lent-spoilt (isCounted x offsets) o offsets h f)
+    ∙ and-false (allOf (isOurs root ino offsets) x && allOf (isOnce x) x)
+
+-- ---- references that are not all of the file
+
+all-not : (p q : Ref → Bool) → ((r : Ref) → p r ≡ false → q r ≡ false) → (refs : List Ref) → all p refs ≡ false → all q refs ≡ false
+all-not p q f [] e = e
+all-not p q f (r ∷ refs) e =
+    by-test (p r)
+    (λ y. ap (λ (b : Bool). q r && b) (all-not p q f refs (simp y at e)) ∙ and-false (q r))
+    (λ y. ap (λ (b : Bool). b && all q refs) (f r y))
+
+pub not-ours : (root ino : ℕ) (offsets : List ℕ) (x : Answer (List Ref)) → allOf (isOfFile root ino) x ≡ false → allOf (isOurs root ino offsets) x ≡ false
+unfolding allOf isOurs
+not-ours root ino offsets (refused refusal) e = refl
+not-ours root ino offsets absent e = refl
+not-ours root ino offsets remove e = refl
+not-ours root ino offsets (accepted refs) e =
+    all-not (isOfFile root ino) (isOurs root ino offsets) (λ r f. ap (λ (b : Bool). b && isLent offsets r) f) refs e

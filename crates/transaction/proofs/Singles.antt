@@ -1,24 +1,25 @@
 -- Laws of one offset and of one reference, tested where it stands. Assumes nothing.
-use mathlib.Core.Path.{_≡_, refl, sym, ap, _∙_}
+use mathlib.Core.Path.{_≡_, refl, sym, ap, _∙_, subst}
 use mathlib.Core.Bool.{Bool, true, false, cond}
 use mathlib.Core.List.{List, [], _∷_}
 use Prim.Native.Nat.{ℕ, suc, _+_, _≤_, _<_}
 use native.Mathlib.Numerals.{add-one}
 use native.Mathlib.Omega.{arith}
-use lib.Dec.{eqb, leb}
+use lib.Dec.{T, eqb, leb}
 use lib.ListN.{length, drop, getD, drop-of-length-le}
 use lib.Seq.{drop-cons}
-use borrow.Author.Tests.{eq-eqb, ne-eqb}
+use borrow.Author.Tests.{eq-eqb, ne-eqb, eqb-true}
 use Rattle.fields.specs.Lists.{all}
 use Rattle.fields.specs.Numbers.{le, words}
 use Rattle.fields.specs.Parts.{part}
+use Rattle.fields.proofs.Lists.{by-test}
 use Rattle.format.specs.References.{rowIn, payloadLength, countPosition, counted, fieldCount, Ref, refAt}
 use Rattle.format.specs.Bodies.{named, times, offsetOf}
 use Rattle.format.proofs.Rows.{Kind, k172, k176, k178, k182, k184}
 use Rattle.inline_refs.specs.declared.ref_name.RefName.the-variants.{Data}
 use Rattle.inline_refs.specs.Scans.{kindOf, fieldsOf}
 use Rattle.inline_refs.proofs.Tests.{triple-words}
-use Rattle.transaction.specs.Counts.{isOurs, addsAt}
+use Rattle.transaction.specs.Counts.{isOfFile, isLent, isOurs, addsAt}
 
 -- ---- a test that is asked by its contrary
 
@@ -74,16 +75,22 @@ module _ (r : Ref) (x : ℕ) (e : x ≡ offsetOf r) where
     unfolding addsAt
     adds-one h t = simp (← e, eq-eqb _ _ h, t)
 
-  module _ (root ino : ℕ) (offsets : List ℕ) (b : Bool)
+  module _ (root ino : ℕ) (b : Bool)
       (q : b ≡ named (kindOf (Data (record { tree = root; objectid = ino; offset = x }))) (fieldsOf (Data (record { tree = root; objectid = ino; offset = x }))) r) where
-    ours-named : named 178 (root ∷ ino ∷ offsetOf r ∷ []) r ≡ b
-    unfolding kindOf fieldsOf
-    ours-named = ap (λ (y : ℕ). named 178 (root ∷ ino ∷ y ∷ []) r) (sym e) ∙ sym q
+    pub of-file : b ≡ isOfFile root ino r
+    unfolding kindOf fieldsOf isOfFile
+    of-file = q ∙ ap (λ (y : ℕ). named 178 (root ∷ ino ∷ y ∷ []) r) e
 
-    pub ours-no : b ≡ false → false ≡ isOurs root ino offsets r
-    unfolding isOurs
-    ours-no f = rw (ours-named, f) refl
+module _ (r : Ref) (root ino : ℕ) (offsets : List ℕ) (b : Bool) (q : b ≡ isOfFile root ino r) where
+  pub ours-no : b ≡ false → false ≡ isOurs root ino offsets r
+  unfolding isOurs
+  ours-no f = rw (← q, f) refl
 
-    pub ours-is : (t : ℕ) → b ≡ true → t ≡ times x offsets → leb 1 t ≡ isOurs root ino offsets r
-    unfolding isOurs
-    ours-is t f z = rw (ours-named, f) (ap (leb 1) (z ∙ ap (λ (y : ℕ). times y offsets) e))
+  pub ours-is : (x t : ℕ) → x ≡ offsetOf r → b ≡ true → t ≡ times x offsets → leb 1 t ≡ isOurs root ino offsets r
+  unfolding isOurs isLent
+  ours-is x t e f z = rw (← q, f) (ap (leb 1) (z ∙ ap (λ (y : ℕ). times y offsets) e))
+
+pub of-file-kind : (root ino k : ℕ) (l : List ℕ) → isOfFile root ino (refAt k l) ≡ true → k ≡ 178
+unfolding isOfFile named refAt
+of-file-kind root ino k l e =
+    by-test (eqb k 178) (λ y. eqb-true _ _ y) (λ y. let z : false ≡ true = simp y at e in absurd (subst T (sym z) tt))

@@ -27,9 +27,16 @@ sumOf f absent = 0
 sumOf f remove = 0
 sumOf f (accepted refs) = sum f refs
 
+-- a data reference of that root and inode
+unfoldable pub isOfFile : ℕ → ℕ → Ref → Bool
+isOfFile root ino r = named 178 (root ∷ ino ∷ offsetOf r ∷ []) r
+
+unfoldable pub isLent : List ℕ → Ref → Bool
+isLent offsets r = leb 1 (times (offsetOf r) offsets)
+
 -- a data reference of that root and inode, at one of the lent offsets
 unfoldable pub isOurs : ℕ → ℕ → List ℕ → Ref → Bool
-isOurs root ino offsets r = named 178 (root ∷ ino ∷ offsetOf r ∷ []) r && leb 1 (times (offsetOf r) offsets)
+isOurs root ino offsets r = isOfFile root ino r && isLent offsets r
 
 -- what a reference adds to the sum at an offset: its weight, or 1
 unfoldable pub addsAt : ℕ → Bool → Ref → ℕ
@@ -42,6 +49,11 @@ isOnce refs r = eqb (sumOf (addsAt (offsetOf r) false) refs) 1
 -- an offset is counted as often as it was lent
 unfoldable pub isCounted : Answer (List Ref) → List ℕ → ℕ → Bool
 isCounted refs offsets offset = eqb (sumOf (addsAt offset true) refs) (times offset offsets)
+
+-- what is asked of the references and the offsets, once total and flags are right
+unfoldable pub agrees : ℕ → ℕ → List ℕ → Answer (List Ref) → Bool
+agrees root ino offsets refs =
+    allOf (isOurs root ino offsets) refs && allOf (isOnce refs) refs && all (isCounted refs offsets) offsets
 
 unfoldable pub heldIn : ℕ → ℕ → List ℕ → ℕ → ℕ → Answer (List Ref) → Bool
 heldIn root ino offsets total bits refs =

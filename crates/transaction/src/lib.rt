@@ -6,6 +6,8 @@ mod drop_kept;
 mod drop_refs;
 mod drops;
 mod held;
+mod held_counts;
+mod held_links;
 mod held_offsets;
 mod held_reference;
 mod held_sums;

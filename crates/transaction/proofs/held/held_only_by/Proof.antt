@@ -17,7 +17,7 @@ held-from-requires c κs =
     let first = c .before .before .before in
     let a = first .before .before .before .before .before .args in
     let w = opens 168 (now (a .body)) _ (sym (c .before .start .given .1) ∙ first .open-body .ensures) in
-    (w .long, w .fits)
+    ((w .long, w .fits), (w .inside, first .before .if2 .left))
 
 returns-3 : tie.Need-returns-3
 returns-3 c =

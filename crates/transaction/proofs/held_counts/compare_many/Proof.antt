@@ -1,0 +1,16 @@
+use Prim.Native.Nat.{_+_, _*_, _≤_, _<_}
+use native.Mathlib.Omega.{arith}
+use lib.ListN.{getD-replicate}
+use borrow.Author.Needs.{needs}
+use Rattle.transaction.proofs.held_counts.compare_many.Statement.{statement}
+use Rattle.transaction.proofs.held_counts.compare_many.Tie as tie
+
+compare-by-requires : tie.Need-compare-by-requires
+compare-by-requires c κs =
+    let s = c .before .before .before .before in
+    let inside : s .args .n ≤ 2259 = omega arith in
+    let few : 4093 + 4 * s .args .n ≤ 13129 = omega (arith, inside) in
+    (s .pre .0, ((few, s .pre .1), (inside, record { none = λ k h. let l : k < 2259 = omega arith in getD-replicate 2259 k 0 0 l })))
+
+pub compare-many-spec : {M : Type 1} → statement M
+compare-many-spec = tie.close (tie.spec (λ c. search needs) (λ c. search needs) compare-by-requires (λ c. search needs))
