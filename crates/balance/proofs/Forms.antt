@@ -38,14 +38,14 @@ module _ (i : Item) where
           simp (eq-eqb _ _ k, ne-eqb _ _ n, and-false)
 
       pub data-form : (weight : ℕ) (d : DataRef) → length (i .bytes) ≡ 28 → own-rank ≡ i .key .offset → weight ≡ le (part 24 4 (i .bytes))
-          → triple d ≡ words 3 (drop 0 (i .bytes)) → Naming i (Of weight (Data d))
+          → triple d ≡ words 3 (drop 0 (i .bytes)) → Naming i (Of weight own-rank (Data d))
       unfolding Naming viewRefItem inForm kindOf fieldsOf refAt fieldCount counted countPosition rowIn weightOf rank
       data-form weight d l o w t =
           let q : i .key .offset ≡ rank (refAt 178 (i .bytes)) = sym o ∙ e in
           record {
             says = simp (eq-eqb _ _ k, eq-eqb _ _ l, eq-eqb _ _ q) (ap₂ (λ (f : List ℕ) (n : ℕ). reference (makeRef 178 f n)) (sym t) (sym w));
             kind = sym k;
-            rank = q ∙ ap (rankOf 178) (sym t);
+            rank-is = e ∙ ap (rankOf 178) (sym t);
           }
 
   module _ (k : i .key .kind ≡ 178 → ⊥) where
@@ -54,14 +54,14 @@ module _ (i : Item) where
       unfolding Naming viewRefItem inForm
       shared-short h = simp (ne-eqb _ _ k, eq-eqb _ _ m, ne-eqb _ _ h)
 
-      pub shared-form : (weight : ℕ) → length (i .bytes) ≡ 4 → weight ≡ le (part 0 4 (i .bytes)) → Naming i (Of weight (SharedData (i .key .offset)))
+      pub shared-form : (weight : ℕ) → length (i .bytes) ≡ 4 → weight ≡ le (part 0 4 (i .bytes)) → Naming i (Of weight (i .key .offset) (SharedData (i .key .offset)))
       unfolding Naming viewRefItem inForm kindOf fieldsOf rankOf
       shared-form weight l w =
           let a : take 4 (i .bytes) ≡ i .bytes = take-all 4 (i .bytes) (omega arith) in
           record {
             says = simp (ne-eqb _ _ k, eq-eqb _ _ m, eq-eqb _ _ l) (ap (λ (n : ℕ). reference (makeRef 184 (one (i .key .offset)) n)) (sym (w ∙ ap le a)));
             kind = sym m;
-            rank = refl;
+            rank-is = refl;
           }
 
     module _ (m : i .key .kind ≡ 184 → ⊥) where
@@ -69,19 +69,19 @@ module _ (i : Item) where
       unfolding Naming viewRefItem inForm
       plain-long h = simp (ne-eqb _ _ k, ne-eqb _ _ m, ne-eqb _ _ h)
 
-      plain-form : (w : RefName) → kindOf w ≡ i .key .kind → fieldsOf w ≡ one (i .key .offset) → length (i .bytes) ≡ 0 → Naming i (Of 1 w)
+      plain-form : (w : RefName) → kindOf w ≡ i .key .kind → fieldsOf w ≡ one (i .key .offset) → length (i .bytes) ≡ 0 → Naming i (Of 1 (i .key .offset) w)
       unfolding Naming viewRefItem inForm rankOf
       plain-form w p q l = record {
         says = simp (ne-eqb _ _ k, ne-eqb _ _ m, eq-eqb _ _ l) (ap₂ (λ (n : ℕ) (f : List ℕ). reference (makeRef n f 1)) (sym p) (sym q));
         kind = p;
-        rank = rw (p, q) (simp (ne-eqb _ _ k));
+        rank-is = rw (p, q) (simp (ne-eqb _ _ k));
       }
 
-      pub block-form : i .key .kind ≡ 176 → length (i .bytes) ≡ 0 → Naming i (Of 1 (Block (record { tree = i .key .offset })))
+      pub block-form : i .key .kind ≡ 176 → length (i .bytes) ≡ 0 → Naming i (Of 1 (i .key .offset) (Block (record { tree = i .key .offset })))
       unfolding kindOf fieldsOf
       block-form e l = plain-form (Block (record { tree = i .key .offset })) (sym e) refl l
 
-      pub parent-form : T (isRefItem i) → (i .key .kind ≡ 176 → ⊥) → length (i .bytes) ≡ 0 → Naming i (Of 1 (SharedBlock (i .key .offset)))
+      pub parent-form : T (isRefItem i) → (i .key .kind ≡ 176 → ⊥) → length (i .bytes) ≡ 0 → Naming i (Of 1 (i .key .offset) (SharedBlock (i .key .offset)))
       unfolding kindOf fieldsOf
       parent-form t n l = plain-form (SharedBlock (i .key .offset)) (go (naming-of i t)) refl l
         where

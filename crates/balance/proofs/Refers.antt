@@ -44,9 +44,9 @@ span-known body start s i t f e = f (λ z. let h = above-172 (i .key .kind) (nam
 pub stride-is : (size kind other : ℕ) → size ≡ 1 + payloadLength kind → other ≡ kind → size ≡ 1 + payloadLength other
 stride-is size kind other e q = e ∙ ap (λ (k : ℕ). 1 + payloadLength k) (sym q)
 
-pub named-form : (i : Item) (r : Named) (weight : ℕ) (w : RefName) → r ≡ Of weight w → Naming i r → NamedBy i weight w
+pub named-form : (i : Item) (r : Named) (weight rank : ℕ) (w : RefName) → r ≡ Of weight rank w → Naming i r → NamedBy i weight rank w
 unfolding Naming
-named-form i r weight w e n = subst (Naming i) e n
+named-form i r weight rank w e n = subst (Naming i) e n
 
 never : {A : Type 0} (a b : Bool) (x : A) → cond (a && (b && false)) (some x) none ≡ none
 never true true x = refl
@@ -71,12 +71,12 @@ module _ (s : List ℕ) (g : Group) (at next : ℕ) (key : Key) (isRef : T (isRe
     unmarked : (v : View) → viewOf it ≡ v → (n : Named) → Naming it n → taken (tallyOf s g) (viewOf it) ≡ none
     unfolding Naming taken tallyOf
     unmarked v e NoForm n = ap (taken (tallyOf s g)) (view-is ∙ n)
-    unmarked v e (Of weight w) n = ap (taken (tallyOf s g)) (view-is ∙ n .says) ∙ rw m refl
+    unmarked v e (Of weight rank w) n = ap (taken (tallyOf s g)) (view-is ∙ n .says) ∙ rw m refl
 
     pub name-unmarked : (h : Group) → h .fair ≡ false → (n : Named) → Naming it n → Taking s g it next h
     name-unmarked h u n q = taken-unfair s g it next h u (unmarked (viewOf it) refl n q)
 
-  module _ (weight : ℕ) (w : RefName) (n : NamedBy it weight w) where
+  module _ (weight rank : ℕ) (w : RefName) (n : NamedBy it weight rank w) where
     abbrev named-ref : Ref
     named-ref = makeRef (kindOf w) (fieldsOf w) weight
 

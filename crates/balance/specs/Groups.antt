@@ -25,14 +25,14 @@ itemOf s at next key = record { key = key; bytes = part (at + 21) (next - (at + 
 
 -- ---- a reference as an item
 
-pub record NamedBy (i : Item) (weight : ℕ) (wanted : RefName) : Type 0 where
+pub record NamedBy (i : Item) (weight rank : ℕ) (wanted : RefName) : Type 0 where
   pub says : viewRefItem i ≡ reference (makeRef (kindOf wanted) (fieldsOf wanted) weight)
   pub kind : kindOf wanted ≡ i .key .kind
-  pub rank : i .key .offset ≡ rankOf (kindOf wanted) (fieldsOf wanted)
+  pub rank-is : rank ≡ rankOf (kindOf wanted) (fieldsOf wanted)
 
 unfoldable pub Naming : Item → Named → Type 0
 Naming i NoForm = viewRefItem i ≡ malformed
-Naming i (Of weight wanted) = NamedBy i weight wanted
+Naming i (Of weight rank wanted) = NamedBy i weight rank wanted
 
 -- ---- the extent at hand
 

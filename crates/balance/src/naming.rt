@@ -26,12 +26,13 @@ fn take_name(
     key: Key,
     g: Group,
     weight: u32,
+    rank: u64,
     wanted: RefName,
 ) -> Group
     requires { ⌜ now rows ≡ kinds ⌝ }
     requires { ⌜ (at + itemHead ≤ next) × (next ≤ mostSheet) ⌝ }
     requires { ⌜ T (isRefItem (itemOf (now s) at next key)) × ((g .marked ≡ true) × GroupKept (now s) g at) ⌝ }
-    requires { ⌜ NamedBy (itemOf (now s) at next key) weight wanted ⌝ }
+    requires { ⌜ NamedBy (itemOf (now s) at next key) weight rank wanted ⌝ }
     ensures { λ r. ⌜ Taking (now (s .entry)) g (itemOf (now (s .entry)) at next key) next r ⌝ }
 {
     if weight == 0 {
@@ -42,8 +43,8 @@ fn take_name(
     let body = &s[from..to];
     let span = crate::span_for(rows, body, g.start, g.span, key.kind);
     let size = crate::stride(rows, key.kind);
-    let first = crate::first_below(body, size, span, key.offset);
-    if crate::stands(body, size, span, wanted, key.offset, first) {
+    let first = crate::first_below(body, size, span, rank);
+    if crate::stands(body, size, span, wanted, rank, first) {
         return group::unfair();
     }
     Group {
@@ -72,9 +73,13 @@ pub fn take_ref(rows: &[[u8; 3]; 5], s: &[u8], at: usize, next: usize, key: Key,
 {
     let from = at + ITEM_HEAD;
     match reference::name_of(key, &s[from..next]) {
-        Named::Of { weight, wanted } => {
+        Named::Of {
+            weight,
+            rank,
+            wanted,
+        } => {
             if g.marked {
-                return take_name(rows, s, at, next, key, g, weight, wanted);
+                return take_name(rows, s, at, next, key, g, weight, rank, wanted);
             }
             group::unfair()
         }

@@ -10,9 +10,13 @@ ghost use lib.Dec.{T};
 ghost use Rattle.format.specs.Names.{isRefItem};
 ghost use Rattle.balance.specs.Groups.{Naming};
 
-// What it weighs, and under which name; or that it is in no form of its type.
+// What it weighs, and under which name, with that name's rank; or that it is in no form of its type.
 pub enum Named {
-    Of { weight: u32, wanted: RefName },
+    Of {
+        weight: u32,
+        rank: u64,
+        wanted: RefName,
+    },
     Bad,
 }
 
@@ -23,11 +27,13 @@ fn data_name(key: Key, payload: &[u8]) -> Named
     if payload.len() != 28 {
         return Named::Bad;
     }
-    if inline_refs::rank_at(payload, EXTENT_DATA_REF, 0) != key.offset {
+    let rank = inline_refs::rank_at(payload, EXTENT_DATA_REF, 0);
+    if rank != key.offset {
         return Named::Bad;
     }
     Named::Of {
         weight: fields::get_u32_le(payload, 24),
+        rank,
         wanted: RefName::Data(distinct_triples::triple_at(payload, 0)),
     }
 }
@@ -45,6 +51,7 @@ pub fn name_of(key: Key, payload: &[u8]) -> Named
         }
         return Named::Of {
             weight: fields::get_u32_le(payload, 0),
+            rank: key.offset,
             wanted: RefName::SharedData(key.offset),
         };
     }
@@ -54,11 +61,13 @@ pub fn name_of(key: Key, payload: &[u8]) -> Named
     if key.kind == TREE_BLOCK_REF {
         return Named::Of {
             weight: 1,
+            rank: key.offset,
             wanted: RefName::Block(BlockRef { tree: key.offset }),
         };
     }
     Named::Of {
         weight: 1,
+        rank: key.offset,
         wanted: RefName::SharedBlock(key.offset),
     }
 }

@@ -9,7 +9,7 @@ use Rattle.balance.proofs.naming.take_name.Tie as tie
 returns : tie.Need-returns
 returns c =
     let s = c .before .before .before in
-    name-light (now (s .args .s)) (s .args .g) (s .args .at) (s .args .next) (s .args .key) (s .pre .1 .1 .0 .0) _ _ (s .pre .1 .1 .1) _ (c .unfair .ensures) (c .before .if1 .taken)
+    name-light (now (s .args .s)) (s .args .g) (s .args .at) (s .args .next) (s .args .key) (s .pre .1 .1 .0 .0) _ _ _ (s .pre .1 .1 .1) _ (c .unfair .ensures) (c .before .if1 .taken)
 
 sub-body : tie.Need-sub-body
 sub-body c = let p = c .before .before .pre .1 .1 .0 .1 in omega (arith, p .1 .body (p .0) .order)
@@ -36,16 +36,16 @@ first-below-requires c κs = let sp = c .before .span-for .ensures in (stride-is
 stands-requires : tie.Need-stands-requires
 stands-requires c κs =
     let s = c .before .before .before .before .before .before in
-    (first-below-requires (c .before) κs, (s .pre .1 .1 .1 .rank, c .first-below .ensures))
+    (first-below-requires (c .before) κs, (s .pre .1 .1 .1 .rank-is, c .first-below .ensures))
 
 returns-2 : tie.Need-returns-2
 returns-2 c =
     let s = c .before .before .before .before .before .before .before .before .before in
     let sp = c .before .before .before .before .before .span-for .ensures in
-    name-twice (now (s .args .s)) (s .args .g) (s .args .at) (s .args .next) (s .args .key) (s .pre .1 .1 .0 .0) _ _ (s .pre .1 .1 .1) (s .pre .1 .1 .0 .1 .0) _ (sp .0) (sp .1) _ (c .unfair2 .ensures) (not-true _ _ (c .before .before .stands .ensures) (c .before .if2 .taken))
+    name-twice (now (s .args .s)) (s .args .g) (s .args .at) (s .args .next) (s .args .key) (s .pre .1 .1 .0 .0) _ _ _ (s .pre .1 .1 .1) (s .pre .1 .1 .0 .1 .0) _ (sp .0) (sp .1) _ (c .unfair2 .ensures) (not-true _ _ (c .before .before .stands .ensures) (c .before .if2 .taken))
 
-add-t21 : tie.Need-add-t21
-add-t21 c =
+add-t22 : tie.Need-add-t22
+add-t22 c =
     let s = c .before .before .before .before .before .before .before .before .before in
     omega (arith, s .pre .1 .1 .0 .1 .1 .light, s .pre .1 .0 .0, s .pre .1 .0 .1)
 
@@ -53,10 +53,10 @@ returns-3 : tie.Need-returns-3
 returns-3 c =
     let s = c .before .before .before .before .before .before .before .before .before in
     let sp = c .before .before .before .before .before .span-for .ensures in
-    name-good (now (s .args .s)) (s .args .g) (s .args .at) (s .args .next) (s .args .key) (s .pre .1 .1 .0 .0) _ _ (s .pre .1 .1 .1) (s .pre .1 .1 .0 .1 .0) _ (sp .0) (sp .1) (s .pre .1 .1 .0 .1 .1) (s .pre .1 .0 .0) (omega arith)
+    name-good (now (s .args .s)) (s .args .g) (s .args .at) (s .args .next) (s .args .key) (s .pre .1 .1 .0 .0) _ _ _ (s .pre .1 .1 .1) (s .pre .1 .1 .0 .1 .0) _ (sp .0) (sp .1) (s .pre .1 .1 .0 .1 .1) (s .pre .1 .0 .0) (omega arith)
     (c .before .before .before .first-below .result) (c .before .before .before .before .before .before .before .if1 .left) (not-false _ _ (c .before .before .stands .ensures) (c .before .if2 .left))
 
 pub take-name-spec : {M : Type 1} → statement M
 take-name-spec =
     tie.close
-    (tie.spec (λ c κs. search needs) returns sub-body part-body-start part-body-end span-for-requires stride-requires first-below-requires stands-requires (λ c κs. search needs) returns-2 add-t21 returns-3)
+    (tie.spec (λ c κs. search needs) returns sub-body part-body-start part-body-end span-for-requires stride-requires first-below-requires stands-requires (λ c κs. search needs) returns-2 add-t22 returns-3)

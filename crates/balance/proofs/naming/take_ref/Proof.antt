@@ -8,7 +8,7 @@ take-name-requires : tie.Need-take-name-requires
 take-name-requires c κs =
     let s = c .before .before .before .before .before .before .before in
     let p = s .pre .1 in
-    (s .pre .0, ((p .0 .0, p .0 .1 .1), ((p .1 .0, (c .if1 .taken, p .1 .1)), named-form _ _ _ _ (c .before .before .weight .given .1) (c .before .before .before .before .name-of .ensures))))
+    (s .pre .0, ((p .0 .0, p .0 .1 .1), ((p .1 .0, (c .if1 .taken, p .1 .1)), named-form _ _ _ _ _ (c .before .before .weight .given .1) (c .before .before .before .before .name-of .ensures))))
 
 returns-2 : tie.Need-returns-2
 returns-2 c =
