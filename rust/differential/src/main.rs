@@ -1,13 +1,15 @@
 //! The differential run. The last line is 'N passed, M failed'; what was left out stands before it.
 //!
-//!     differential               every call; DIFFERENTIAL_SECONDS (100) is the time in all
+//!     differential               every call; DIFFERENTIAL_SECONDS (100) is the time of all together
 //!     differential --only CALL   one call
 //!     differential --replay      the original's recorded answers alone
 //!     differential --record      writes recorded/answers.txt from the original
 //!
 //! Each call runs in a process of its own: a read past a lent slice ends that process alone.
 use differential::{compare, differences, generate, histories, recorded, swapped, verdict};
-use std::process::{Command, ExitCode};
+use std::process::{Command, ExitCode, Output};
+use std::sync::atomic::{AtomicUsize, Ordering};
+use std::sync::Mutex;
 use std::time::Duration;
 
 fn main() -> ExitCode {
@@ -57,14 +59,10 @@ fn all(seconds: f64) -> ExitCode {
             .into()]);
     }
     count.lines(archive_faults(extent_refs::LINKED, extent_refs::MISSING));
-    // A share for each call, and one each for the recorded answers, the histories and the swap.
+    // A share for each call, and one each for the recorded answers, the histories and the swap. As many calls are
+    // compared at once as there are processors, each in a process of its own.
     let share = seconds / (calls.len() + 3) as f64;
-    for call in calls {
-        let run = Command::new(std::env::current_exe().expect("this program"))
-            .args(["--only", call])
-            .env("DIFFERENTIAL_SECONDS", share.to_string())
-            .output()
-            .expect("this program runs");
+    for (call, run) in calls.iter().zip(side_by_side(&calls, share)) {
         let text = String::from_utf8_lossy(&run.stdout).into_owned();
         count.lines(text.lines().map(str::to_string));
         if !run.status.success() || text.is_empty() {
@@ -77,6 +75,30 @@ fn all(seconds: f64) -> ExitCode {
     count.lines(histories(Duration::from_secs_f64(share)));
     count.lines(swapped(Duration::from_secs_f64(share)));
     count.sum()
+}
+
+/// What each call's own process printed, in the order of the calls.
+fn side_by_side(calls: &[&str], share: f64) -> Vec<Output> {
+    let workers = std::thread::available_parallelism().map_or(1, |n| n.get());
+    let next = AtomicUsize::new(0);
+    let done = Mutex::new(Vec::new());
+    std::thread::scope(|scope| {
+        for _ in 0..workers {
+            scope.spawn(|| loop {
+                let at = next.fetch_add(1, Ordering::Relaxed);
+                let Some(call) = calls.get(at) else { return };
+                let run = Command::new(std::env::current_exe().expect("this program"))
+                    .args(["--only", call])
+                    .env("DIFFERENTIAL_SECONDS", share.to_string())
+                    .output()
+                    .expect("this program runs");
+                done.lock().expect("no worker stopped").push((at, run));
+            });
+        }
+    });
+    let mut done = done.into_inner().expect("no worker stopped");
+    done.sort_by_key(|(at, _)| *at);
+    done.into_iter().map(|(_, run)| run).collect()
 }
 
 /// Without an archive, or with one that lacks a call, something was not compared.
