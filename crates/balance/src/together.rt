@@ -9,8 +9,8 @@ ghost use Rattle.distinct_triples.specs.Triples.{tripleSize, Distinct};
 ghost use Rattle.format.specs.Constants.{mostSheet};
 ghost use Rattle.balance.specs.Spans.{clear, OneRank};
 
-// Up to so many are compared each with each, which takes less time than to sort them.
-const FEW: usize = 64;
+// Up to so many are compared each with each, which takes less time than to put them in chains.
+const FEW: usize = 32;
 
 // Whether the triple of the data reference at `at` stands among the `n` data references from `from` on.
 fn repeated(body: &[u8], from: usize, n: usize, at: usize) -> bool

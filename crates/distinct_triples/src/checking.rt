@@ -1,4 +1,5 @@
-// Whether an order of the references shows that their triples differ.
+// Whether chains or an order of the references show that their triples differ.
+use crate::chains;
 use crate::sorting;
 use crate::triples;
 ghost use mathlib.Core.Path.{_≡_};
@@ -109,18 +110,22 @@ fn first_repeat(body: &[u8], from: usize, n: usize, order: &[u16]) -> usize
     least
 }
 
-// All n, where an order shows that their triples differ; else the number of the first one whose triple stands before it too. The
-// arrays are in the frame of this function alone: few callers get so far.
+// All n, where chains or an order show that their triples differ; else the number of the first one whose triple stands before it too.
+// The arrays are in the frame of this function alone: few callers get so far. They hold the chains, and then the order and the ranks.
 fn differing(body: &[u8], from: usize, n: usize) -> usize
     requires { ⌜ (from + tripleSize * n ≤ length (now body)) × ((length (now body) ≤ mostSheet) × (n ≤ 2259)) ⌝ }
     ensures { λ r. ⌜ (r ≤ n) × (r ≡ n → Distinct (now (body .entry)) from n) ⌝ }
 {
-    let mut order: [u16; 2260] = [0; 2260];
-    let mut rank: [u16; 2260] = [0; 2260];
-    if distinct(body, from, n, &mut order, &mut rank) {
+    let mut heads: [u16; 4096] = [0; 4096];
+    let mut links: [u16; 2260] = [0; 2260];
+    let reached = chains::front(body, from, n, &mut heads, &mut links);
+    if reached.left != 0 {
+        return reached.at;
+    }
+    if distinct(body, from, n, &mut links, &mut heads) {
         return n;
     }
-    let m = first_repeat(body, from, n, &order);
+    let m = first_repeat(body, from, n, &links);
     if m == n {
         return 0;
     }
