@@ -21,18 +21,18 @@ abbrev pub chainAt : List ℕ → ℕ → ℕ → ℕ
 chainAt body from i = chainOf (tripleOf body from i)
 
 -- below number i, `at` leads into a chain: one higher than the number of its last reference, 0 where there is none
-pub record Leads (body : List ℕ) (from at chain i : ℕ) : Type 0 where
+pub record LeadsBack (body : List ℕ) (from at chain i : ℕ) : Type 0 where
   pub inside : at ≤ i
   pub own : (p : ℕ) → at ≡ suc p → chainAt body from p ≡ chain
   pub none : (j : ℕ) → at ≤ j → j < i → chainAt body from j ≡ chain → ⊥
 
 -- each of the first i references has a link into its own chain below it
 pub record Linked (body : List ℕ) (from : ℕ) (links : List ℕ) (i : ℕ) : Type 0 where
-  pub leads : (p : ℕ) → p < i → Leads body from (getD links p 0) (chainAt body from p) p
+  pub leads : (p : ℕ) → p < i → LeadsBack body from (getD links p 0) (chainAt body from p) p
 
 -- each head leads into its chain below number i
 pub record Headed (body : List ℕ) (from : ℕ) (heads : List ℕ) (i : ℕ) : Type 0 where
-  pub leads : (chain : ℕ) → Leads body from (getD heads chain 0) chain i
+  pub leads : (chain : ℕ) → LeadsBack body from (getD heads chain 0) chain i
 
 -- none of those from `at` up to number i has its triple, and `at` leads on in its chain
 pub record Walked (body : List ℕ) (from at i : ℕ) : Type 0 where
@@ -41,5 +41,5 @@ pub record Walked (body : List ℕ) (from at i : ℕ) : Type 0 where
   pub differ : (j : ℕ) → at ≤ j → j < i → same (tripleOf body from j) (tripleOf body from i) ≡ false
 
 -- none before number i has its triple
-pub record Single (body : List ℕ) (from i : ℕ) : Type 0 where
+pub record Unrepeated (body : List ℕ) (from i : ℕ) : Type 0 where
   pub differ : (j : ℕ) → j < i → same (tripleOf body from j) (tripleOf body from i) ≡ false

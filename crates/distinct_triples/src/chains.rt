@@ -9,7 +9,7 @@ ghost use lib.ListN.{length};
 ghost use Rattle.format.specs.Constants.{mostSheet};
 ghost use Rattle.format.specs.Bodies.{triple};
 ghost use Rattle.distinct_triples.specs.Triples.{tripleSize, Distinct};
-ghost use Rattle.distinct_triples.specs.Chains.{folded, chainOf, chainAt, Leads, Linked, Headed, Single};
+ghost use Rattle.distinct_triples.specs.Chains.{folded, chainOf, chainAt, LeadsBack, Linked, Headed, Unrepeated};
 
 // How far it got, and how many comparisons were then left.
 pub struct Reached {
@@ -38,8 +38,8 @@ fn chain_of(t: DataRef) -> usize
 fn walk(body: &[u8], from: usize, i: usize, links: &[u16], first: usize, most: usize) -> Reached
     requires { ⌜ (from + tripleSize * i + tripleSize ≤ length (now body)) × (length (now body) ≤ mostSheet) ⌝ }
     requires { ⌜ (i ≤ length (now links)) × Linked (now body) from (now links) i ⌝ }
-    requires { ⌜ Leads (now body) from first (chainAt (now body) from i) i ⌝ }
-    ensures { λ r. ⌜ (r .at ≡ 0 → Single (now (body .entry)) from i) ⌝ }
+    requires { ⌜ LeadsBack (now body) from first (chainAt (now body) from i) i ⌝ }
+    ensures { λ r. ⌜ (r .at ≡ 0 → Unrepeated (now (body .entry)) from i) ⌝ }
 {
     let t = triples::triple_of(body, from, i);
     let mut at = first;
