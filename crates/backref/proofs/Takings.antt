@@ -1,4 +1,4 @@
--- A reference taken out of a body: how long the rest is, and what its plan answers. Assumes nothing.
+-- A shared reference taken out of a body: how long the rest is, and what its plan answers. Assumes nothing.
 use mathlib.Core.Path.{_≡_, refl, sym, ap, _∙_}
 use mathlib.Core.List.{List, _∷_, _++_}
 use Prim.Native.Nat.{ℕ, _≤_}
@@ -17,9 +17,6 @@ use Rattle.format.proofs.Refs.{refsBytes-append}
 use Rattle.format.proofs.Bodies.{fixed-long, length-bodyBytes, read-sound, bodyBytes-read}
 use Rattle.backref.specs.declared.plan.Plan.{Plan}
 use Rattle.backref.specs.Plans.{planAnswer, planTaken, PlannedTaken}
-use Rattle.inline_refs.specs.Scans.{kindOf, fieldsOf}
-use Rattle.inline_refs.specs.declared.ref_name.RefName.{RefName}
-use Rattle.backref.specs.Takes.{takeInline}
 use Rattle.backref.specs.Steps.{Whole}
 
 -- the body without one of its references
@@ -43,55 +40,31 @@ without-count absent count = refl
 without-count remove count = refl
 without-count (accepted rest) count = refl
 
--- as long as a body can be
-abbrev Long : List ℕ → Type 0
-Long bytes = (24 ≤ length bytes) × (length bytes ≤ 65535)
-
-module _ (type : ℕ) (d : List ℕ) (bytes : T (areBytes d)) (out : TakenOut) where
-  long : (kind : ℕ) (names : List ℕ)
-      → onBody type d (λ b.
-      bind (found (firstCut (named kind names) (b .refs))) (λ c.
-      accepted (record { bytes = bodyBytes (bodyWith b (b .total) (c .front ++ c .back)); count = c .hit .weight })))
-      ≡ accepted out
-      → Long (out .bytes)
-  unfolding onBody bodyFits
-  long kind names e =
-      let fit = ask-ok (leb (length d) 65535) 3 _ e in
-      let read = bind-ok (readBody type d) _ (fit .1) in
+module _ (type : ℕ) (d : List ℕ) (s : SharedRef) where
+  taken-length : T (areBytes d) → (out : TakenOut) → takeInlineShared type d s ≡ accepted out → (24 ≤ length (out .bytes)) × (length (out .bytes) ≤ 65535)
+  unfolding takeInlineShared onBody bodyFits
+  taken-length bytes out e =
+      let q₁ = ask-ok (sharedKind (s .kind)) 3 _ e in
+      let q₂ = ask-ok (leb (length d) 65535) 3 _ (q₁ .1) in
+      let read = bind-ok (readBody type d) _ (q₂ .1) in
       let b : Body = read .0 in
-      let hit = bind-ok (found (firstCut (named kind names) (b .refs))) _ (read .2) in
+      let hit = bind-ok (found (firstCut (named (s .kind) (one (s .parent))) (b .refs))) _ (read .2) in
       let c : Cut Ref = hit .0 in
-      let k : Found (named kind names) (b .refs) c = cut-some _ (b .refs) (found-ok _ (hit .1)) in
+      let k : Found (named (s .kind) (one (s .parent))) (b .refs) c = cut-some _ (b .refs) (found-ok _ (hit .1)) in
       let l = left-length type d bytes b (read .1) c (k .same) in
       let is = ap (λ (x : TakenOut). length (x .bytes)) (accepted-inj (hit .2)) in
-      let fits = leb→le (length d) 65535 (fit .0) in
+      let fits = leb→le (length d) 65535 (q₂ .0) in
       (omega (arith, is, l .0), omega (arith, is, l .1, fits))
 
-  taken-long : (w : RefName) → takeInline type d w ≡ accepted out → Long (out .bytes)
-  unfolding takeInline
-  taken-long w e = long (kindOf w) (fieldsOf w) e
-
-  shared-long : (s : SharedRef) → takeInlineShared type d s ≡ accepted out → Long (out .bytes)
-  unfolding takeInlineShared
-  shared-long s e = long (s .kind) (one (s .parent)) (ask-ok (sharedKind (s .kind)) 3 _ e .1)
-
-module _ (d : List ℕ) (plan : Plan) where
-  module _ (a : Answer TakenOut) (p : PlannedTaken plan d a) where
-    pub taken-says : planAnswer plan d ≡ bytesOf a
+  module _ (plan : Plan) (p : PlannedTaken plan d (takeInlineShared type d s)) where
+    pub taken-says : planAnswer plan d ≡ bytesOf (takeInlineShared type d s)
     unfolding planTaken
     taken-says = sym (without-count (planAnswer plan d) (plan .count)) ∙ ap (λ (x : Answer TakenOut). bytesOf x) (p .says)
 
-    whole-by : ((out : TakenOut) → a ≡ accepted out → Long (out .bytes)) → Whole plan d
+    pub taken-whole : T (areBytes d) → Whole plan d
     unfolding Whole
-    whole-by long rest e =
-        let out = bind-ok a _ (sym taken-says ∙ e) in
-        let l = long (out .0) (out .1) in
+    taken-whole bytes rest e =
+        let out = bind-ok (takeInlineShared type d s) _ (sym taken-says ∙ e) in
+        let l = taken-length bytes (out .0) (out .1) in
         let is = ap length (accepted-inj (out .2)) in
         (omega (arith, is, l .0), omega (arith, is, l .1))
-
-  module _ (type : ℕ) (bytes : T (areBytes d)) where
-    pub taken-whole : (w : RefName) → PlannedTaken plan d (takeInline type d w) → Whole plan d
-    taken-whole w p = whole-by _ p (λ out. taken-long type d bytes out w)
-
-    pub shared-whole : (s : SharedRef) → PlannedTaken plan d (takeInlineShared type d s) → Whole plan d
-    shared-whole s p = whole-by _ p (λ out. shared-long type d bytes out s)

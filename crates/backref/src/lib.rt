@@ -26,7 +26,6 @@ pub use calls::drop_inline_data_ref;
 pub use calls::drop_inline_tree_ref;
 pub use calls::take_inline_shared;
 pub use drop_plans::plan_drop;
-pub use drop_plans::plan_take;
 pub use further::plan_needed;
 pub use further::plan_reduced;
 pub use keyed::drop_keyed_data_ref;

@@ -21,9 +21,9 @@ use Rattle.format.specs.declared.SharedRef.{SharedRef}
 use Rattle.format.specs.declared.Key.{Key}
 use Rattle.format.specs.declared.Edited.{Edited}
 use Rattle.format.specs.declared.Edited.the-variants.{Refused as Denied}
-use Rattle.format.specs.Questions.{Answer, refused, absent, remove, accepted, ask, bind, needed, ifAbsent, held, TakenOut, Answered}
+use Rattle.format.specs.Questions.{Answer, refused, absent, remove, accepted, bind, needed, ifAbsent, held, TakenOut, Answered}
 use Rattle.format.specs.References.{known, rowIn, rankOf, makeRef}
-use Rattle.format.specs.Bodies.{one, lowerTotal, reduceTotal, dropInlineTreeRef, keyedCount, dropKeyedDataRef, sharedKind, takeInlineShared}
+use Rattle.format.specs.Bodies.{one, lowerTotal, reduceTotal, dropInlineTreeRef, dropInlineDataRef, keyedCount, dropKeyedDataRef, takeInlineShared}
 use Rattle.format.specs.Items.{Item, keyOf, heldSheet, putBack, without}
 use Rattle.format.specs.Sheets.{hasKey, deleted}
 use Rattle.format.specs.Apply.{isRecord, replaced, flagged, dropTreeRef}
@@ -43,7 +43,7 @@ use Rattle.backref.specs.declared.plan.Outcome.the-variants.{Absent}
 use Rattle.backref.specs.declared.plan.Plan.{Plan}
 use Rattle.backref.specs.Plans.{planAnswer, planTaken, Planned, PlannedTaken}
 use Rattle.backref.specs.Adds.{sharedRef}
-use Rattle.backref.specs.Takes.{dropNamed, takeInline}
+use Rattle.backref.specs.Takes.{dropNamed}
 use Rattle.backref.specs.Steps.{Reduces}
 use Rattle.backref.proofs.Reductions.{reduces-whole}
 use Rattle.backref.proofs.Takings.{taken-whole}
@@ -70,11 +70,11 @@ by-count absent count = refl
 by-count remove count = refl
 by-count (accepted rest) count = refl
 
-pub plan-taken : (type : ℕ) (body : List ℕ) (name : RefName) (taken r : Plan) → T (areBytes body)
-    → PlannedTaken taken body (takeInline type body name) → Reduces taken (taken .count) r → Planned r body (takenWhole type body name)
+pub plan-taken : (type : ℕ) (body : List ℕ) (name : SharedRef) (taken r : Plan) → T (areBytes body)
+    → PlannedTaken taken body (takeInlineShared type body name) → Reduces taken (taken .count) r → Planned r body (takenWhole type body name)
 unfolding planTaken
 plan-taken type body name taken r bytes p reduces =
-    let d = reduces-whole taken reduces body (taken-whole body taken type bytes name p) (p .inside) in
+    let d = reduces-whole taken reduces body (taken-whole type body name taken p bytes) (p .inside) in
     record {
       says = d .says ∙ by-count (planAnswer taken body) (taken .count)
           ∙ ap (λ (a : Answer TakenOut). bind a (λ out. reduceTotal (out .bytes) (out .count))) (p .says);
@@ -94,13 +94,13 @@ module _ (w : RefName) (p : Plan) (body : List ℕ) where
     unfolding droppedInline
     inline-data name e h = rw e (subst (λ (x : RefName). Planned p body (dropNamed type body x)) e h)
 
-    pub inline-shared-block : (parent : ℕ) → w ≡ SharedBlock parent → Planned p body (takenWhole type body w) → Planned p body (droppedInline w type body)
+    pub inline-shared-block : (parent : ℕ) → w ≡ SharedBlock parent → Planned p body (takenWhole type body (sharedRef 182 parent)) → Planned p body (droppedInline w type body)
     unfolding droppedInline
-    inline-shared-block parent e h = rw e (subst (λ (x : RefName). Planned p body (takenWhole type body x)) e h)
+    inline-shared-block parent e h = rw e h
 
-    pub inline-shared-data : (parent : ℕ) → w ≡ SharedData parent → Planned p body (takenWhole type body w) → Planned p body (droppedInline w type body)
+    pub inline-shared-data : (parent : ℕ) → w ≡ SharedData parent → Planned p body (takenWhole type body (sharedRef 184 parent)) → Planned p body (droppedInline w type body)
     unfolding droppedInline
-    inline-shared-data parent e h = rw e (subst (λ (x : RefName). Planned p body (takenWhole type body x)) e h)
+    inline-shared-data parent e h = rw e h
 
   module _ (item : List ℕ) where
     pub total-block : (name : BlockRef) → w ≡ Block name → Planned p body (lowerTotal body) → Planned p body (loweredTotal w item body)
@@ -208,8 +208,7 @@ module _ (items : List Item) (c : Cut Item) where
   unfolding dropDataRef droppedInline loweredTotal itemDrop kindOf fieldsOf
   one-data name = refl
 
-  one-shared : (name : SharedRef) (w : RefName)
-      → droppedInline w (c .hit .key .kind) (c .hit .bytes) ≡ bind (takeInlineShared (c .hit .key .kind) (c .hit .bytes) name) (λ out. reduceTotal (out .bytes) (out .count))
+  one-shared : (name : SharedRef) (w : RefName) → droppedInline w (c .hit .key .kind) (c .hit .bytes) ≡ takenWhole (c .hit .key .kind) (c .hit .bytes) name
       → own-key w ≡ keyOf (c .hit .key .objectid) (name .kind) (name .parent)
       → ((k : Cut Item) → k .hit .key .kind ≡ name .kind
       → bind (reduceTotal (c .hit .bytes) (sharedCount (k .hit))) (λ body. replaced (c .hit .key) body (without k)) ≡ at-item w k)
@@ -224,7 +223,7 @@ module _ (items : List Item) (c : Cut Item) where
       ∙ ap (λ (x : Key). bind (needed 5 (firstCut (hasKey x) items)) (at-item w)) (sym key-is))
 
   in-one-form : (w : RefName) → dropRef w items c ≡ in-one w
-  unfolding dropRef droppedInline loweredTotal itemDrop droppedAt kindOf fieldsOf rankOf bind takeInline takeInlineShared sharedKind ask
+  unfolding dropRef droppedInline loweredTotal itemDrop droppedAt kindOf fieldsOf rankOf bind
   in-one-form (Block name) = one-block name
   in-one-form (Data name) = one-data name
   in-one-form (SharedBlock parent) =

@@ -25,7 +25,7 @@ use Rattle.backref.specs.declared.plan.Plan.{Plan}
 use Rattle.backref.specs.Plans.{planAnswer, Planned, PlannedTaken}
 use Rattle.backref.specs.Steps.{Reduces, Needs}
 use Rattle.backref.proofs.Reductions.{reduces-whole, needs-whole}
-use Rattle.backref.proofs.Takings.{taken-says, shared-whole}
+use Rattle.backref.proofs.Takings.{taken-says, taken-whole}
 use Rattle.record_edit.specs.Records.{dataOf, heldEdit, nothing, editedSheet}
 use Rattle.record_edit.specs.declared.RecordAt.{RecordAt}
 use Rattle.record_edit.specs.Stands.{askedSheet, RecordMissing, RecordFound}
@@ -51,9 +51,9 @@ module _ (i : Item) (s : SharedRef) (count : ℕ) (asItem : Bool) (r : Plan) whe
   drop-inline e bytes taken present p n d =
       let body : List ℕ = i .bytes in
       let rest-is : planAnswer present body ≡ ifAbsent (bytesOf (takeInlineShared (i .key .kind) body s)) (refused 5) =
-      n .says body ∙ ap (λ (x : Answer (List ℕ)). ifAbsent x (refused 5)) (taken-says body taken _ p) in
+      n .says body ∙ ap (λ (x : Answer (List ℕ)). ifAbsent x (refused 5)) (taken-says (i .key .kind) body s taken p) in
       let done =
-      reduces-whole present d body (needs-whole taken present body n (shared-whole body taken (i .key .kind) bytes s p)) (n .inside body (p .inside)) in
+      reduces-whole present d body (needs-whole taken present body n (taken-whole (i .key .kind) body s taken p bytes)) (n .inside body (p .inside)) in
       rw e (record { says = done .says ∙ ap (λ (x : Answer (List ℕ)). bind x (λ rest. reduceTotal rest count)) rest-is; inside = done .inside })
 
 -- ---- the call

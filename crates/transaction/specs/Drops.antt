@@ -7,8 +7,9 @@ use lib.Dec.{T}
 use lib.ListN.{length}
 use Rattle.fields.specs.Lists.{all, Cut}
 use Rattle.fields.specs.Numbers.{le}
+use Rattle.format.specs.declared.SharedRef.{SharedRef}
 use Rattle.format.specs.Questions.{Answer, remove, bind}
-use Rattle.format.specs.Bodies.{lowerTotal, reduceTotal, dropInlineTreeRef, dropInlineDataRef, dropKeyedDataRef}
+use Rattle.format.specs.Bodies.{lowerTotal, reduceTotal, dropInlineTreeRef, dropInlineDataRef, dropKeyedDataRef, takeInlineShared}
 use Rattle.format.specs.Items.{Item}
 use Rattle.format.specs.Apply.{dropTreeRef}
 use Rattle.format.specs.Names.{good}
@@ -16,7 +17,6 @@ use Rattle.format.specs.Ledger.{dropDataRef, dropSharedRef}
 use Rattle.inline_refs.specs.declared.ref_name.RefName.{RefName}
 use Rattle.inline_refs.specs.declared.ref_name.RefName.the-variants.{Block, Data, SharedBlock, SharedData}
 use Rattle.backref.specs.Adds.{sharedRef}
-use Rattle.backref.specs.Takes.{takeInline}
 
 -- the drop, without the own-flag
 unfoldable pub dropRef : RefName → List Item → Cut Item → Answer (List Item)
@@ -33,15 +33,15 @@ SharedInForm (SharedBlock parent) items = Unit {0}
 SharedInForm (SharedData parent) items = T (all good items)
 
 -- the reference out of the body, and its own count off the total
-abbrev pub takenWhole : ℕ → List ℕ → RefName → Answer (List ℕ)
-takenWhole type body name = bind (takeInline type body name) (λ out. reduceTotal (out .bytes) (out .count))
+abbrev pub takenWhole : ℕ → List ℕ → SharedRef → Answer (List ℕ)
+takenWhole type body name = bind (takeInlineShared type body name) (λ out. reduceTotal (out .bytes) (out .count))
 
 -- the record's body without the reference, or with one count less
 unfoldable pub droppedInline : RefName → ℕ → List ℕ → Answer (List ℕ)
 droppedInline (Block name) type body = dropInlineTreeRef type body name
 droppedInline (Data name) type body = dropInlineDataRef type body name
-droppedInline (SharedBlock parent) type body = takenWhole type body (SharedBlock parent)
-droppedInline (SharedData parent) type body = takenWhole type body (SharedData parent)
+droppedInline (SharedBlock parent) type body = takenWhole type body (sharedRef 182 parent)
+droppedInline (SharedData parent) type body = takenWhole type body (sharedRef 184 parent)
 
 -- the record's body with a lower total, where the reference's own item has those bytes
 unfoldable pub loweredTotal : RefName → List ℕ → List ℕ → Answer (List ℕ)

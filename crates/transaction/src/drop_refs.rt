@@ -7,6 +7,9 @@ use format::DataRef;
 use format::Edited;
 use format::ITEM_HEAD;
 use format::Key;
+use format::SHARED_BLOCK_REF;
+use format::SHARED_DATA_REF;
+use format::SharedRef;
 use inline_refs::RefName;
 use item_list::Sought;
 use record_edit::RecordAt;
@@ -24,10 +27,10 @@ ghost use Rattle.transaction.specs.Edits.{heldAt};
 ghost use Rattle.transaction.specs.Drops.{dropRef, SharedInForm, takenWhole, droppedInline, loweredTotal, itemDrop, CountFits};
 
 // A shared reference out of the body, and its own count off the total.
-fn plan_taken(item_type: u8, body: &[u8], name: RefName) -> Plan
+fn plan_taken(item_type: u8, body: &[u8], name: SharedRef) -> Plan
     ensures { λ r. ⌜ Planned r (now (body .entry)) (takenWhole «item_type» (now (body .entry)) name) ⌝ }
 {
-    let taken = backref::plan_take(item_type, body, name);
+    let taken = backref::plan_take_shared(item_type, body, name);
     let count = taken.count as u64;
     backref::plan_reduced(taken, count)
 }
@@ -39,8 +42,24 @@ fn plan_inline(item_type: u8, body: &[u8], name: RefName) -> Plan
     match name {
         RefName::Block(_) => backref::plan_drop(item_type, body, name),
         RefName::Data(_) => backref::plan_drop(item_type, body, name),
-        RefName::SharedBlock(_) => plan_taken(item_type, body, name),
-        RefName::SharedData(_) => plan_taken(item_type, body, name),
+        RefName::SharedBlock(parent) => {
+            plan_taken(
+                item_type,
+                body,
+                SharedRef {
+                    kind: SHARED_BLOCK_REF,
+                    parent,
+                },
+            )
+        }
+        RefName::SharedData(parent) => plan_taken(
+            item_type,
+            body,
+            SharedRef {
+                kind: SHARED_DATA_REF,
+                parent,
+            },
+        ),
     }
 }
 
