@@ -4,10 +4,11 @@ use crate::generate::{ample, edges, lent, random};
 use crate::questions::Reached;
 use crate::random::Random;
 use crate::show;
+use crate::spent::Spent;
 use crate::verdict::{agreement, inside, of_original, written, Agreement, Verdict, ORIGINAL_HERE};
 use model::calls::{outcome, Arg, Outcome};
 use std::collections::BTreeMap;
-use std::time::{Duration, Instant};
+use std::time::Duration;
 
 pub const SEED: u64 = 20_261_115;
 
@@ -75,7 +76,7 @@ const LONGER: Duration = Duration::from_secs(20);
 /// The comparisons of one call, within a time: some random cases whatever the time, the edges,
 /// then random cases again, and past the time until every code of the call has come up.
 pub fn call(name: &'static str, time: Duration) -> Vec<String> {
-    let begun = Instant::now();
+    let begun = Spent::begin();
     let mut both = Both::new(name);
     let mut r = Random::named(name, SEED);
     for _ in 0..LEAST {

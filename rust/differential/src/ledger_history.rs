@@ -3,11 +3,12 @@ use crate::archive::{self, Archive};
 use crate::generate::{lent, name_of};
 use crate::random::Random;
 use crate::sheets;
+use crate::spent::Spent;
 use model::calls::{outcome, Arg, Outcome};
 use model::ledger::{balanced, count, Name};
 use model::sheet::{bytes, read};
 use std::collections::{BTreeMap, BTreeSet};
-use std::time::{Duration, Instant};
+use std::time::Duration;
 
 /// Of each change, how often it was accepted and refused.
 type Answers = [[usize; 2]; 6];
@@ -36,7 +37,7 @@ pub fn histories(time: Duration) -> Vec<String> {
 
 /// One line that begins with `ok` or `FAIL`: each of the six changes was accepted and refused.
 fn run(what: &str, post: Poster, time: Duration) -> String {
-    let begun = Instant::now();
+    let begun = Spent::begin();
     let mut r = Random::new(13);
     let mut lists = 0;
     let mut answers = Answers::default();

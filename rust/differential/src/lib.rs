@@ -14,6 +14,7 @@ pub mod random;
 pub mod read_errors;
 pub mod recorded;
 pub mod show;
+pub mod spent;
 pub mod verdict;
 
 mod bodies;

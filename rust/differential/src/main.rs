@@ -1,6 +1,6 @@
 //! The differential run. The last line is 'N passed, M failed'; what was left out stands before it.
 //!
-//!     differential               every call; DIFFERENTIAL_SECONDS (100) is the time of all together
+//!     differential               every call; DIFFERENTIAL_SECONDS (100) of processor time
 //!     differential --only CALL   one call
 //!     differential --replay      the original's recorded answers alone
 //!     differential --record      writes recorded/answers.txt from the original

@@ -217,7 +217,7 @@ pub fn swapped(time: Duration) -> Vec<String> {
         ("private functions and postings", private_original, private_archive),
     ];
     let mut uses = kinds.map(|_| Uses::default());
-    let begun = std::time::Instant::now();
+    let begun = crate::spent::Spent::begin();
     let mut r = Random::new(17);
     let mut rounds = 0;
     while rounds < LEAST || begun.elapsed() < time {
