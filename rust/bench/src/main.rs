@@ -1,4 +1,4 @@
-//! Original against archive in one run on the same inputs: thread CPU time, best of many.
+//! Original against archive in one run on the same inputs: processor time, best of many.
 //! Prints markdown tables for docs/PERFORMANCE.md.
 //!
 //!     cargo run --profile measured -p bench --features hardware [WORD]

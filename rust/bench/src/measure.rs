@@ -1,24 +1,7 @@
-//! Thread CPU time, best of many batches, the two sides by turns. The whole table is made several
+//! Processor time, best of many batches, the two sides by turns. The whole table is made several
 //! times over: a figure is the middle one of the passes, and the ratios' least and greatest stand beside.
+use differential::spent::Spent;
 use std::hint::black_box;
-
-#[repr(C)]
-struct TimeSpec {
-    seconds: i64,
-    nanoseconds: i64,
-}
-
-extern "C" {
-    fn clock_gettime(clock: i32, time: *mut TimeSpec) -> i32;
-}
-
-/// CPU time of this thread, in nanoseconds.
-fn now() -> u64 {
-    const THREAD_CPU_TIME: i32 = 3;
-    let mut time = TimeSpec { seconds: 0, nanoseconds: 0 };
-    assert_eq!(unsafe { clock_gettime(THREAD_CPU_TIME, &mut time) }, 0);
-    time.seconds as u64 * 1_000_000_000 + time.nanoseconds as u64
-}
 
 pub const PASSES: usize = 7;
 const BATCHES: usize = 10;
@@ -112,11 +95,11 @@ impl Bench {
         let mut ready: Vec<Vec<I>> = Vec::new();
         let mut alone = |rounds: usize| {
             ready.extend((0..rounds).map(|_| items.to_vec()));
-            let begun = now();
+            let begun = Spent::begin();
             for items in ready.drain(..) {
                 black_box(original(items));
             }
-            (now() - begun) as f64 / rounds as f64
+            begun.elapsed().as_nanos() as f64 / rounds as f64
         };
         let mut copied = || {
             black_box(original(items.to_vec()));
@@ -243,11 +226,11 @@ impl Bench {
 }
 
 fn batch(call: &mut impl FnMut(), rounds: usize) -> f64 {
-    let begun = now();
+    let begun = Spent::begin();
     for _ in 0..rounds {
         call();
     }
-    (now() - begun) as f64 / rounds as f64
+    begun.elapsed().as_nanos() as f64 / rounds as f64
 }
 
 /// As many rounds as fill a batch.

@@ -52,9 +52,14 @@ fn balanced_leaves() -> Vec<(Vec<u8>, Vec<(u64, u8)>)> {
     found
 }
 
+/// The bytes with the reference, where both sides accept it; they are the same.
 fn given(sheet: &[u8], extent: u64, kind: u8) -> Option<Vec<u8>> {
     let name = SharedRef { kind, parent: PARENT };
-    post_sheet(NODE, sheet, extent, Change::AddShared { name, amount: 1 }).ok()
+    let ours = post_sheet(NODE, sheet, extent, Change::AddShared { name, amount: 1 }).ok()?;
+    let theirs =
+        public::apply_shared_add(NODE, items(sheet), extent, kind, PARENT, 1, false).ok()?;
+    assert_eq!(crate::lists::sheet(&theirs), ours, "extent {extent}");
+    Some(ours)
 }
 
 /// Bytes to bytes: one reference given to each extent of a leaf, and taken back. One round is all leaves.
@@ -80,12 +85,14 @@ fn real_leaves(b: &mut Bench) {
                         1,
                         false,
                     )
-                    .map(|items| crate::lists::sheet(&items));
-                    let Ok(given) = given else { continue };
+                    .map(|items| crate::lists::sheet(&items))
+                    .expect("it was given before");
                     let taken =
                         public::apply_shared_drop(items(&given), extent, kind, PARENT, 1, false)
-                            .map(|items| crate::lists::sheet(&items));
-                    black_box(taken.is_ok());
+                            .map(|items| crate::lists::sheet(&items))
+                            .expect("it stands there");
+                    assert_eq!(taken.len(), sheet.len());
+                    black_box(taken);
                 }
             }
         },
