@@ -5,6 +5,7 @@ use crate::start::Start;
 use crate::step::Cursor;
 use crate::step::RefStep;
 use extent_write::TreeRun;
+use format::EXTENT_DATA_REF;
 use format::EXTENT_OWNER_REF;
 ghost use mathlib.Core.Path.{_≡_};
 ghost use mathlib.Core.Bool.{false};
@@ -218,7 +219,7 @@ fn scan_ranked(
     scan_from(rows, body, start, wanted, ranked.rank, ranked.own)
 }
 
-// The same. The first reference is looked at before a rank is asked for, which may cost a hash: where a count is raised again,
+// The same for a data reference, whose rank costs a hash: the first reference is looked at before. Where a count is raised again,
 // it is often the wanted one, and no rank is needed.
 fn scan_first(
     rows: &[[u8; 3]; 5],
@@ -272,7 +273,10 @@ pub fn scan_to_add(item_type: u8, body: &[u8], wanted: RefName, known: OwnRank) 
     match crate::start::open_body(item_type, body) {
         Start::From(start) => {
             let rows = crate::kinds::rows();
-            scan_first(&rows, body, start, wanted, known)
+            if crate::ref_name::kind_of(wanted) == EXTENT_DATA_REF {
+                return scan_first(&rows, body, start, wanted, known);
+            }
+            scan_ranked(&rows, body, start, wanted, known)
         }
         Start::Refused(refusal) => Scan::Fault(refusal),
     }

@@ -7,13 +7,20 @@ use Rattle.inline_refs.proofs.scan.scan_to_add.Tie as tie
 
 returns : tie.Need-returns
 returns c =
-    let call = c .before .before .before .before .before .before in
+    let start = c .before .before .before .before .before .before in
+    let call = start .before .before in
     let a = call .before .before .args in
-    scan-opened (a .item-type) (now (a .body)) (a .wanted) _ _ (sym (c .before .before .before .before .start .given .1) ∙ call .open-body .ensures)
-    (c .scan-first .ensures)
+    scan-opened (a .item-type) (now (a .body)) (a .wanted) _ _ (sym (start .start .given .1) ∙ call .open-body .ensures) (c .scan-first .ensures)
 
 returns-2 : tie.Need-returns-2
 returns-2 c =
+    let start = c .before .before .before .before .before .before in
+    let call = start .before .before in
+    let a = call .before .before .args in
+    scan-opened (a .item-type) (now (a .body)) (a .wanted) _ _ (sym (start .start .given .1) ∙ call .open-body .ensures) (c .scan-ranked .ensures)
+
+returns-3 : tie.Need-returns-3
+returns-3 c =
     let call = c .before .before .before in
     let a = call .before .before .args in
     scan-shut (a .item-type) (now (a .body)) _ _ _ (sym (c .before .refusal .given .1) ∙ call .open-body .ensures)
@@ -21,4 +28,4 @@ returns-2 c =
 pub scan-to-add-spec : {M : Type 1} → statement M
 scan-to-add-spec =
     tie.close
-    (tie.spec (λ c κs. search needs) (λ c. search needs) (λ c κs. search needs) (λ c κs. search needs) (λ c. search needs) returns returns-2)
+    (tie.spec (λ c κs. search needs) (λ c. search needs) (λ c κs. search needs) (λ c κs. search needs) (λ c κs. search needs) returns (λ c κs. search needs) (λ c. search needs) returns-2 returns-3)
