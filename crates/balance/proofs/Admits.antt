@@ -12,9 +12,8 @@ use Rattle.fields.specs.Lists.{all, same}
 use Rattle.fields.specs.Numbers.{words}
 use Rattle.fields.proofs.Lists.{and-false, lt-or}
 use Rattle.format.specs.References.{rowIn, known, payloadLength, countPosition, counted, fieldCount, Ref, refAt, rank, falls}
-use Rattle.format.specs.Bodies.{named}
-use Rattle.distinct_triples.specs.Triples.{tripleSize, tripleOf, Distinct}
-use Rattle.distinct_triples.proofs.Orders.{none-twice}
+use Rattle.data_refs.specs.Triples.{tripleSize, tripleOf, Distinct, LooksUp}
+use Rattle.data_refs.proofs.Differing.{none-twice}
 use Rattle.balance.specs.SideBySide.{spanRefs}
 use Rattle.balance.specs.Runs.{RefRun, start, joins, keptRun, after, runsApart, weighs, admits}
 use Rattle.balance.proofs.SideBySide.{span-snoc}
@@ -48,53 +47,50 @@ fields-178 l = refl
 
 -- ---- triples side by side
 
-module _ (body : List ℕ) (at p left : ℕ) (name : List ℕ) (is : name ≡ words 3 (drop (at + 1) body)) where
-  names-same : (b : Bool) → b ≡ named 178 name (refAt 178 (drop (p + 1) body))
-      → b ≡ same (refAt 178 (drop (p + 1) body) .fields) (refAt 178 (drop (at + 1) body) .fields)
-  unfolding named refAt
-  names-same b e = e ∙ rw (fields-178 (drop (at + 1) body), is) refl
+-- the triple of the data reference at `at` is looked for among those from `from` on
+module _ (body : List ℕ) (from at : ℕ) (t : List ℕ) (is : t ≡ words 3 (drop (at + 1) body)) where
+  clear-step : (i m : ℕ) → clear body at (from + tripleSize * i) (suc m) ≡ (not (same (tripleOf body from i) t) && clear body at (from + tripleSize * suc i) m)
+  unfolding clear spanRefs tripleOf
+  clear-step i m =
+      let p : from + tripleSize * i + tripleSize ≡ from + tripleSize * suc i = omega arith in
+      ap₂ (λ (b c : Bool). not b && c) (ap₂ same (fields-178 _) (fields-178 _ ∙ sym is)) (ap (λ (k : ℕ). clear body at (from + tripleSize * i + (1 + k)) m) payload-178 ∙ ap (λ (q : ℕ). clear body at q m) p)
 
-  pub clear-hit : (b : Bool) → 0 < left → b ≡ named 178 name (refAt 178 (drop (p + 1) body)) → b ≡ true → clear body at p left ≡ false
+  clear-from : (m i : ℕ) → ((j : ℕ) → j < i + m → same (tripleOf body from j) t ≡ false) → clear body at (from + tripleSize * i) m ≡ true
   unfolding clear spanRefs
-  clear-hit b h e t =
-      let z : left ≡ suc (left - 1) = omega arith in
-      rw z (simp (sym (names-same b e) ∙ t))
+  clear-from zero i none = refl
+  clear-from (suc m) i none = clear-step i m ∙ rw (none i (omega arith)) (clear-from m (suc i) (λ j l. none j (omega arith)))
 
-  clear-step : (b : Bool) (m : ℕ) → b ≡ named 178 name (refAt 178 (drop (p + 1) body)) → b ≡ false
-      → clear body at p (suc m) ≡ clear body at (p + tripleSize) m
-  unfolding clear spanRefs
-  clear-step b m e t = simp (sym (names-same b e) ∙ t, payload-178) refl
+  clear-hit : (j m i k : ℕ) → i + k ≡ j → k < m → same (tripleOf body from j) t ≡ true → clear body at (from + tripleSize * i) m ≡ false
+  clear-hit j zero i k q h e = absurd (omega arith)
+  clear-hit j (suc m) i zero q h e =
+      let z : j ≡ i = omega arith in
+      clear-step i m ∙ rw (rw z at e) refl
+  clear-hit j (suc m) i (suc k) q h e =
+      let z : suc i + k ≡ j = omega arith in
+      let l : k < m = omega arith in
+      clear-step i m ∙ rw (clear-hit j m (suc i) k z l e) (and-false (not (same (tripleOf body from i) t)))
 
-  pub clear-miss : (b : Bool) → 0 < left → b ≡ named 178 name (refAt 178 (drop (p + 1) body)) → b ≡ false
-      → clear body at (p + tripleSize) (left - 1) ≡ clear body at p left
-  clear-miss b h e t =
-      let z : left ≡ suc (left - 1) = omega arith in
-      sym (ap (clear body at p) z ∙ clear-step b (left - 1) e t)
+  module _ (n : ℕ) where
+    clear-all : ((j : ℕ) → j < n → same (tripleOf body from j) t ≡ false) → clear body at from n ≡ true
+    clear-all none =
+        let z : from + tripleSize * 0 ≡ from = omega arith in
+        subst (λ (q : ℕ). clear body at q n ≡ true) z (clear-from n 0 (λ j l. none j (omega arith)))
 
-pub clear-none : (body : List ℕ) (at p : ℕ) → clear body at p 0 ≡ true
-unfolding clear spanRefs
-clear-none body at p = refl
+    pub looked-up : (r : ℕ) → LooksUp body from n t r → clear body at from n ≡ eqb r 0
+    looked-up zero l = clear-all (l .none refl)
+    looked-up (suc k) l =
+        let z : from + tripleSize * 0 ≡ from = omega arith in
+        let e : 0 + k ≡ suc k - 1 = omega arith in
+        let h : k < n = omega (arith, l .inside) in
+        let some : suc k ≡ 0 → ⊥ = (λ q. omega arith) in
+        subst (λ (q : ℕ). clear body at q n ≡ false) z (clear-hit _ n 0 k e h (l .some (omega arith))) ∙ sym (ne-eqb (suc k) 0 some)
 
 -- those that are known to differ from one another differ from one more of them
-module _ (body : List ℕ) (from n known : ℕ) (d : Distinct body from known) (h : n < known) where
-  differs : (i : ℕ) → i < n → same (refAt 178 (drop (from + tripleSize * i + 1) body) .fields) (refAt 178 (drop (from + tripleSize * n + 1) body) .fields) ≡ false
-  unfolding tripleOf
-  differs i l = ap₂ same (fields-178 _) (fields-178 _) ∙ d .differ i n l h
-
-  clear-from : (m i : ℕ) → i + m ≡ n → clear body (from + tripleSize * n) (from + tripleSize * i) m ≡ true
-  unfolding clear spanRefs
-  clear-from zero i e = refl
-  clear-from (suc m) i e =
-      let l : i < n = omega arith in
-      let p : from + tripleSize * i + tripleSize ≡ from + tripleSize * suc i = omega arith in
-      let f : suc i + m ≡ n = omega arith in
-      simp (differs i l, payload-178, p) (clear-from m (suc i) f)
-
-  pub clear-by : (at : ℕ) → from + tripleSize * n ≡ at → clear body at from n ≡ true
-  clear-by at e =
-      let z : from + tripleSize * 0 ≡ from = omega arith in
-      let f : 0 + n ≡ n = omega arith in
-      subst (λ (q : ℕ). clear body q from n ≡ true) e (subst (λ (q : ℕ). clear body (from + tripleSize * n) q n ≡ true) z (clear-from n 0 f))
+pub clear-by : (body : List ℕ) (from n known : ℕ) → Distinct body from known → n < known → (at : ℕ) → from + tripleSize * n ≡ at → clear body at from n ≡ true
+unfolding tripleOf
+clear-by body from n known d h at e =
+    let is : tripleOf body from n ≡ words 3 (drop (at + 1) body) = ap (λ (q : ℕ). words 3 (drop (q + 1) body)) e in
+    clear-all body from at (tripleOf body from n) is n (λ j l. d .differ j n l h)
 
 -- ---- the answer, from the tests
 

@@ -11,7 +11,7 @@ use Rattle.format.specs.Questions.{Answer, refused, absent, remove, accepted, b
 use Rattle.format.specs.References.{Ref, refAt}
 use Rattle.inline_refs.specs.Steps.{readFrom}
 use Rattle.inline_refs.proofs.Steps.{At}
-use Rattle.distinct_triples.proofs.Orders.{none-twice}
+use Rattle.data_refs.proofs.Differing.{none-twice}
 use Rattle.balance.proofs.Admits.{none-ahead}
 use Rattle.balance.specs.SideBySide.{spanRefs}
 use Rattle.balance.specs.Runs.{RefRun, keptRun, admits, sound}

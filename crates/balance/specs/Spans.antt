@@ -7,7 +7,7 @@ use lib.ListN.{length, drop}
 use Rattle.fields.specs.Lists.{sum, all, same}
 use Rattle.format.specs.Questions.{Answer, refused, absent, remove, accepted}
 use Rattle.format.specs.References.{payloadLength, Ref, refAt, rank}
-use Rattle.distinct_triples.specs.Triples.{tripleSize, Distinct}
+use Rattle.data_refs.specs.Triples.{tripleSize, Distinct}
 use Rattle.balance.specs.SideBySide.{spanRefs}
 use Rattle.balance.specs.Runs.{RefRun, start, keptRun, admits, sound}
 use Rattle.balance.specs.Tally.{weightIn}

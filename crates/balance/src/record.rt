@@ -12,7 +12,7 @@ ghost use lib.ListN.{length, drop};
 ghost use Rattle.format.specs.Constants.{mostSheet};
 ghost use Rattle.format.specs.References.{kinds, known, payloadLength, countPosition, refAt, rank};
 ghost use Rattle.inline_refs.specs.Steps.{readFrom};
-ghost use Rattle.distinct_triples.specs.Triples.{tripleSize};
+ghost use Rattle.data_refs.specs.Triples.{tripleSize};
 ghost use Rattle.balance.specs.Spans.{lastRank, RunKept, oneMore, Admitting, weighedOf, Light};
 
 // The references passed last: their type, what they are ordered by, where the first of them stands, how many there are, and of

@@ -34,7 +34,7 @@ fn data_name(key: Key, payload: &[u8]) -> Named
     Named::Of {
         weight: fields::get_u32_le(payload, 24),
         rank,
-        wanted: RefName::Data(distinct_triples::triple_at(payload, 0)),
+        wanted: RefName::Data(data_refs::triple_at(payload, 0)),
     }
 }
 

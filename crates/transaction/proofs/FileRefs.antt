@@ -1,24 +1,79 @@
--- Laws of data references that stand side by side: how a reading finds them one after the other, and sums and tests over them.
+-- Laws of references read one after the other: whether each is one of a file, and that those of a file stand side by side.
 -- Assumes nothing.
 use mathlib.Core.Path.{_≡_, refl, sym, ap, _∙_, subst}
-use mathlib.Core.Logic.{_⊎_, inl, inr}
-use mathlib.Core.Bool.{Bool, true}
+use mathlib.Core.Bool.{Bool, true, false, _&&_}
 use mathlib.Core.List.{List, [], _∷_, _++_, append-nil}
-use Prim.Native.Nat.{ℕ, zero, suc, _+_, _*_, _≤_, _<_}
+use Prim.Native.Nat.{ℕ, _+_, _*_, _≤_}
 use native.Mathlib.Numerals.{add-one}
 use native.Mathlib.Omega.{arith}
-use lib.Dec.{T}
+use lib.Dec.{T, eqb}
 use lib.ListN.{length, drop}
 use lib.Seq.{append-snoc}
-use Rattle.fields.specs.Lists.{sum, all}
-use Rattle.fields.proofs.Lists.{and-true, lt-or, sum-append, all-both}
+use borrow.Author.Tests.{eq-eqb, ne-eqb, eqb-true}
+use Rattle.fields.specs.Lists.{same}
+use Rattle.fields.specs.Numbers.{le}
+use Rattle.fields.specs.Parts.{part}
+use Rattle.fields.proofs.Lists.{by-test, and-true, and-false, eqb-same}
 use Rattle.format.specs.Questions.{Answer, refused, absent, remove, accepted, bind}
-use Rattle.format.specs.References.{Ref, refAt}
+use Rattle.format.specs.References.{rowIn, countPosition, counted, fieldCount, Ref, refAt}
+use Rattle.format.specs.Bodies.{named}
 use Rattle.inline_refs.specs.Steps.{readFrom}
 use Rattle.inline_refs.proofs.Steps.{At}
-use Rattle.distinct_triples.specs.Triples.{tripleSize}
-use Rattle.transaction.specs.Counts.{allOf, isOfFile}
-use Rattle.transaction.specs.FileRefs.{fileRef, fileRefs, SideBySide}
+use Rattle.inline_refs.proofs.Tests.{triple-words}
+use Rattle.data_refs.specs.Triples.{tripleSize}
+use Rattle.transaction.specs.Held.{allOf, isOfFile, fileRef, fileRefs, SideBySide}
+
+-- ---- one reference
+
+pub of-file-kind : (root ino k : ℕ) (l : List ℕ) → isOfFile root ino (refAt k l) ≡ true → k ≡ 178
+unfolding isOfFile named refAt
+of-file-kind root ino k l e =
+    by-test (eqb k 178) (λ y. eqb-true _ _ y) (λ y. let z : false ≡ true = simp y at e in absurd (subst T (sym z) tt))
+
+pub of-other-kind : (root ino k : ℕ) (l : List ℕ) → (k ≡ 178 → ⊥) → false ≡ isOfFile root ino (refAt k l)
+unfolding isOfFile named refAt
+of-other-kind root ino k l h = simp (ne-eqb _ _ h)
+
+module _ (root ino k p : ℕ) (s : List ℕ) (e : k ≡ 178) (a : ℕ) (q : a ≡ le (part p 8 s)) where
+  of-file-is : isOfFile root ino (refAt k (drop p s)) ≡ eqb a root && eqb (le (part (p + 8) 8 s)) ino
+  unfolding isOfFile named refAt fieldCount counted countPosition rowIn same
+  of-file-is = rw (e, triple-words p s, eqb-same (le (part (p + 16) 8 s)), ← q, and-true) refl
+
+  pub of-other-root : (a ≡ root → ⊥) → false ≡ isOfFile root ino (refAt k (drop p s))
+  of-other-root h = sym (of-file-is ∙ rw (ne-eqb _ _ h) refl)
+
+  pub of-file : (b : ℕ) → b ≡ le (part (p + 8) 8 s) → a ≡ root → eqb b ino ≡ isOfFile root ino (refAt k (drop p s))
+  of-file b z h = sym (of-file-is ∙ rw (eq-eqb _ _ h, ← z) refl)
+
+-- ---- a step of the reading, its end, and where it stops
+
+module _ (m : Ref → Bool) where
+  all-more : (r : Ref) (x : Answer (List Ref)) → allOf m (bind x (λ refs. accepted (r ∷ refs))) ≡ m r && allOf m x
+  unfolding allOf bind
+  all-more r (refused refusal) = sym (and-false (m r))
+  all-more r absent = sym (and-false (m r))
+  all-more r remove = sym (and-false (m r))
+  all-more r (accepted refs) = refl
+
+  module _ (s : List ℕ) (at k p n q next : ℕ) (h : At s at k p n q next) (b : Bool) (e : b ≡ m (refAt k (drop p s))) where
+    all-here : b && allOf m (readFrom s next) ≡ allOf m (readFrom s at)
+    all-here =
+        ap (λ (y : Bool). y && allOf m (readFrom s next)) e
+        ∙ sym (ap (allOf m) (h .reads) ∙ all-more (refAt k (drop p s)) (readFrom s next))
+
+    pub all-step : b ≡ true → allOf m (readFrom s next) ≡ allOf m (readFrom s at)
+    all-step t = rw t at all-here
+
+    pub all-no : b ≡ false → false ≡ allOf m (readFrom s at)
+    all-no f = rw f at all-here
+
+  pub all-end : (x : Answer (List Ref)) → x ≡ accepted [] → true ≡ allOf m x
+  unfolding allOf
+  all-end x e = rw e refl
+
+  pub all-fault : (x : Answer (List Ref)) (n : ℕ) → x ≡ refused n → false ≡ allOf m x
+  unfolding allOf
+  all-fault x n e = rw e refl
 
 -- ---- references in front of what is read
 
@@ -80,41 +135,3 @@ module _ (body : List ℕ) (from : ℕ) where
         reads = z;
         ofFile = subst T (t ∙ ap (allOf (isOfFile root ino)) z) tt;
       }
-
--- ---- sums and tests
-
-module _ (body : List ℕ) (from : ℕ) where
-  pub all-refs : (p : Ref → Bool) (n : ℕ) → ((k : ℕ) → k < n → T (p (fileRef body from k))) → T (all p (fileRefs body from n))
-  unfolding fileRefs
-  all-refs p zero h = tt
-  all-refs p (suc n) h =
-      all-both p (fileRefs body from n) (fileRef body from n ∷ []) (all-refs p n (λ k l. let g : k < suc n = omega arith in h k g))
-      (let g : n < suc n = omega arith in subst T (sym (and-true (p (fileRef body from n)))) (h n g))
-
-  sum-none : (f : Ref → ℕ) (n : ℕ) → ((k : ℕ) → k < n → f (fileRef body from k) ≡ 0) → sum f (fileRefs body from n) ≡ 0
-  unfolding fileRefs
-  sum-none f zero h = refl
-  sum-none f (suc n) h =
-      let g : n < suc n = omega arith in
-      let e : sum f (fileRefs body from n) ≡ 0 = sum-none f n (λ k l. let d : k < suc n = omega arith in h k d) in
-      omega (arith, sum-append f (fileRefs body from n) (fileRef body from n ∷ []), e, h n g)
-
-  sum-last : (f : Ref → ℕ) (n : ℕ) → sum f (fileRefs body from n ++ (fileRef body from n ∷ [])) ≡ sum f (fileRefs body from n) + f (fileRef body from n)
-  sum-last f n = omega (arith, sum-append f (fileRefs body from n) (fileRef body from n ∷ []))
-
-  -- one of them alone adds something
-  pub sum-one : (f : Ref → ℕ) (n j : ℕ) → j < n → ((k : ℕ) → k < n → (k ≡ j → ⊥) → f (fileRef body from k) ≡ 0) → sum f (fileRefs body from n) ≡ f (fileRef body from j)
-  unfolding fileRefs
-  sum-one f zero j l h = absurd (omega arith)
-  sum-one f (suc n) j l h =
-      go (lt-or j n) (λ g. sum-one f n j g (λ k d m. let b : k < suc n = omega arith in h k b m))
-    where
-      go : (j < n) ⊎ (n ≤ j) → (j < n → sum f (fileRefs body from n) ≡ f (fileRef body from j))
-          → sum f (fileRefs body from n ++ (fileRef body from n ∷ [])) ≡ f (fileRef body from j)
-      go (inl g) ih =
-          let b : n < suc n = omega arith in
-          omega (arith, sum-last f n, ih g, h n b (λ q. omega arith))
-      go (inr g) ih =
-          let q : n ≡ j = omega arith in
-          let e : sum f (fileRefs body from n) ≡ 0 = sum-none f n (λ k d. let b : k < suc n = omega arith in h k b (λ m. omega arith)) in
-          omega (arith, sum-last f n, e, ap (λ (m : ℕ). f (fileRef body from m)) q)

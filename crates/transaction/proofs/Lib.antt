@@ -1,9 +1,7 @@
 pub mod Sizes
 pub mod Triples
-pub mod Singles
-pub mod Readings
 pub mod FileRefs
-pub mod Links
+pub mod Counts
 pub mod Only
 pub mod ItemDrops
 pub mod RefDrops

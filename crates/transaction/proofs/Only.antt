@@ -1,7 +1,7 @@
 -- Laws of held_only_by, one for each way out. Assumes nothing.
 use mathlib.Core.Path.{_≡_, refl, sym, ap, _∙_, subst}
-use mathlib.Core.Bool.{Bool, true, false, _&&_}
-use mathlib.Core.List.{List}
+use mathlib.Core.Bool.{Bool, false, _&&_, and-assoc}
+use mathlib.Core.List.{List, [], _∷_}
 use Prim.Native.Nat.{ℕ, _≤_, _<_}
 use native.Mathlib.Nat.{le-refl}
 use native.Mathlib.Omega.{arith}
@@ -11,6 +11,7 @@ use borrow.Author.Tests.{eq-eqb, ne-eqb, le-leb, lt-leb}
 use Rattle.fields.specs.Lists.{all}
 use Rattle.fields.specs.Numbers.{le}
 use Rattle.fields.specs.Parts.{part}
+use Rattle.fields.proofs.Lists.{by-test, and-false}
 use Rattle.format.specs.declared.Judged.the-variants.{Says, Refused as Unjudged}
 use Rattle.format.specs.Questions.{Answer, refused, absent, remove, accepted, ask, bind, judgedOf}
 use Rattle.format.specs.References.{Ref, Body, totalOf, flagsOf, startOf, readRefs, readBody}
@@ -20,8 +21,7 @@ use Rattle.format.proofs.Refs.{readRefs-enough}
 use Rattle.inline_refs.specs.Steps.{readFrom}
 use Rattle.inline_refs.specs.Scans.{refsIn}
 use Rattle.inline_refs.proofs.Notes.{Opens}
-use Rattle.transaction.specs.Counts.{allOf, sumOf, addsAt, isOfFile, isLent, isOurs, isOnce, isCounted, agrees, heldIn}
-use Rattle.transaction.proofs.Readings.{not-ours}
+use Rattle.transaction.specs.Held.{allOf, addsAt, isOfFile, isOurs, isOnce, isCounted, agrees, heldIn}
 
 pub at-total : (d : List ℕ) (n : ℕ) → n ≡ le (part 0 8 d) → n ≡ totalOf d
 unfolding totalOf
@@ -31,66 +31,52 @@ pub at-flags : (d : List ℕ) (n : ℕ) → n ≡ le (part 16 8 d) → n ≡ fla
 unfolding flagsOf
 at-flags d n e = e
 
--- ---- references and offsets
+-- ---- the total, the flags, and references that are not all of the file
 
-module _ (root ino : ℕ) (offsets : List ℕ) (x : Answer (List Ref)) where
-  pub agrees-ours : allOf (isOurs root ino offsets) x ≡ false → false ≡ agrees root ino offsets x
-  unfolding agrees
-  agrees-ours f = simp f
+module _ (root ino : ℕ) (offsets : List ℕ) where
+  all-not : (refs : List Ref) → all (isOfFile root ino) refs ≡ false → all (isOurs root ino offsets) refs ≡ false
+  unfolding isOurs
+  all-not [] e = e
+  all-not (r ∷ refs) e =
+      by-test (isOfFile root ino r)
+      (λ y. ap (λ (b : Bool). isOurs root ino offsets r && b) (all-not refs (simp y at e)) ∙ and-false (isOurs root ino offsets r))
+      (λ y. rw y refl)
 
-  module _ (t : allOf (isOurs root ino offsets) x ≡ true) where
-    pub agrees-once : allOf (isOnce x) x ≡ false → false ≡ agrees root ino offsets x
-    unfolding agrees
-    agrees-once f = simp (t, f)
+  agrees-not : (x : Answer (List Ref)) → allOf (isOfFile root ino) x ≡ false → false ≡ agrees root ino offsets x
+  unfolding allOf agrees
+  agrees-not (refused refusal) e = refl
+  agrees-not absent e = refl
+  agrees-not remove e = refl
+  agrees-not (accepted refs) e = rw (all-not refs e) refl
 
-    pub agrees-counted : (b : Bool) → allOf (isOnce x) x ≡ true → b ≡ all (isCounted x offsets) offsets → b ≡ agrees root ino offsets x
-    unfolding agrees
-    agrees-counted b f e = e ∙ simp (t, f)
-
-  pub agrees-not : allOf (isOfFile root ino) x ≡ false → false ≡ agrees root ino offsets x
-  agrees-not f = agrees-ours (not-ours root ino offsets x f)
-
--- ---- the total and the flags
-
-module _ (root ino : ℕ) (offsets : List ℕ) (total flags : ℕ) (x : Answer (List Ref)) where
-  pub held-total : (total ≡ length offsets → ⊥) → false ≡ heldIn root ino offsets total flags x
-  unfolding heldIn
-  held-total h = simp (ne-eqb _ _ h)
-
-  module _ (h : total ≡ length offsets) where
-    pub held-flags : (flags ≡ 1 → ⊥) → false ≡ heldIn root ino offsets total flags x
+  module _ (total flags : ℕ) (x : Answer (List Ref)) where
+    pub held-total : (total ≡ length offsets → ⊥) → false ≡ heldIn root ino offsets total flags x
     unfolding heldIn
-    held-flags g = simp (eq-eqb _ _ h, ne-eqb _ _ g)
+    held-total h = simp (ne-eqb _ _ h)
 
-    module _ (g : flags ≡ 1) where
-      pub held-agrees : (b : Bool) → b ≡ agrees root ino offsets x → b ≡ heldIn root ino offsets total flags x
-      unfolding heldIn agrees
-      held-agrees b e = e ∙ simp (eq-eqb _ _ h, eq-eqb _ _ g)
+    module _ (h : total ≡ length offsets) where
+      pub held-flags : (flags ≡ 1 → ⊥) → false ≡ heldIn root ino offsets total flags x
+      unfolding heldIn
+      held-flags g = simp (eq-eqb _ _ h, ne-eqb _ _ g)
 
-      pub held-not : allOf (isOfFile root ino) x ≡ false → false ≡ heldIn root ino offsets total flags x
-      held-not f = held-agrees false (agrees-not root ino offsets x f)
+      module _ (g : flags ≡ 1) where
+        pub held-agrees : (b : Bool) → b ≡ agrees root ino offsets x → b ≡ heldIn root ino offsets total flags x
+        unfolding heldIn
+        held-agrees b e = e ∙ simp (eq-eqb _ _ h, eq-eqb _ _ g)
+
+        pub held-not : allOf (isOfFile root ino) x ≡ false → false ≡ heldIn root ino offsets total flags x
+        held-not f = held-agrees false (agrees-not x f)
 
 -- ---- from the reading to the body
 
 module _ (root ino : ℕ) (offsets : List ℕ) (flags : ℕ) where
-  no-end : (a b c d : Bool) → a && b && false && c && d ≡ false
-  no-end true true c d = refl
-  no-end true false c d = refl
-  no-end false true c d = refl
-  no-end false false c d = refl
-
-  no-read : (total : ℕ) (x : Answer (List Ref)) → allOf (isOurs root ino offsets) x ≡ false → heldIn root ino offsets total flags x ≡ false
-  unfolding heldIn
-  no-read total x f =
-      rw f (no-end (eqb total (length offsets)) (eqb flags 1) (allOf (isOnce x) x) (all (isCounted x offsets) offsets))
-
   held-body : (total : ℕ) (fixed : List ℕ) (x : Answer (List Ref)) → heldIn root ino offsets total flags x
       ≡ heldBy root ino offsets flags (bind x (λ refs. accepted (record { total = total; fixed = fixed; refs = refs })))
-  unfolding heldIn heldBy bind allOf sumOf addsAt isOfFile isLent isOurs isOnce isCounted
-  held-body total fixed (refused refusal) = no-read total (refused refusal) refl
-  held-body total fixed absent = no-read total absent refl
-  held-body total fixed remove = no-read total remove refl
-  held-body total fixed (accepted refs) = refl
+  unfolding heldIn agrees heldBy bind addsAt isOfFile isOurs isOnce isCounted
+  held-body total fixed (refused refusal) = and-false (eqb total (length offsets) && eqb flags 1)
+  held-body total fixed absent = and-false (eqb total (length offsets) && eqb flags 1)
+  held-body total fixed remove = and-false (eqb total (length offsets) && eqb flags 1)
+  held-body total fixed (accepted refs) = sym (simp and-assoc)
 
   not-read : (d : List ℕ) (n : ℕ) (y : Answer Body) → length d ≤ 65535
       → ask (bodyFits d) 3 (bind y (λ b. accepted (b .refs))) ≡ refused n → false ≡ heldBy root ino offsets flags y

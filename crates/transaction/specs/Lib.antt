@@ -1,6 +1,4 @@
-pub mod Counts
-pub mod FileRefs
-pub mod Links
+pub mod Held
 pub mod Edits
 pub mod Drops
 pub mod Keyed

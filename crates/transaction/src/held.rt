@@ -1,6 +1,5 @@
 // Whether a record is held by one file's items at the lent offsets, and by nothing else.
-use crate::held_counts::Counts;
-use crate::held_tests::FileRefs;
+use crate::held_refs::FileRefs;
 use format::EXTENT_ITEM;
 use format::Judged;
 use format::MOST_DATA;
@@ -11,41 +10,10 @@ ghost use Prim.Native.Nat.{_≤_};
 ghost use lib.ListN.{length};
 ghost use Rattle.format.specs.Constants.{mostData};
 ghost use Rattle.format.specs.Questions.{judgedOf};
-ghost use Rattle.format.specs.References.{kinds, totalOf, flagsOf};
+ghost use Rattle.format.specs.References.{totalOf, flagsOf};
 ghost use Rattle.format.specs.Bodies.{heldOnlyBy};
 ghost use Rattle.inline_refs.specs.Steps.{readFrom};
-ghost use Rattle.transaction.specs.Counts.{agrees, heldIn};
-ghost use Rattle.transaction.specs.FileRefs.{SideBySide};
-
-// Of n references that are all the file's. One or two are sooner compared each with each. So are all of them where an offset
-// differs and does not show by itself that they are not held; whether that can be is left open on purpose.
-fn held_refs(
-    rows: &[[u8; 3]; 5],
-    body: &[u8],
-    start: usize,
-    n: usize,
-    root: u64,
-    ino: u64,
-    offsets: &[u64],
-) -> bool
-    requires { ⌜ now rows ≡ kinds ⌝ }
-    requires { ⌜ (length (now body) ≤ mostData) × (length (now offsets) ≤ 4096) ⌝ }
-    requires { ⌜ SideBySide root ino (now body) start n ⌝ }
-    ensures { λ r. ⌜ r ≡ agrees root ino (now (offsets .entry)) (readFrom (now (body .entry)) start) ⌝ }
-{
-    if n + offsets.len() <= 4 {
-        return crate::held_tests::all_held(rows, body, start, root, ino, offsets);
-    }
-    match crate::held_counts::compare(body, start, n, offsets) {
-        Counts::Agree => true,
-        Counts::Differ(offset) => {
-            if crate::held_tests::is_denied(rows, body, start, offsets, offset) {
-                return false;
-            }
-            crate::held_tests::all_held(rows, body, start, root, ino, offsets)
-        }
-    }
-}
+ghost use Rattle.transaction.specs.Held.{heldIn};
 
 // The cheap questions come first.
 fn held_from(body: &[u8], start: usize, root: u64, ino: u64, offsets: &[u64]) -> bool
@@ -60,8 +28,8 @@ fn held_from(body: &[u8], start: usize, root: u64, ino: u64, offsets: &[u64]) ->
         return false;
     }
     let rows = inline_refs::rows();
-    match crate::held_tests::file_refs(&rows, body, start, root, ino) {
-        FileRefs::All(n) => held_refs(&rows, body, start, n, root, ino, offsets),
+    match crate::held_refs::file_refs(&rows, body, start, root, ino) {
+        FileRefs::All(n) => crate::held_counts::held_refs(body, start, n, root, ino, offsets),
         FileRefs::NotAll => false,
     }
 }

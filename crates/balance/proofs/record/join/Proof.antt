@@ -16,7 +16,7 @@ known-in-requires c κs =
 stands-twice-requires : tie.Need-stands-twice-requires
 stands-twice-requires c κs =
     let s = c .before .before .before in
-    ((s .pre .1 .0 .1 .1 .reaches (s .pre .0 .0), s .pre .1 .0 .1 .0), c .known-in .ensures .0)
+    ((s .pre .1 .0 .1 .1 .reaches (s .pre .0 .0), s .pre .1 .0 .1 .0), (c .known-in .ensures .0, s .pre .1 .1 .1))
 
 returns-2 : tie.Need-returns-2
 returns-2 c =

@@ -3,7 +3,7 @@ use mathlib.Core.Path.{_≡_, ap}
 use Prim.Native.Nat.{ℕ, _+_, _-_, _*_, _≤_}
 use native.Mathlib.Omega.{arith}
 use lib.ListN.{length}
-use Rattle.distinct_triples.specs.Triples.{tripleSize}
+use Rattle.data_refs.specs.Triples.{tripleSize}
 use Rattle.balance.specs.Spans.{OneRank}
 use Rattle.balance.proofs.Admits.{known-178, payload-178}
 use Rattle.balance.proofs.OneHash.{none-more, one-more-ranks}

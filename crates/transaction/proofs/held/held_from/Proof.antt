@@ -1,6 +1,6 @@
 use mathlib.Core.Path.{sym, subst, _∙_}
 use denote.Ref.{now}
-use Rattle.transaction.specs.FileRefs.{FileRefsTold}
+use Rattle.transaction.specs.Held.{FileRefsTold}
 use Rattle.transaction.proofs.Only.{at-total, at-flags, held-total, held-flags, held-agrees, held-not}
 use borrow.Author.Needs.{needs}
 use Rattle.transaction.proofs.held.held_from.Statement.{statement}
@@ -18,17 +18,14 @@ returns-2 c =
 held-refs-requires : tie.Need-held-refs-requires
 unfolding FileRefsTold
 held-refs-requires c κs =
-    let file = c .before .before .before .before in
-    let rows = file .before .before in
-    let s = rows .before .before .before .before .before .before .before in
-    let a = s .args in (
-      rows .rows .ensures,
-      ((s .pre .0 .1, s .pre .1 .1), subst (FileRefsTold (a .root) (a .ino) (now (a .body)) (a .start)) (c .before .before .n .given .1) (file .file-refs .ensures)),
-    )
+    let file = c .before .before .before in
+    let s = file .before .before .before .before .before .before .before .before .before in
+    let a = s .args in
+    (subst (FileRefsTold (a .root) (a .ino) (now (a .body)) (a .start)) (c .before .n .given .1) (file .file-refs .ensures), (s .pre .0 .1, s .pre .1 .1))
 
 returns-3 : tie.Need-returns-3
 returns-3 c =
-    let two = c .before .before .before .before .before .before .before .before in
+    let two = c .before .before .before .before .before .before .before in
     let one = two .before .before in
     held-agrees _ _ _ _ _ _ (sym (at-total _ _ (one .before .get-u64-le .ensures)) ∙ one .if1 .left)
     (sym (at-flags _ _ (two .before .get-u64-le2 .ensures)) ∙ two .if2 .left) _ (c .held-refs .ensures)

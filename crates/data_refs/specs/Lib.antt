@@ -1,0 +1,3 @@
+pub mod Triples
+pub mod Keys
+pub mod Chains
