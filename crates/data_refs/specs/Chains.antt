@@ -10,7 +10,7 @@ use Rattle.data_refs.specs.Triples.{tripleOf}
 
 -- up to so many are not put in chains
 abbrev pub few : ℕ
-few = 8
+few = 16
 
 pub record Cleared (list : List ℕ) : Type 0 where
   pub none : (k : ℕ) → getD list k 0 ≡ 0

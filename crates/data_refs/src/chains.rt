@@ -99,7 +99,8 @@ fn front_of_64(body: &[u8], from: usize, n: usize) -> usize
     chain_all(body, from, n, seed, &mut heads, &mut links)
 }
 
-// The same for as many as a body holds.
+// The same for as many as a body holds. It is asked again of the references before one that repeats: the compiler puts no function
+// that calls itself into its caller, and few callers should have a frame with such arrays.
 fn front_of_all(body: &[u8], from: usize, n: usize) -> usize
     requires { ⌜ (from + tripleSize * n ≤ length (now body)) × ((length (now body) ≤ mostSheet) × (n ≤ 2259)) ⌝ }
     ensures { λ r. ⌜ (r ≤ n) × (Distinct (now (body .entry)) from r × (r < n → Repeats (now (body .entry)) from r)) ⌝ }
@@ -107,7 +108,11 @@ fn front_of_all(body: &[u8], from: usize, n: usize) -> usize
     let mut heads: [u16; 4096] = [0; 4096];
     let mut links: [u16; 2259] = [0; 2259];
     let seed = keys::seed_of(body, from, n);
-    chain_all(body, from, n, seed, &mut heads, &mut links)
+    let m = chain_all(body, from, n, seed, &mut heads, &mut links);
+    if m < n {
+        return front_of_all(body, from, m);
+    }
+    n
 }
 
 // How many of the n data references from `from` on, from the first on, have different triples: all, or those before the first one

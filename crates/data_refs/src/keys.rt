@@ -1,6 +1,7 @@
 // Which chain a triple belongs to: a number made of the triple and a seed. The seed is made of all triples at hand, so triples that
 // crowd into one chain would have to be made for a seed that follows from each of them. It is made in two passes: what the last
 // triple does to the first pass runs through all of the second. Of chains only that equal triples belong to one has to be known.
+use crate::pairs::FEW;
 use crate::triples;
 use format::DataRef;
 ghost use mathlib.Core.Path.{_≡_};
@@ -61,10 +62,14 @@ fn seed_after(seed: u64, body: &[u8], from: usize, n: usize) -> u64
     even ^ odd
 }
 
-// A seed made of the triples of the n data references from `from` on. Which it is, is left open on purpose: any will do.
+// A seed made of the triples of the n data references from `from` on; few are in no chain. Which it is, is left open on purpose:
+// any will do.
 pub fn seed_of(body: &[u8], from: usize, n: usize) -> u64
     requires { ⌜ (from + tripleSize * n ≤ length (now body)) × (length (now body) ≤ mostSheet) ⌝ }
 {
+    if n <= FEW {
+        return 0;
+    }
     let once = seed_after(2611923443488327891, body, from, n);
     seed_after(once, body, from, n)
 }

@@ -8,7 +8,7 @@ ghost use Rattle.format.specs.Bodies.{triple};
 ghost use Rattle.data_refs.specs.Triples.{tripleSize, Distinct, Repeats, LooksUp};
 
 // Up to so many, comparing takes less time than to make a seed and to put them in chains.
-pub const FEW: usize = 8;
+pub const FEW: usize = 16;
 
 // The number, and one more, of the first of the n data references from `from` on that has the triple; 0 where none has.
 pub fn number_among(body: &[u8], from: usize, n: usize, t: DataRef) -> usize

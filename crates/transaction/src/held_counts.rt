@@ -4,13 +4,13 @@ use crate::held_refs;
 use format::DataRef;
 ghost use mathlib.Core.Path.{_≡_};
 ghost use mathlib.Core.List.{List, []};
-ghost use Prim.Native.Nat.{ℕ, _+_, _*_, _≤_};
+ghost use Prim.Native.Nat.{ℕ, _+_, _*_, _≤_, _<_};
 ghost use lib.ListN.{length};
 ghost use Rattle.format.specs.Constants.{mostData};
 ghost use Rattle.inline_refs.specs.Steps.{readFrom};
 ghost use Rattle.data_refs.specs.Triples.{tripleSize, Distinct};
 ghost use Rattle.data_refs.specs.Keys.{chainOf};
-ghost use Rattle.data_refs.specs.Chains.{Cleared, Chained};
+ghost use Rattle.data_refs.specs.Chains.{few, Cleared, Chained};
 ghost use Rattle.transaction.specs.Held.{agrees, SideBySide, EqualUpTo, Tallied};
 
 // Where the equal offsets that stand side by side from `start` on end.
@@ -80,7 +80,7 @@ fn held_by_counts(
     requires { ⌜ SideBySide root ino (now body) from n × Distinct (now body) from n ⌝ }
     requires { ⌜ (length (now body) ≤ mostData) × (length (now offsets) ≤ 4096) ⌝ }
     requires { ⌜ (1 ≤ length (now heads)) × ((length (now heads) ≤ 4096) × (n ≤ length (now links))) ⌝ }
-    requires { ⌜ Chained (chainOf seed (length (now heads))) (now body) from (now heads) (now links) n ⌝ }
+    requires { ⌜ (few < n → Chained (chainOf seed (length (now heads))) (now body) from (now heads) (now links) n) ⌝ }
     requires { ⌜ (n ≤ length (now counts)) × Cleared (now counts) ⌝ }
     ensures { λ r. ⌜ r ≡ agrees root ino (now (offsets .entry)) (readFrom (now (body .entry)) from) ⌝ }
 {
@@ -103,16 +103,6 @@ fn held_by_counts(
     all_weigh(body, from, n, counts)
 }
 
-// Few references make no long chain, whatever their triples are: they need no seed of their own.
-fn seed_for(body: &[u8], from: usize, n: usize) -> u64
-    requires { ⌜ (from + tripleSize * n ≤ length (now body)) × (length (now body) ≤ mostData) ⌝ }
-{
-    if n <= 8 {
-        return 0;
-    }
-    data_refs::seed_of(body, from, n)
-}
-
 // By heads and counters that are all 0.
 fn held_by_chains(
     body: &[u8],
@@ -131,7 +121,7 @@ fn held_by_chains(
     requires { ⌜ Cleared (now heads) × ((n ≤ length (now counts)) × Cleared (now counts)) ⌝ }
     ensures { λ r. ⌜ r ≡ agrees root ino (now (offsets .entry)) (readFrom (now (body .entry)) from) ⌝ }
 {
-    let seed = seed_for(body, from, n);
+    let seed = data_refs::seed_of(body, from, n);
     if data_refs::chain_all(body, from, n, seed, heads, links) < n {
         return false;
     }

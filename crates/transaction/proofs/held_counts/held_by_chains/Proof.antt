@@ -29,7 +29,7 @@ held-by-counts-requires c κs =
     let s = call .before .before .before .before .before .before .before .before .before in
     let a = s .args in
     let e : call .chain-all .result ≡ a .n = omega (arith, call .chain-all .ensures .0 .0, c .before .before .before .if1 .left) in
-    ((s .pre .0, subst (Distinct (now (a .body)) (a .from)) e (call .chain-all .ensures .0 .1 .0)), (s .pre .1 .0, (search needs, (chained-all _ _ _ _ _ _ _ _ e (search needs) (call .chain-all .ensures .1), s .pre .1 .1 .1 .1))))
+    ((s .pre .0, subst (Distinct (now (a .body)) (a .from)) e (call .chain-all .ensures .0 .1 .0)), (s .pre .1 .0, (search needs, ((λ more. chained-all _ _ _ _ _ _ _ _ e (search needs) (call .chain-all .ensures .1 more)), s .pre .1 .1 .1 .1))))
 
 pub held-by-chains-spec : {M : Type 1} → statement M
 held-by-chains-spec =
