@@ -8,6 +8,7 @@ use original::leaf_edit::OwnedItem;
 
 const BYTES: u64 = 262_144;
 const RECORD: u64 = 65_535;
+const SEED: u64 = 0x243f_6a88_85a3_08d3;
 
 fn item(objectid: u64, key_type: u8, offset: u64, data: Vec<u8>) -> OwnedItem {
     OwnedItem { key: DiskKey { objectid, key_type, offset }, data }
@@ -63,16 +64,33 @@ fn one_block() -> Vec<OwnedItem> {
     items
 }
 
-/// The longest records of data references that have one hash: each offset is the checksum's
-/// register after the inode, so that the register after both is always the same.
-fn one_hash(records: u64, shuffled: bool) -> Vec<OwnedItem> {
-    let register = |inode: u64| {
-        let step = |r: u32| if r & 1 == 1 { (r >> 1) ^ 0x82f6_3b78 } else { r >> 1 };
-        let byte = |r: u32, b: u8| (0..8).fold(r ^ u32::from(b), |r, _| step(r));
-        u64::from(inode.to_le_bytes().into_iter().fold(u32::MAX, byte))
+/// The checksum's register after an inode. As an offset it makes the register after both the same
+/// for each inode: data references of one hash, as many as anybody wants.
+fn register(inode: u64) -> u64 {
+    let step = |r: u32| if r & 1 == 1 { (r >> 1) ^ 0x82f6_3b78 } else { r >> 1 };
+    let byte = |r: u32, b: u8| (0..8).fold(r ^ u32::from(b), |r, _| step(r));
+    u64::from(inode.to_le_bytes().into_iter().fold(u32::MAX, byte))
+}
+
+/// Which of 4,096 chains a triple would be in by the number that the archive's seed starts from.
+fn chain(triple: [u64; 3]) -> u64 {
+    let (low, high) = (SEED as u32, (SEED >> 32) as u32);
+    let product = |x: u64, low: u32, high: u32| {
+        u64::from((x as u32).wrapping_add(low)) * u64::from(((x >> 32) as u32).wrapping_add(high))
     };
-    let inline = (RECORD - 24) / 29;
-    let mut references: Vec<Vec<u8>> = (0..inline).map(|n| data_ref(5, n, register(n))).collect();
+    let key = SEED
+        ^ product(triple[0], low, high)
+        ^ product(triple[1], high, low)
+        ^ product(triple[2], low.wrapping_add(0x9e37_79b9), high.wrapping_add(0x85eb_ca6b));
+    u64::from((key as u32 ^ (key >> 32) as u32).wrapping_mul(0x9e37_79b1)) >> 20
+}
+
+/// Records of data references of one hash, with these inodes.
+fn one_hash(records: u64, shuffled: bool, inodes: impl Iterator<Item = u64>) -> Vec<OwnedItem> {
+    let fit = (BYTES - 1) / records - 21;
+    let inline = (fit.min(RECORD) - 24) / 29;
+    let references = inodes.take(inline as usize).map(|n| data_ref(5, n, register(n)));
+    let mut references: Vec<Vec<u8>> = references.collect();
     let of = |n: u64, references: &mut Vec<Vec<u8>>| {
         if shuffled {
             shuffle(references);
@@ -109,16 +127,18 @@ fn cut(items: &[OwnedItem]) -> Vec<u8> {
 }
 
 pub fn table(bench: &mut Bench) {
+    let crowded = (0..).filter(|&n| chain([5, n, register(n)]) == 0);
     let lists = [
         ("3,542 extents, one data reference each", 5, sheet(&ordinary())),
         ("one extent, the longest record, as many data items as fit", 5, sheet(&one_extent())),
         ("the same with its last byte cut off", 1, cut(&one_extent())),
         ("one extent, the longest record, as many block items as fit", 5, sheet(&one_block())),
         ("the same with types 176 and 182 by turns", 2, sheet(&by_turns())),
-        ("one longest record of data references that have one hash", 5, sheet(&one_hash(1, false))),
-        ("three such records", 5, sheet(&one_hash(3, false))),
-        ("three such records, each shuffled", 5, sheet(&one_hash(3, true))),
-        ("the same with its last byte cut off", 1, cut(&one_hash(3, true))),
+        ("one longest record of data references of one hash", 5, sheet(&one_hash(1, false, 0..))),
+        ("four such records", 5, sheet(&one_hash(4, false, 0..))),
+        ("four such records, each shuffled", 5, sheet(&one_hash(4, true, 0..))),
+        ("the same of references made for one chain", 5, sheet(&one_hash(4, true, crowded))),
+        ("four such records, the last byte cut off", 1, cut(&one_hash(4, true, 0..))),
     ];
     let mut usual = None;
     for (name, refusal, sheet) in lists {
