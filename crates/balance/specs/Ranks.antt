@@ -7,7 +7,7 @@ use Prim.Native.Nat.{ℕ, _+_, _*_, _≤_, _<_}
 use lib.Dec.{T, leb, ltb, eqb}
 use lib.ListN.{length, drop}
 use Rattle.fields.specs.Lists.{all}
-use Rattle.format.specs.Questions.{Answer, refused, absent, remove, accepted}
+use Rattle.format.specs.Questions.{Answer, accepted, resultOr}
 use Rattle.format.specs.References.{known, payloadLength, Ref, refAt, rank}
 use Rattle.inline_refs.specs.Steps.{readFrom}
 use Rattle.inline_refs.specs.declared.ref_name.RefName.{RefName}
@@ -17,10 +17,7 @@ use Rattle.balance.specs.declared.span.Span.{Span}
 
 -- the references that were read
 unfoldable pub refsRead : Answer (List Ref) → List Ref
-refsRead (refused refusal) = []
-refsRead absent = []
-refsRead remove = []
-refsRead (accepted refs) = refs
+refsRead answer = resultOr [] (λ refs. refs) answer
 
 abbrev pub refsFrom : List ℕ → ℕ → List Ref
 refsFrom body at = refsRead (readFrom body at)

@@ -5,7 +5,7 @@ use mathlib.Core.List.{List}
 use Prim.Native.Nat.{ℕ, _+_, _*_, _≤_, _<_}
 use lib.ListN.{length, drop}
 use Rattle.fields.specs.Lists.{sum, all, same}
-use Rattle.format.specs.Questions.{Answer, refused, absent, remove, accepted}
+use Rattle.format.specs.Questions.{Answer, resultOr}
 use Rattle.format.specs.References.{payloadLength, Ref, refAt, rank}
 use Rattle.data_refs.specs.Triples.{tripleSize, Distinct}
 use Rattle.balance.specs.SideBySide.{spanRefs}
@@ -53,10 +53,7 @@ Admitting body p r next (Yes q weight) =
 
 -- the weight of the references that are left, after those of a run and their weight
 unfoldable pub weighing : RefRun → ℕ → Answer (List Ref) → Weighed
-weighing run weight (refused refusal) = Bad
-weighing run weight absent = Bad
-weighing run weight remove = Bad
-weighing run weight (accepted refs) = cond (sound run refs) (Of (weight + sum weightIn refs)) Bad
+weighing run weight answer = resultOr Bad (λ refs. cond (sound run refs) (Of (weight + sum weightIn refs)) Bad) answer
 
 unfoldable pub weighedOf : Answer (List Ref) → Weighed
 weighedOf answer = weighing start 0 answer

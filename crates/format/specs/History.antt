@@ -5,7 +5,7 @@ use Prim.Native.Nat.{ℕ, _+_}
 use lib.Dec.{eqb}
 use Rattle.format.specs.declared.Change.{Change}
 use Rattle.format.specs.declared.Change.the-variants.{AddBlock, AddData, AddShared, DropBlock, DropData, DropShared}
-use Rattle.format.specs.Questions.{Answer, refused, absent, remove, accepted}
+use Rattle.format.specs.Questions.{Answer, resultOr}
 use Rattle.format.specs.Items.{Item, readSheet}
 use Rattle.format.specs.Names.{Name, sameName, count, balanced}
 use Rattle.format.specs.Ledger.{nameOf, posted}
@@ -21,16 +21,10 @@ unfoldable pub answerTo : List ℕ → Posting → Answer (List ℕ)
 answerTo sheet p = posted (p .nodesize) sheet (p .change) (p .room)
 
 abbrev pub sheetAfter : List ℕ → Answer (List ℕ) → List ℕ
-sheetAfter sheet (refused number) = sheet
-sheetAfter sheet absent = sheet
-sheetAfter sheet remove = sheet
-sheetAfter sheet (accepted result) = result
+sheetAfter sheet answer = resultOr sheet (λ result. result) answer
 
 abbrev pub isAccepted : Answer (List ℕ) → Bool
-isAccepted (refused number) = false
-isAccepted absent = false
-isAccepted remove = false
-isAccepted (accepted result) = true
+isAccepted answer = resultOr false (λ result. true) answer
 
 abbrev pub run : List ℕ → List Posting → List ℕ
 run sheet [] = sheet
@@ -83,10 +77,7 @@ history n opening list = tallyFrom n (record { opening = opening; given = 0; tak
 
 -- the items of a sheet, none where it is refused
 unfoldable pub itemsIn : Answer (List Item) → List Item
-itemsIn (refused number) = []
-itemsIn absent = []
-itemsIn remove = []
-itemsIn (accepted items) = items
+itemsIn answer = resultOr [] (λ items. items) answer
 
 abbrev pub sheetItems : List ℕ → List Item
 sheetItems sheet = itemsIn (readSheet sheet)
@@ -107,10 +98,7 @@ itemsOf extent (i ∷ items) = cond (eqb (i .key .objectid) extent) (i ∷ items
 
 -- a sheet that passes questions 1, 2 and 4
 abbrev pub passes : Answer (List Item) → Bool
-passes (refused number) = false
-passes absent = false
-passes remove = false
-passes (accepted items) = balanced items
+passes answer = resultOr false balanced answer
 
 abbrev pub balancedSheet : List ℕ → Bool
 balancedSheet sheet = passes (readSheet sheet)

@@ -4,7 +4,7 @@ use mathlib.Core.List.{List, [], _∷_, _++_}
 use Prim.Native.Nat.{ℕ, zero, suc, _+_, _/_, _%_}
 use lib.Dec.{ltb}
 use lib.ListN.{length}
-use Rattle.format.specs.Questions.{Answer, refused, absent, remove, accepted}
+use Rattle.format.specs.Questions.{Answer, refused, accepted, resultOrCode}
 use Rattle.format.specs.References.{counted, Ref, flagsOf, startOf}
 use Rattle.format.specs.Bodies.{onBody}
 
@@ -35,10 +35,8 @@ listing type body =
 
 -- "A refusal prints only `refused N`"
 unfoldable pub printed : Answer (List ℕ) → List ℕ
-printed (refused number) = 114 ∷ 101 ∷ 102 ∷ 117 ∷ 115 ∷ 101 ∷ 100 ∷ 32 ∷ line (number ∷ [])
-printed absent = 114 ∷ 101 ∷ 102 ∷ 117 ∷ 115 ∷ 101 ∷ 100 ∷ 32 ∷ line (100 ∷ [])
-printed remove = 114 ∷ 101 ∷ 102 ∷ 117 ∷ 115 ∷ 101 ∷ 100 ∷ 32 ∷ line (101 ∷ [])
-printed (accepted text) = text
+printed answer =
+    resultOrCode (λ code. 114 ∷ 101 ∷ 102 ∷ 117 ∷ 115 ∷ 101 ∷ 100 ∷ 32 ∷ line (code ∷ [])) (λ text. text) answer
 
 -- "empty input is 6, a body above 65,535 bytes is 3"
 unfoldable pub listed : List ℕ → List ℕ

@@ -6,7 +6,7 @@ use lib.Dec.{leb, eqb}
 use lib.ListN.{length}
 use Rattle.fields.specs.Lists.{sum, all, same}
 use Rattle.fields.specs.Numbers.{le}
-use Rattle.format.specs.Questions.{Answer, refused, absent, remove, accepted}
+use Rattle.format.specs.Questions.{Answer, resultOr}
 use Rattle.format.specs.References.{known, Ref, makeRef, refAt, Body, readBody, rank, ordered}
 use Rattle.format.specs.Bodies.{one}
 use Rattle.format.specs.Items.{Item}
@@ -41,10 +41,7 @@ unfoldable pub isRefItem : Item → Bool
 isRefItem i = known (i .key .kind) && not (eqb (i .key .kind) 172)
 
 unfoldable pub viewRecord : Answer Body → View
-viewRecord (refused number) = malformed
-viewRecord absent = malformed
-viewRecord remove = malformed
-viewRecord (accepted b) = extentRecord b
+viewRecord answer = resultOr malformed extentRecord answer
 
 unfoldable pub inForm : Bool → Ref → View
 inForm form r = cond form (reference r) malformed

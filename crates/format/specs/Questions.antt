@@ -90,36 +90,40 @@ also false number (accepted result) = refused number
 unfoldable pub held : {A : Type 0} → (A → Bool) → Answer A → Answer A
 held holds answer = bind answer (λ result. ask (holds result) 21 (accepted result))
 
+-- ---- what is made of an answer
+
+-- of its result; the other where it has none
+abbrev pub resultOr : {A B : Type 0} → B → (A → B) → Answer A → B
+resultOr other make (refused number) = other
+resultOr other make absent = other
+resultOr other make remove = other
+resultOr other make (accepted result) = make result
+
+-- of its result, or of its code: 100 for absent, 101 for remove, else the number of the refusal
+abbrev pub resultOrCode : {A B : Type 0} → (ℕ → B) → (A → B) → Answer A → B
+resultOrCode other make (refused number) = other number
+resultOrCode other make absent = other 100
+resultOrCode other make remove = other 101
+resultOrCode other make (accepted result) = make result
+
 -- ---- the lent output: "Bytes past an accepted result keep their value", and without a result all do
 
 unfoldable pub lent : Answer (List ℕ) → List ℕ → List ℕ
-lent (refused number) old = old
-lent absent old = old
-lent remove old = old
-lent (accepted result) old = result ++ drop (length result) old
+lent answer old = resultOr old (λ result. result ++ drop (length result) old) answer
 
 -- a lent number, or a part that is handed back: the result, else nothing. So "Absent and remove have result length 0", and a
 -- refusal too
 unfoldable pub lentNumber : Answer ℕ → ℕ
-lentNumber (refused number) = 0
-lentNumber absent = 0
-lentNumber remove = 0
-lentNumber (accepted result) = result
+lentNumber answer = resultOr 0 (λ result. result) answer
 
 unfoldable pub lentPart : Answer (List ℕ) → List ℕ
-lentPart (refused number) = []
-lentPart absent = []
-lentPart remove = []
-lentPart (accepted result) = result
+lentPart answer = resultOr [] (λ result. result) answer
 
 -- ---- the answers as numbers and as the declared enums
 
--- 0 for a result, 100 for absent, 101 for remove, else the number of the refusal
+-- 0 for a result
 unfoldable pub codeOf : {A : Type 0} → Answer A → ℕ
-codeOf (refused number) = number
-codeOf absent = 100
-codeOf remove = 101
-codeOf (accepted result) = 0
+codeOf answer = resultOrCode (λ code. code) (λ result. 0) answer
 
 unfoldable pub editedOf : Answer (List ℕ) → Edited
 editedOf (refused number) = Refused number
@@ -145,28 +149,16 @@ takenOf (accepted out) = Out (length (out .bytes)) (out .count)
 -- a number, a judgement, a key or a reference: the calls that answer so decide (proofs/Decisions has the law of each), so 100 and
 -- 101 do not come
 unfoldable pub toldOf : Answer ℕ → Told
-toldOf (refused number) = Untold number
-toldOf absent = Untold 100
-toldOf remove = Untold 101
-toldOf (accepted number) = Value number
+toldOf answer = resultOrCode Untold Value answer
 
 unfoldable pub filedOf : Answer Key → Filed
-filedOf (refused number) = Unfiled number
-filedOf absent = Unfiled 100
-filedOf remove = Unfiled 101
-filedOf (accepted key) = Under key
+filedOf answer = resultOrCode Unfiled Under answer
 
 unfoldable pub judgedOf : Answer Bool → Judged
-judgedOf (refused number) = Unjudged number
-judgedOf absent = Unjudged 100
-judgedOf remove = Unjudged 101
-judgedOf (accepted judgement) = Says judgement
+judgedOf answer = resultOrCode Unjudged Says answer
 
 unfoldable pub pickedOf : Answer InlineRef → Picked
-pickedOf (refused number) = Unpicked number
-pickedOf absent = Unpicked 100
-pickedOf remove = Unpicked 101
-pickedOf (accepted reference) = Ref reference
+pickedOf answer = resultOrCode Unpicked Ref answer
 
 -- ---- the contract of a call with a lent output: its answer, and what the output held before and holds after
 

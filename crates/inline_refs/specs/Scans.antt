@@ -4,7 +4,7 @@ use mathlib.Core.Bool.{Bool, _||_, cond}
 use mathlib.Core.List.{List, [], _∷_}
 use Prim.Native.Nat.{ℕ, _+_}
 use lib.Dec.{eqb}
-use Rattle.format.specs.Questions.{Answer, refused, absent, remove, accepted}
+use Rattle.format.specs.Questions.{Answer, accepted, resultOrCode}
 use Rattle.extent_write.specs.Runs.{RunFits}
 use Rattle.format.specs.References.{payloadLength, rankOf, Ref}
 use Rattle.format.specs.Bodies.{onBody, named, one, triple, stops}
@@ -75,17 +75,11 @@ walk wanted rank at seen (r ∷ refs) =
 -- what is noted of the references that were read. Their reader decides (format/proofs/Decisions, `refs-decide`), so 100 and 101 do
 -- not come
 unfoldable pub scanOf : RefName → ℕ → ℕ → Seen → Answer (List Ref) → Scan
-scanOf wanted rank at seen (refused refusal) = Fault refusal
-scanOf wanted rank at seen absent = Fault 100
-scanOf wanted rank at seen remove = Fault 101
-scanOf wanted rank at seen (accepted refs) = Read (walk wanted rank at seen refs)
+scanOf wanted rank at seen answer = resultOrCode Fault (λ refs. Read (walk wanted rank at seen refs)) answer
 
 -- where nothing is noted any more. As above 100 and 101 do not come
 unfoldable pub restOf : Answer (List Ref) → Rest
-restOf (refused refusal) = Faulty refusal
-restOf absent = Faulty 100
-restOf remove = Faulty 101
-restOf (accepted refs) = Clean
+restOf answer = resultOrCode Faulty (λ refs. Clean) answer
 
 -- questions 3 and 6 to 8, then the references
 unfoldable pub refsIn : ℕ → List ℕ → Answer (List Ref)

@@ -3,7 +3,7 @@ use mathlib.Core.Bool.{Bool, cond}
 use mathlib.Core.List.{List}
 use Prim.Native.Nat.{ℕ}
 use lib.ListN.{length}
-use Rattle.format.specs.Questions.{Answer, refused, absent, remove, accepted}
+use Rattle.format.specs.Questions.{Answer, resultOrCode}
 use Rattle.format.specs.Items.{Item}
 use Rattle.item_list.specs.declared.ItemPosition.{ItemPosition}
 use Rattle.item_list.specs.declared.ItemPosition.the-variants.{At, Missing}
@@ -20,10 +20,7 @@ listedAt count (At index start end) = Found count index start end
 
 -- the reader of an item list decides (format/proofs/Decisions, `sheet-decides`), so 100 and 101 do not come
 unfoldable pub listingOf : (ℕ → Item → Bool) → Answer (List Item) → Listing
-listingOf test (refused refusal) = Refused refusal
-listingOf test absent = Refused 100
-listingOf test remove = Refused 101
-listingOf test (accepted items) = listedAt (length items) (positionIn test 0 1 items)
+listingOf test answer = resultOrCode Refused (λ items. listedAt (length items) (positionIn test 0 1 items)) answer
 
 -- the first of two positions that is one
 unfoldable pub orElse : ItemPosition → ItemPosition → ItemPosition

@@ -6,7 +6,7 @@ use Prim.Native.Nat.{ℕ, zero, suc, _+_}
 use lib.Dec.{eqb, leb}
 use lib.ListN.{length, drop}
 use Rattle.format.specs.declared.Key.{Key}
-use Rattle.format.specs.Questions.{Answer, refused, absent, remove, accepted}
+use Rattle.format.specs.Questions.{Answer, accepted, resultOrCode}
 use Rattle.format.specs.Items.{Item, keyBelow, itemLength, wholeItem, firstItem, readItems, readSheet}
 unfoldable pub use Rattle.format.specs.History.{itemsIn}
 use Rattle.item_list.specs.declared.ItemStep.{ItemStep}
@@ -41,10 +41,7 @@ following (suc n) last key = keyBelow last key
 
 -- the number of items. The reader decides (format/proofs/Decisions, `sheet-decides`), so 100 and 101 do not come
 unfoldable pub checkedOf : Answer (List Item) → Checked
-checkedOf (refused refusal) = Refused refusal
-checkedOf absent = Refused 100
-checkedOf remove = Refused 101
-checkedOf (accepted items) = Count (length items)
+checkedOf answer = resultOrCode Refused (λ items. Count (length items)) answer
 
 -- the items of an accepted list
 abbrev pub listItems : List ℕ → List Item

@@ -4,7 +4,7 @@ use mathlib.Core.List.{List}
 use Prim.Native.Nat.{ℕ}
 use lib.ListN.{length}
 use Rattle.format.specs.declared.Key.{Key}
-use Rattle.format.specs.Questions.{Answer, refused, absent, remove, accepted}
+use Rattle.format.specs.Questions.{Answer, resultOrCode}
 use Rattle.format.specs.Items.{Item}
 use Rattle.item_list.specs.declared.Sought.{Sought}
 use Rattle.item_list.specs.declared.Sought.the-variants.{Present, Absent}
@@ -19,7 +19,5 @@ insertAt count (Absent at) = Free at count
 
 -- the reader of an item list decides (format/proofs/Decisions, `sheet-decides`), so 100 and 101 do not come
 unfoldable pub insertAtOf : Key → Bool → Answer (List Item) → InsertAt
-insertAtOf key three (refused refusal) = Refused refusal
-insertAtOf key three absent = Refused 100
-insertAtOf key three remove = Refused 101
-insertAtOf key three (accepted items) = cond three (insertAt (length items) (seekIn key 1 items)) (Refused 3)
+insertAtOf key three answer =
+    resultOrCode Refused (λ items. cond three (insertAt (length items) (seekIn key 1 items)) (Refused 3)) answer

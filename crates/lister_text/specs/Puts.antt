@@ -5,7 +5,7 @@ use mathlib.Core.List.{List, [], _∷_, _++_}
 use Prim.Native.Nat.{ℕ, _+_}
 use lib.ListN.{length}
 use lib.Seq.{sets}
-use Rattle.format.specs.Questions.{Answer, refused, absent, remove, accepted}
+use Rattle.format.specs.Questions.{Answer, resultOr}
 use Rattle.format.specs.References.{Ref}
 use Rattle.format.specs.Lister.{digits}
 
@@ -21,7 +21,4 @@ spaced (number ∷ numbers) = 32 ∷ (digits 20 number ++ spaced numbers)
 
 -- the references that were read
 unfoldable pub refsOf : Answer (List Ref) → List Ref
-refsOf (refused number) = []
-refsOf absent = []
-refsOf remove = []
-refsOf (accepted refs) = refs
+refsOf answer = resultOr [] (λ refs. refs) answer
