@@ -24,14 +24,13 @@ use Rattle.inline_refs.specs.declared.scan.Seen.the-variants.{Open, Gap, Hit, L
 use Rattle.inline_refs.specs.declared.scan.Scan.the-variants.{Fault}
 use Rattle.inline_refs.specs.declared.noted.AddAt.{AddAt}
 use Rattle.inline_refs.specs.declared.noted.AddAt.the-variants.{Gap as NewAt, Standing}
-use Rattle.inline_refs.specs.Scans.{kindOf, fieldsOf, scanOf, refsIn}
-use Rattle.inline_refs.specs.Noted.{addAnywhere, othersIn}
+use Rattle.inline_refs.specs.Scans.{kindOf, fieldsOf, scanOf, refsIn, addAnywhere, othersIn}
 use Rattle.inline_refs.proofs.Views.{View, anyOthers}
 use Rattle.inline_refs.proofs.RefPositions.{PositionView, position-anywhere, position-by-scan}
 use Rattle.backref.specs.declared.plan.Outcome.the-variants.{Refused}
 use Rattle.backref.specs.declared.plan.Plan.{Plan}
 use Rattle.backref.specs.Plans.{Planned}
-use Rattle.backref.specs.Adds.{newRef, ownRank, byScan, positionOf, addAtOf, Raised, addInline, addKeyed}
+use Rattle.backref.specs.ByName.{newRef, ownRank, byScan, positionOf, addAtOf, Raised, addInline, addKeyed}
 use Rattle.backref.proofs.NewBytes.{Holds, wanted-small}
 use Rattle.backref.proofs.Outcomes.{plan-refused}
 use Rattle.backref.proofs.PlannedTotals.{raised-yes, raised-no}

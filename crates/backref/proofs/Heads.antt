@@ -19,7 +19,7 @@ use Rattle.format.specs.Bodies.{bodyFits, onHead, onTotal, raiseTotal, lowerTot
 use Rattle.backref.specs.declared.plan.Outcome.the-variants.{Edit, Refused}
 use Rattle.backref.specs.declared.plan.Plan.{Plan}
 use Rattle.backref.specs.Plans.{edited, Planned}
-use Rattle.backref.specs.Heads.{headOf}
+use Rattle.backref.specs.Reads.{headOf}
 use Rattle.backref.specs.declared.total_plans.TotalChange.{TotalChange}
 use Rattle.backref.specs.declared.total_plans.TotalChange.the-variants.{Raise, LowerByOne, Reduce}
 use Rattle.backref.specs.Totals.{changeTotal, totalBy, toldAnswer}

@@ -20,8 +20,7 @@ use Rattle.inline_refs.specs.declared.ref_name.RefName.the-variants.{Block, Dat
 use Rattle.backref.specs.declared.plan.Plan.{Plan}
 use Rattle.backref.specs.declared.plan.Outcome.the-variants.{Refused}
 use Rattle.backref.specs.Plans.{Planned, PlannedTaken}
-use Rattle.backref.specs.Adds.{ownRank, positionOf, addInline, addKeyed, sharedRef, SharedName}
-use Rattle.backref.specs.Takes.{takeInline}
+use Rattle.backref.specs.ByName.{ownRank, positionOf, addInline, addKeyed, sharedRef, SharedName, takeInline}
 use Rattle.backref.proofs.Gives.{add-is}
 use Rattle.backref.proofs.Outcomes.{plan-refused, plan-same}
 use Rattle.backref.proofs.TakenPlans.{taken-refused, taken-same}

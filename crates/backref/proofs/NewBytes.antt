@@ -9,7 +9,7 @@ use Rattle.fields.specs.Parts.{written}
 use Rattle.format.specs.References.{rowIn, payloadLength, countPosition, counted, makeRef, refBytes}
 use Rattle.format.specs.declared.DataRef.{DataRef}
 use Rattle.inline_refs.specs.Scans.{kindOf, fieldsOf}
-use Rattle.backref.specs.Adds.{withCount}
+use Rattle.backref.specs.ByName.{withCount}
 use Rattle.inline_refs.specs.declared.ref_name.RefName.{RefName}
 use Rattle.inline_refs.specs.declared.ref_name.RefName.the-variants.{Block, Data, SharedBlock, SharedData}
 

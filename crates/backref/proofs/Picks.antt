@@ -18,12 +18,11 @@ use Rattle.format.proofs.Refs.{readRefs-decides}
 use Rattle.format.proofs.Rows.{payload-fields, some-field}
 use Rattle.inline_refs.specs.declared.count.Counted.the-variants.{Count, Refused}
 use Rattle.inline_refs.specs.Steps.{readFrom}
-use Rattle.inline_refs.specs.Scans.{refsIn}
-use Rattle.inline_refs.specs.Counts.{refCountOf}
+use Rattle.inline_refs.specs.Scans.{refsIn, refCountOf}
 use Rattle.inline_refs.proofs.Steps.{At, ends-within}
 use Rattle.inline_refs.proofs.Counts.{count-reads, fault-reads}
 use Rattle.inline_refs.proofs.Notes.{Opens, on-refs}
-use Rattle.backref.specs.Picks.{pickIn, Inside, startIn}
+use Rattle.backref.specs.Reads.{pickIn, Inside, startIn}
 use Rattle.backref.proofs.RefPositions.{further}
 
 -- a payload holds a field

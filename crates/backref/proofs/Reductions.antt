@@ -19,8 +19,7 @@ use Rattle.format.proofs.Answers.{ask-yes, ifAbsent-ok, refused-not}
 use Rattle.backref.specs.declared.plan.Outcome.{Outcome}
 use Rattle.backref.specs.declared.plan.Outcome.the-variants.{Edit, Absent, Remove, Refused}
 use Rattle.backref.specs.declared.plan.Plan.{Plan}
-use Rattle.backref.specs.Plans.{edited, planOutcome, planAnswer, EditIn, PlanIn, Planned}
-use Rattle.backref.specs.Steps.{Whole, Reduces, Needs}
+use Rattle.backref.specs.Plans.{edited, planOutcome, planAnswer, EditIn, PlanIn, Planned, Whole, Reduces, Needs}
 use Rattle.backref.proofs.Outcomes.{plan-is, inside-edit, plan-refused}
 
 -- a total over a total

@@ -16,16 +16,15 @@ use Rattle.format.specs.Bodies.{positions, inlineRefs}
 use Rattle.format.specs.Sheets.{heldCuts}
 use Rattle.format.proofs.Answers.{accepted-inj, refused-not, bind-ok}
 use Rattle.format.proofs.Outputs.{answered-refused, answered-written}
-use Rattle.format.proofs.Refs.{read, readRefs-decides}
+use Rattle.format.proofs.Refs.{readRefs-decides}
 use Rattle.format.proofs.Rows.{payload-fields}
 use Rattle.inline_refs.specs.Steps.{readFrom}
-use Rattle.inline_refs.specs.Scans.{refsIn}
+use Rattle.inline_refs.specs.Scans.{refsIn, refCountOf}
 use Rattle.inline_refs.proofs.Steps.{At}
 use Rattle.inline_refs.proofs.Notes.{Opens, on-refs}
 use Rattle.inline_refs.specs.declared.count.Counted.the-variants.{Count, Refused}
-use Rattle.inline_refs.specs.Counts.{refCountOf}
 use Rattle.inline_refs.proofs.Counts.{count-reads, fault-reads}
-use Rattle.backref.specs.RefPositions.{positionsIn}
+use Rattle.backref.specs.Reads.{positionsIn}
 
 -- ---- one reference further
 

@@ -16,15 +16,14 @@ use Rattle.inline_refs.specs.declared.scan.Seen.{Seen}
 use Rattle.inline_refs.specs.declared.scan.Seen.the-variants.{Open}
 use Rattle.inline_refs.specs.declared.scan.Scan.the-variants.{Fault}
 use Rattle.inline_refs.specs.declared.noted.Found.the-variants.{At, Nothing}
-use Rattle.inline_refs.specs.Scans.{isWanted, scanOf, refsIn}
-use Rattle.inline_refs.specs.Noted.{hitOf}
+use Rattle.inline_refs.specs.Scans.{isWanted, scanOf, refsIn, hitOf}
 use Rattle.inline_refs.proofs.Views.{CutAt}
 use Rattle.inline_refs.proofs.RefPositions.{cut-between, found-view}
 use Rattle.backref.specs.declared.plan.Outcome.the-variants.{Absent, Refused}
 use Rattle.backref.specs.declared.plan.Plan.{Plan}
 use Rattle.backref.specs.Plans.{PlannedTaken}
 use Rattle.backref.proofs.TakenPlans.{with-count, taken-refused, taken-absent, taken-edit}
-use Rattle.backref.specs.Takes.{takeInline}
+use Rattle.backref.specs.ByName.{takeInline}
 use Rattle.backref.proofs.AddedAt.{ReadIn, total-read, scan-faults, placed, planOf, adding-plan}
 
 module _ (type : ℕ) (d : List ℕ) (w : RefName) (plan : Plan) where

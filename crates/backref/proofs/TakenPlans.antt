@@ -11,8 +11,7 @@ use Rattle.format.specs.Questions.{Answer, refused, absent, remove, accepted, a
 use Rattle.format.specs.Bodies.{bodyFits, heldBody, heldTaken}
 use Rattle.backref.specs.declared.plan.Outcome.the-variants.{Absent, Refused}
 use Rattle.backref.specs.declared.plan.Plan.{Plan}
-use Rattle.backref.specs.Plans.{planAnswer, planTaken, Planned, PlannedTaken}
-use Rattle.backref.specs.TakenPlans.{takenFrom}
+use Rattle.backref.specs.Plans.{planAnswer, planTaken, Planned, PlannedTaken, takenFrom}
 use Rattle.backref.proofs.Outcomes.{plan-refused, plan-absent}
 
 -- ---- the writer

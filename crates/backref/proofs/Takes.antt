@@ -21,14 +21,13 @@ use Rattle.inline_refs.specs.declared.scan.Seen.{Seen}
 use Rattle.inline_refs.specs.declared.scan.Seen.the-variants.{Open}
 use Rattle.inline_refs.specs.declared.scan.Scan.the-variants.{Fault}
 use Rattle.inline_refs.specs.declared.noted.Found.the-variants.{At, Nothing}
-use Rattle.inline_refs.specs.Scans.{kindOf, fieldsOf, isWanted, scanOf, refsIn}
-use Rattle.inline_refs.specs.Noted.{hitOf}
+use Rattle.inline_refs.specs.Scans.{kindOf, fieldsOf, isWanted, scanOf, refsIn, hitOf}
 use Rattle.inline_refs.proofs.Views.{CutAt}
 use Rattle.inline_refs.proofs.RefPositions.{cut-between, cut-passed, found-view}
 use Rattle.backref.specs.declared.plan.Outcome.the-variants.{Absent, Refused}
 use Rattle.backref.specs.declared.plan.Plan.{Plan}
 use Rattle.backref.specs.Plans.{Planned}
-use Rattle.backref.specs.Takes.{dropNamed}
+use Rattle.backref.specs.ByName.{dropNamed}
 use Rattle.backref.proofs.NewBytes.{Holds}
 use Rattle.backref.proofs.Outcomes.{plan-absent, plan-refused}
 use Rattle.backref.proofs.PlannedTotals.{lowered-yes, lowered-no}

@@ -16,8 +16,7 @@ use Rattle.format.proofs.Answers.{ask-ok, bind-ok, found-ok, accepted-inj}
 use Rattle.format.proofs.Refs.{refsBytes-append}
 use Rattle.format.proofs.Bodies.{fixed-long, length-bodyBytes, read-sound, bodyBytes-read}
 use Rattle.backref.specs.declared.plan.Plan.{Plan}
-use Rattle.backref.specs.Plans.{planAnswer, planTaken, PlannedTaken}
-use Rattle.backref.specs.Steps.{Whole}
+use Rattle.backref.specs.Plans.{planAnswer, planTaken, PlannedTaken, Whole}
 
 -- the body without one of its references
 left-length : (type : ℕ) (d : List ℕ) → T (areBytes d) → (b : Body) → readBody type d ≡ accepted b → (c : Cut Ref) → b .refs ≡ c .front ++ c .hit ∷ c .back

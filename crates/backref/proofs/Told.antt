@@ -16,8 +16,7 @@ use Rattle.inline_refs.specs.declared.scan.Seen.{Seen}
 use Rattle.inline_refs.specs.declared.scan.Seen.the-variants.{Open}
 use Rattle.inline_refs.specs.declared.scan.Scan.the-variants.{Fault}
 use Rattle.inline_refs.specs.declared.noted.Found.the-variants.{At, Nothing}
-use Rattle.inline_refs.specs.Scans.{kindOf, fieldsOf, scanOf, refsIn}
-use Rattle.inline_refs.specs.Noted.{hitOf}
+use Rattle.inline_refs.specs.Scans.{kindOf, fieldsOf, scanOf, refsIn, hitOf}
 use Rattle.inline_refs.proofs.RefPositions.{found-view}
 use Rattle.backref.proofs.AddedAt.{ReadIn, scan-faults}
 

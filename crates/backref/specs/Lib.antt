@@ -1,9 +1,4 @@
-pub mod RefPositions
-pub mod Picks
-pub mod Heads
+pub mod Reads
 pub mod Totals
-pub mod Adds
-pub mod Takes
+pub mod ByName
 pub mod Plans
-pub mod TakenPlans
-pub mod Steps

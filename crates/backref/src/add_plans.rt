@@ -12,7 +12,7 @@ ghost use lib.Dec.{eqb};
 ghost use Rattle.format.specs.References.{counted};
 ghost use Rattle.inline_refs.specs.Scans.{kindOf, KnownFor};
 ghost use Rattle.backref.specs.Plans.{Planned};
-ghost use Rattle.backref.specs.Adds.{byScan, addAtOf, Raised, addInline, addKeyed};
+ghost use Rattle.backref.specs.ByName.{byScan, addAtOf, Raised, addInline, addKeyed};
 
 // Question 10: amount 1 where the kind has no count.
 fn may_add(wanted: RefName, amount: u32) -> bool

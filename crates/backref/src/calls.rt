@@ -10,7 +10,7 @@ use inline_refs::RefName;
 ghost use lib.ListN.{length};
 ghost use Rattle.format.specs.Questions.{Answered, AnsweredTaken};
 ghost use Rattle.format.specs.Bodies.{heldBody, dropInlineTreeRef, dropInlineDataRef, addInlineTreeRef, addInlineDataRef, addInlineShared, addInlineKeyed, heldTaken, takeInlineShared};
-ghost use Rattle.backref.specs.Adds.{addKeyed};
+ghost use Rattle.backref.specs.ByName.{addKeyed};
 
 pub fn drop_inline_tree_ref(item_type: u8, body: &[u8], tree: u64, out: &mut [u8]) -> Edited
     ensures { λ r. ⌜ Answered (heldBody (length (now (out .entry))) (dropInlineTreeRef «item_type» (now (body .entry)) (record { tree = tree }))) r (now (out .entry)) (now (out .exit)) ⌝ }

@@ -5,7 +5,7 @@ use inline_refs::Found;
 use inline_refs::RefName;
 use inline_refs::Scan;
 ghost use Rattle.backref.specs.Plans.{Planned, PlannedTaken};
-ghost use Rattle.backref.specs.Takes.{dropNamed, takeInline};
+ghost use Rattle.backref.specs.ByName.{dropNamed, takeInline};
 
 // One count off the wanted reference, and off the total. Place 0: no gap is looked for, so no hash is computed.
 pub fn plan_drop(item_type: u8, body: &[u8], wanted: RefName) -> Plan

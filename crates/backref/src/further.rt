@@ -3,7 +3,7 @@ use crate::plan::Outcome;
 use crate::plan::Plan;
 use crate::plan::edit;
 use crate::plan::refuse;
-ghost use Rattle.backref.specs.Steps.{Reduces, Needs};
+ghost use Rattle.backref.specs.Plans.{Reduces, Needs};
 
 // An amount off the total that the plan writes.
 pub fn plan_reduced(plan: Plan, amount: u64) -> Plan

@@ -15,7 +15,7 @@ ghost use Rattle.fields.specs.Numbers.{leBytes};
 ghost use Rattle.fields.specs.Parts.{written};
 ghost use Rattle.format.specs.References.{payloadLength, countPosition, counted, makeRef, refBytes};
 ghost use Rattle.inline_refs.specs.Scans.{kindOf, fieldsOf};
-ghost use Rattle.backref.specs.Adds.{withCount};
+ghost use Rattle.backref.specs.ByName.{withCount};
 
 // The row of the wanted kind. Each arm names its kind, since the compiler then looks it up, and the call does not.
 fn row_of(wanted: RefName) -> Lengths

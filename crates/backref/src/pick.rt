@@ -12,8 +12,8 @@ ghost use Rattle.format.specs.Questions.{codeOf, lentPart, pickedOf};
 ghost use Rattle.format.specs.References.{kinds};
 ghost use Rattle.format.specs.Bodies.{inlineRef, inlinePayload};
 ghost use Rattle.inline_refs.specs.Steps.{readFrom};
-ghost use Rattle.inline_refs.specs.Counts.{refCountOf};
-ghost use Rattle.backref.specs.Picks.{pickIn, Inside, startIn};
+ghost use Rattle.inline_refs.specs.Scans.{refCountOf};
+ghost use Rattle.backref.specs.Reads.{pickIn, Inside, startIn};
 
 // Among the references from `start` on, which were counted before.
 fn pick<'a>(

@@ -1,7 +1,6 @@
 // Planned edits of a body: an edit is planned first and written later, so that a call on a sheet needs no second buffer.
 ghost use mathlib.Core.Path.{_≡_};
 ghost use Prim.Native.Nat.{_+_};
-ghost use Rattle.backref.specs.Plans.{planOutcome};
 
 pub enum Outcome {
     Edit,

@@ -8,7 +8,7 @@ use inline_refs::RefName;
 ghost use mathlib.Core.Path.{_≡_};
 ghost use mathlib.Core.Bool.{true};
 ghost use Rattle.format.specs.Bodies.{addInlineShared, takeInlineShared, sharedKind};
-ghost use Rattle.backref.specs.Adds.{SharedName};
+ghost use Rattle.backref.specs.ByName.{SharedName};
 ghost use Rattle.backref.specs.Plans.{Planned, PlannedTaken};
 
 // Whether a kind is a shared reference's.

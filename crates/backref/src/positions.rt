@@ -13,8 +13,8 @@ ghost use Rattle.format.specs.References.{kinds};
 ghost use Rattle.format.specs.Bodies.{inlineRefs};
 ghost use Rattle.format.specs.Sheets.{heldCuts};
 ghost use Rattle.inline_refs.specs.Steps.{readFrom};
-ghost use Rattle.inline_refs.specs.Counts.{refCountOf};
-ghost use Rattle.backref.specs.RefPositions.{positionsIn};
+ghost use Rattle.inline_refs.specs.Scans.{refCountOf};
+ghost use Rattle.backref.specs.Reads.{positionsIn};
 
 fn put_positions<'a>(
     rows: &'a [[u8; 3]; 5],

@@ -11,7 +11,7 @@ ghost use Rattle.fields.specs.Numbers.{leBytes};
 ghost use Rattle.fields.specs.Parts.{written};
 ghost use Rattle.format.specs.Bodies.{withFlags};
 ghost use Rattle.backref.specs.Plans.{Planned};
-ghost use Rattle.backref.specs.Heads.{headOf};
+ghost use Rattle.backref.specs.Reads.{headOf};
 ghost use Rattle.backref.specs.Totals.{toldAnswer, totalBy, changeTotal};
 
 // What becomes of a total.

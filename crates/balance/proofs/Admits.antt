@@ -14,8 +14,8 @@ use Rattle.fields.proofs.Lists.{and-false, lt-or}
 use Rattle.format.specs.References.{rowIn, known, payloadLength, countPosition, counted, fieldCount, Ref, refAt, rank, falls}
 use Rattle.data_refs.specs.Triples.{tripleSize, tripleOf, Distinct, LooksUp}
 use Rattle.data_refs.proofs.Differing.{none-twice}
-use Rattle.balance.specs.SideBySide.{spanRefs}
-use Rattle.balance.specs.Runs.{RefRun, start, joins, keptRun, after, runsApart, weighs, admits}
+use Rattle.balance.specs.Ranks.{spanRefs}
+use Rattle.balance.specs.Tally.{RefRun, start, joins, keptRun, after, runsApart, weighs, admits}
 use Rattle.balance.proofs.SideBySide.{span-snoc}
 use Rattle.balance.specs.declared.record.Run.{Run as Passed}
 use Rattle.balance.specs.declared.record.Admitted.{Admitted}

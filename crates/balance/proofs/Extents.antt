@@ -17,7 +17,7 @@ use Rattle.theorems.proofs.Facts.{entries-here, none-here}
 use Rattle.balance.specs.Tally.{GroupTally, fresh, closed}
 use Rattle.balance.proofs.Sorted.{names}
 use Rattle.balance.proofs.Parts.{isRefOf, totalIn, Facts}
-use Rattle.balance.proofs.Says.{nothing, says, names-far}
+use Rattle.balance.proofs.Says.{names-far}
 
 -- ---- what a tally says of each extent and name
 

@@ -16,10 +16,9 @@ use Rattle.format.specs.References.{payloadLength, Ref, refAt, rank, rankOf}
 use Rattle.theorems.proofs.Order.{named-yes}
 use Rattle.inline_refs.specs.declared.ref_name.RefName.{RefName}
 use Rattle.inline_refs.specs.Scans.{kindOf, fieldsOf, isWanted}
-use Rattle.balance.specs.SideBySide.{spanRefs}
+use Rattle.balance.specs.Ranks.{spanRefs, payloadAt, rankAt, Falling, CutsAt, absentIn}
 use Rattle.balance.specs.declared.span.Span.{Span}
 use Rattle.balance.specs.declared.search.Bounds.{Bounds}
-use Rattle.balance.specs.Ranks.{payloadAt, rankAt, Falling, CutsAt, absentIn}
 use Rattle.balance.proofs.Steps.{mul-next}
 use Rattle.balance.proofs.Spanning.{span-at, span-all}
 

@@ -27,8 +27,7 @@ use Rattle.inline_refs.specs.declared.start.Start.the-variants.{From, Refused a
 use Rattle.inline_refs.specs.Steps.{readFrom, openOf}
 use Rattle.inline_refs.specs.Scans.{refsIn}
 use Rattle.inline_refs.proofs.Notes.{Opens, opens}
-use Rattle.balance.specs.Runs.{start, sound}
-use Rattle.balance.specs.Tally.{GroupTally, weightIn, taken}
+use Rattle.balance.specs.Tally.{start, sound, GroupTally, weightIn, taken}
 use Rattle.balance.proofs.Sorted.{sound-out}
 use Rattle.balance.specs.Ranks.{refsRead, refsFrom}
 use Rattle.balance.proofs.Steps.{read-is}

@@ -15,8 +15,7 @@ use Rattle.format.specs.Names.{View, malformed, viewOf, refEntries, entries, we
 use Rattle.format.proofs.Refs.{yes-or-no}
 use Rattle.format.proofs.Keys.{Before, below-out, beyond, rising-after}
 use Rattle.format.proofs.Items.{sane, sane-out}
-use Rattle.balance.specs.Runs.{start, sound}
-use Rattle.balance.specs.Tally.{GroupTally, fresh, closed, unnamed, taken, here, entered, entryOf, onward, pass}
+use Rattle.balance.specs.Tally.{start, sound, GroupTally, fresh, closed, unnamed, taken, here, entered, entryOf, onward, pass}
 use Rattle.balance.proofs.Parts.{nil, none-named, balanced-facts, facts-balanced, facts-same}
 use Rattle.balance.proofs.Says.{Says, aRecord, aReference, nothing, bad, says}
 use Rattle.balance.proofs.Extents.{Of, Valid, zero-cond, fresh-valid, far-all, ahead, past, leave, return}

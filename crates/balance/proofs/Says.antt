@@ -22,8 +22,7 @@ use Rattle.format.proofs.Rows.{Kind, k172, k176, k178, k182, k184, known-kind}
 use Rattle.format.proofs.Refs.{whole, whole-out}
 use Rattle.format.proofs.Bodies.{read-sound}
 use Rattle.theorems.proofs.Naming.{Naming, is176, is178, is182, is184}
-use Rattle.balance.specs.Runs.{weighs}
-use Rattle.balance.specs.Tally.{weightIn}
+use Rattle.balance.specs.Tally.{weighs, weightIn}
 use Rattle.balance.proofs.Sorted.{names, nameOf, names-cons, one-or}
 
 -- ---- what an item says

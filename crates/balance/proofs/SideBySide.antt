@@ -6,7 +6,7 @@ use native.Mathlib.Omega.{arith}
 use mathlib.Core.List.{List, [], _∷_, _++_}
 use lib.ListN.{drop}
 use Rattle.format.specs.References.{payloadLength, Ref, refAt}
-use Rattle.balance.specs.SideBySide.{spanRefs}
+use Rattle.balance.specs.Ranks.{spanRefs}
 
 mul-more : (n k : ℕ) → suc n * k ≡ k + n * k
 mul-more n k = suc-mul n k ∙ add-comm (n * k) k

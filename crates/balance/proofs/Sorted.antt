@@ -16,7 +16,7 @@ use Rattle.format.specs.Names.{Name, sameName, refEntry, refEntries, stands}
 use Rattle.theorems.proofs.Sums.{sameName-yes, sameName-refl, refEntries-append}
 use Rattle.theorems.proofs.Order.{follows-out, named-yes, yes-named}
 use Rattle.format.proofs.Refs.{yes-or-no}
-use Rattle.balance.specs.Runs.{RefRun, start, joins, keptRun, after, runsApart, weighs, admits, sound}
+use Rattle.balance.specs.Tally.{RefRun, start, joins, keptRun, after, runsApart, weighs, admits, sound}
 
 -- how often a name stands among the references of an extent
 abbrev pub names : ℕ → Name → List Ref → ℕ

@@ -14,9 +14,8 @@ use Rattle.fields.specs.Lists.{all}
 use Rattle.fields.proofs.Lists.{T-eq, all-right, all-map, all-two}
 use Rattle.format.specs.References.{known, payloadLength, Ref, refAt, rank, falls, follows, leads, ordered}
 use Rattle.theorems.proofs.Order.{follows-out, ordered-back, follows-trans}
-use Rattle.balance.specs.SideBySide.{spanRefs}
+use Rattle.balance.specs.Ranks.{spanRefs, refsFrom, reached, left, Skips, CountsIn, payloadAt, rankAt, Spanned}
 use Rattle.balance.specs.declared.span.Span.{Span}
-use Rattle.balance.specs.Ranks.{refsFrom, reached, left, Skips, CountsIn, payloadAt, rankAt, Spanned}
 
 -- ---- those of a span, by number
 

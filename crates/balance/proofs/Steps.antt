@@ -6,7 +6,7 @@ use native.Mathlib.Numerals.{add-one}
 use native.Mathlib.Omega.{arith}
 use mathlib.Core.Bool.{true}
 use mathlib.Core.List.{List, [], _∷_, _++_, append-assoc}
-use lib.Dec.{T, leb, ltb, le→leb, lt→ltb}
+use lib.Dec.{T, ltb, le→leb, lt→ltb}
 use lib.ListN.{length, drop}
 use mir.Facts.{yes-and, no-eqb}
 use Rattle.fields.specs.Lists.{all}
@@ -16,9 +16,8 @@ use Rattle.format.specs.References.{payloadLength, Ref, refAt}
 use Rattle.format.proofs.Answers.{refused-not, accepted-inj, bind-ok}
 use Rattle.inline_refs.specs.Steps.{readFrom}
 use Rattle.inline_refs.proofs.Steps.{At}
-use Rattle.balance.specs.SideBySide.{spanRefs}
+use Rattle.balance.specs.Ranks.{spanRefs, refsRead, refsFrom, reached, left, Skips, CountsIn, payloadAt}
 use Rattle.balance.proofs.SideBySide.{span-snoc}
-use Rattle.balance.specs.Ranks.{refsRead, refsFrom, reached, left, Skips, CountsIn, payloadAt}
 
 pub mul-next : (n k : ℕ) → (n + 1) * k ≡ n * k + k
 mul-next n k = ap (λ (m : ℕ). m * k) (add-one n) ∙ suc-mul n k

@@ -20,8 +20,7 @@ use Rattle.format.proofs.Keys.{Before, below-out, beyond, rising-after}
 use Rattle.format.proofs.Items.{sane, sane-out}
 use Rattle.theorems.proofs.Naming.{Naming, above-172}
 use Rattle.theorems.proofs.Order.{named-yes}
-use Rattle.balance.specs.Runs.{start, weighs, sound}
-use Rattle.balance.specs.Tally.{GroupTally, weightIn, unnamed, taken}
+use Rattle.balance.specs.Tally.{start, weighs, sound, GroupTally, weightIn, unnamed}
 use Rattle.balance.proofs.Sorted.{names, nameOf, one-or, one-most, one-self, names-other, names-cons, sound-out, sound-in}
 use Rattle.balance.proofs.Parts.{isRefOf, totalIn, Facts, R⁺, U⁺, S⁺, N⁺, facts-tail, facts-heavy, facts-cons, facts-same}
 use Rattle.balance.proofs.Says.{Says, aRecord, aReference, nothing, bad, says, record-no-ref, record-low, refs-weight, heavy-in, heavy-out, kinds-above, entries-record, entries-ref, entries-none, entries-bad, ref-weight}

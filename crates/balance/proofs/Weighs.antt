@@ -13,9 +13,8 @@ use Rattle.inline_refs.specs.Steps.{readFrom}
 use Rattle.inline_refs.proofs.Steps.{At}
 use Rattle.data_refs.proofs.Differing.{none-twice}
 use Rattle.balance.proofs.Admits.{none-ahead}
-use Rattle.balance.specs.SideBySide.{spanRefs}
-use Rattle.balance.specs.Runs.{RefRun, keptRun, admits, sound}
-use Rattle.balance.specs.Tally.{weightIn}
+use Rattle.balance.specs.Ranks.{spanRefs}
+use Rattle.balance.specs.Tally.{RefRun, keptRun, admits, sound, weightIn}
 use Rattle.balance.specs.declared.record.Run.{Run}
 use Rattle.balance.specs.declared.record.Weighed.the-variants.{Of, Bad}
 use Rattle.balance.specs.Spans.{lastRank, runOf, RunKept, weighing, weighedOf}

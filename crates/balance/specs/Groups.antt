@@ -1,6 +1,6 @@
 -- What code keeps of the extent at hand, as the tally of the pass; and what its functions say of an item. Assumes nothing.
 use mathlib.Core.Path.{_≡_}
-use mathlib.Core.Bool.{true, false, cond}
+use mathlib.Core.Bool.{Bool, true, false, cond}
 use mathlib.Core.Option.{none, some}
 use mathlib.Core.List.{List, [], _∷_}
 use Prim.Native.Nat.{ℕ, _+_, _-_, _*_, _≤_}
@@ -63,13 +63,13 @@ pub record GroupKept (s : List ℕ) (g : Group) (at : ℕ) : Type 0 where
   pub body : g .marked ≡ true → GroupBody s g
   pub light : g .weight ≤ 4294967296 * at
 
--- an extent whose record was read
-abbrev pub afterRecord : ℕ → ℕ → ℕ → ℕ → ℕ → ℕ → Group
-afterRecord extent from to start total weight =
+-- an extent of which no reference was looked for: whether its record was read, with what
+abbrev pub opened : Bool → ℕ → ℕ → ℕ → ℕ → ℕ → ℕ → Group
+opened marked extent from to start total weight =
     record {
       extent = extent;
       fair = true;
-      marked = true;
+      marked = marked;
       from = from;
       to = to;
       start = start;
@@ -78,20 +78,13 @@ afterRecord extent from to start total weight =
       span = record { kind = 0; from = 0; n = 0; near = 0 };
     }
 
+-- an extent whose record was read
+abbrev pub afterRecord : ℕ → ℕ → ℕ → ℕ → ℕ → ℕ → Group
+afterRecord extent from to start total weight = opened true extent from to start total weight
+
 -- an extent of which no item was read
 abbrev pub empty : ℕ → Group
-empty extent =
-    record {
-      extent = extent;
-      fair = true;
-      marked = false;
-      from = 0;
-      to = 0;
-      start = 0;
-      total = 0;
-      weight = 0;
-      span = record { kind = 0; from = 0; n = 0; near = 0 };
-    }
+empty extent = opened false extent 0 0 0 0 0
 
 -- an item of the extent at hand, up to `next`: what is kept after it, or that it may not stand there
 pub record Taking (s : List ℕ) (g : Group) (i : Item) (next : ℕ) (h : Group) : Type 0 where

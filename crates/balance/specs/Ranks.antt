@@ -1,19 +1,23 @@
--- Where the references of one type stand in a body, and what they are ordered by. Assumes nothing.
+-- Where the references of one type stand side by side in a body, and what they are ordered by. Assumes nothing.
 use mathlib.Core.Path.{_≡_}
 use mathlib.Core.Logic.{_≢_}
 use mathlib.Core.Bool.{Bool, true, not}
 use mathlib.Core.List.{List, [], _∷_, _++_}
-use Prim.Native.Nat.{ℕ, _+_, _*_, _≤_, _<_}
+use Prim.Native.Nat.{ℕ, zero, suc, _+_, _*_, _≤_, _<_}
 use lib.Dec.{T, leb, ltb, eqb}
 use lib.ListN.{length, drop}
 use Rattle.fields.specs.Lists.{all}
 use Rattle.format.specs.Questions.{Answer, accepted, resultOr}
 use Rattle.format.specs.References.{known, payloadLength, Ref, refAt, rank}
-use Rattle.inline_refs.specs.Steps.{readFrom}
 use Rattle.inline_refs.specs.declared.ref_name.RefName.{RefName}
+use Rattle.inline_refs.specs.Steps.{readFrom}
 use Rattle.inline_refs.specs.Scans.{isWanted}
-use Rattle.balance.specs.SideBySide.{spanRefs}
 use Rattle.balance.specs.declared.span.Span.{Span}
+
+-- the references of a type from a position on, so many
+unfoldable pub spanRefs : ℕ → List ℕ → ℕ → ℕ → List Ref
+spanRefs kind body from zero = []
+spanRefs kind body from (suc n) = refAt kind (drop (from + 1) body) ∷ spanRefs kind body (from + (1 + payloadLength kind)) n
 
 -- the references that were read
 unfoldable pub refsRead : Answer (List Ref) → List Ref

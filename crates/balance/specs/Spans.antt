@@ -8,9 +8,8 @@ use Rattle.fields.specs.Lists.{sum, all, same}
 use Rattle.format.specs.Questions.{Answer, resultOr}
 use Rattle.format.specs.References.{payloadLength, Ref, refAt, rank}
 use Rattle.data_refs.specs.Triples.{tripleSize, Distinct}
-use Rattle.balance.specs.SideBySide.{spanRefs}
-use Rattle.balance.specs.Runs.{RefRun, start, keptRun, admits, sound}
-use Rattle.balance.specs.Tally.{weightIn}
+use Rattle.balance.specs.Ranks.{spanRefs}
+use Rattle.balance.specs.Tally.{RefRun, start, keptRun, admits, sound, weightIn}
 use Rattle.balance.specs.declared.record.Run.{Run as Passed}
 use Rattle.balance.specs.declared.record.Admitted.{Admitted}
 use Rattle.balance.specs.declared.record.Admitted.the-variants.{Yes, No}

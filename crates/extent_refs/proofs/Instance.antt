@@ -8,8 +8,7 @@ use Rattle.format.specs.Questions.{Answer, codeOf, lentPart, lent}
 use Rattle.format.proofs.Computed.{computed}
 use Rattle.format.proofs.Postings.{opening, opens}
 use Rattle.theorems.specs.Calls.{nextSheet, CallsDemand3}
-use Rattle.extent_refs.specs.Postings.{changeOf, postedIf}
-use Rattle.extent_refs.specs.Posts.{PostCall, answerBy, PostsKept, callsOf}
+use Rattle.extent_refs.specs.Posts.{changeOf, postedIf, PostCall, answerBy, PostsKept, callsOf}
 use Rattle.extent_refs.proofs.Posts.{posts-demand-3}
 
 -- number, a and b of a call on the block at 8192

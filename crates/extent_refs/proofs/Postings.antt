@@ -1,6 +1,6 @@
 -- A posting of the change that stands in for numbers is the posting that those numbers ask for. Assumes nothing.
 use mathlib.Core.Path.{_≡_, refl, sym, ap, _∙_, subst}
-use mathlib.Core.Bool.{Bool, true, false, _&&_}
+use mathlib.Core.Bool.{Bool, false, _&&_}
 use mathlib.Core.List.{List}
 use mathlib.Core.Option.{Option, none, some}
 use Prim.Native.Nat.{ℕ, _≤_, _<_}
@@ -15,7 +15,7 @@ use Rattle.format.specs.Questions.{Answer, refused, accepted, ask, bind, Answer
 use Rattle.format.specs.Bodies.{sharedKind}
 use Rattle.format.specs.Items.{Item, readSheet, onSheet, nodesizeFits, heldSheet}
 use Rattle.format.specs.Ledger.{kindFits, post, posted}
-use Rattle.extent_refs.specs.Postings.{changeOf, postedIf, narrowed, standIn}
+use Rattle.extent_refs.specs.Posts.{changeOf, postedIf, narrowed, standIn}
 
 -- ---- the change that stands in
 

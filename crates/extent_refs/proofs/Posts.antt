@@ -1,8 +1,8 @@
 -- A list of calls of the exported `ledger_post` is a list of calls of `post`, so demand 3 is so of it. Assumes nothing.
-use mathlib.Core.Path.{_≡_, refl, sym, ap, _∙_, subst}
-use mathlib.Core.Bool.{Bool, true, false, _&&_, cond}
+use mathlib.Core.Path.{_≡_, sym, ap, _∙_, subst}
+use mathlib.Core.Bool.{Bool, true, false, cond}
 use mathlib.Core.List.{List, [], _∷_}
-use mathlib.Core.Option.{Option, none, some}
+use mathlib.Core.Option.{none, some}
 use Prim.Native.Nat.{ℕ, _^_}
 use native.Mathlib.Omega.{arith}
 use lib.Dec.{T, leb, ltb, eqb, leb→le}
@@ -11,21 +11,17 @@ use borrow.Author.Tests.{ne-eqb}
 use mir.Facts.{and-yes, yes-and}
 use Rattle.fields.specs.Lists.{all}
 use Rattle.fields.specs.Numbers.{areBytes}
-use Rattle.format.specs.declared.Change.{Change}
 use Rattle.format.specs.declared.Change.the-variants.{AddBlock, AddData, AddShared, DropBlock, DropData, DropShared}
-use Rattle.format.specs.declared.Edited.{Edited}
 use Rattle.format.specs.declared.Edited.the-variants.{Written, Refused}
 use Rattle.format.specs.Questions.{Answer, codeOf, lentPart, editedOf, Answered}
-use Rattle.format.specs.Ledger.{posted}
 use Rattle.format.specs.History.{answerTo, balancedSheet}
 use Rattle.theorems.specs.Demand.{Wide, Wides, Decided, no, yes}
 use Rattle.theorems.proofs.Decided.{decided}
 use Rattle.theorems.specs.Calls.{CallKept, CallsKept, nextSheet, postingOf, postingsOf, CallsDemand3}
 use Rattle.theorems.proofs.Calls.{calls-demand-3}
 use Rattle.extent_refs.specs.Exports.{Coded}
-use Rattle.extent_refs.specs.Postings.{changeOf, postedIf, standIn}
+use Rattle.extent_refs.specs.Posts.{changeOf, standIn, PostCall, asked, PostKept, isWide, answerBy, callOf, PostsKept, callsOf}
 use Rattle.extent_refs.proofs.Postings.{stands-in}
-use Rattle.extent_refs.specs.Posts.{PostCall, asked, PostKept, isWide, answerBy, callOf, PostsKept, callsOf}
 
 -- ---- one call
 

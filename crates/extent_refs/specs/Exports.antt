@@ -2,7 +2,7 @@
 -- the result before the bytes that stood there. One record for each form of result. Assumes nothing.
 use mathlib.Core.Path.{_≡_}
 use mathlib.Core.Bool.{Bool, cond}
-use mathlib.Core.List.{List}
+use mathlib.Core.List.{List, [], _∷_}
 use Prim.Native.Nat.{ℕ}
 use lib.ListN.{length}
 use Rattle.format.specs.declared.Edited.{Edited}
@@ -19,7 +19,7 @@ use Rattle.format.specs.declared.Judged.the-variants.{Says, Refused as Unjudged
 use Rattle.format.specs.declared.InlineRef.{InlineRef}
 use Rattle.format.specs.declared.Picked.{Picked}
 use Rattle.format.specs.declared.Picked.the-variants.{Ref as Reference, Refused as Unpicked}
-use Rattle.format.specs.Questions.{Answer, accepted, bind, TakenOut, bytesOf, codeOf, lent, lentNumber, lentPart}
+use Rattle.format.specs.Questions.{Answer, resultOr, lent, lentNumber, lentPart, codeOf, TakenOut, bytesOf}
 
 -- ---- the records
 
@@ -30,13 +30,10 @@ pub record Coded (a : Answer (List ℕ)) (r len : ℕ) (old new : List ℕ) : Ty
   pub output : new ≡ lent a old
 
 -- the same with the count of the reference that was taken out
-abbrev pub countIn : Answer TakenOut → Answer ℕ
-countIn a = bind a (λ out. accepted (out .count))
-
 pub record CodedTaken (a : Answer TakenOut) (r len count : ℕ) (old new : List ℕ) : Type 0 where
   pub code : r ≡ codeOf a
   pub size : len ≡ length (lentPart (bytesOf a))
-  pub number : count ≡ lentNumber (countIn a)
+  pub number : count ≡ resultOr 0 (λ out. out .count) a
   pub output : new ≡ lent (bytesOf a) old
 
 -- a number
@@ -47,17 +44,14 @@ pub record CodedNumber (a : Answer ℕ) (r value : ℕ) : Type 0 where
 -- a key
 pub record CodedKey (a : Answer Key) (r objectid kind offset : ℕ) : Type 0 where
   pub code : r ≡ codeOf a
-  pub first : objectid ≡ lentNumber (bind a (λ key. accepted (key .objectid)))
-  pub second : kind ≡ lentNumber (bind a (λ key. accepted (key .kind)))
-  pub third : offset ≡ lentNumber (bind a (λ key. accepted (key .offset)))
+  pub first : objectid ≡ resultOr 0 (λ key. key .objectid) a
+  pub second : kind ≡ resultOr 0 (λ key. key .kind) a
+  pub third : offset ≡ resultOr 0 (λ key. key .offset) a
 
 -- yes or no, as 1 or 0
-abbrev pub asNumber : Answer Bool → Answer ℕ
-asNumber a = bind a (λ judgement. accepted (cond judgement 1 0))
-
 pub record CodedBool (a : Answer Bool) (r value : ℕ) : Type 0 where
   pub code : r ≡ codeOf a
-  pub number : value ≡ lentNumber (asNumber a)
+  pub number : value ≡ resultOr 0 (λ judgement. cond judgement 1 0) a
 
 -- a part of a lent slice: where it starts and how long it is
 pub record CodedPart (a : Answer (List ℕ)) (place : Answer ℕ) (r start len : ℕ) : Type 0 where
@@ -66,93 +60,38 @@ pub record CodedPart (a : Answer (List ℕ)) (place : Answer ℕ) (r start len :
   pub size : len ≡ length (lentPart a)
 
 -- a reference of a body: its kind, its first field, and where its payload starts and how long it is
-abbrev pub numberIn : (InlineRef → ℕ) → Answer InlineRef → Answer ℕ
-numberIn number a = bind a (λ r. accepted (number r))
-
 pub record CodedRef (a : Answer InlineRef) (r kind offset start len : ℕ) : Type 0 where
   pub code : r ≡ codeOf a
-  pub type : kind ≡ lentNumber (numberIn (λ x. x .kind) a)
-  pub field : offset ≡ lentNumber (numberIn (λ x. x .offset) a)
-  pub first : start ≡ lentNumber (numberIn (λ x. x .start) a)
-  pub size : len ≡ lentNumber (numberIn (λ x. x .len) a)
+  pub type : kind ≡ resultOr 0 (λ x. x .kind) a
+  pub field : offset ≡ resultOr 0 (λ x. x .offset) a
+  pub first : start ≡ resultOr 0 (λ x. x .start) a
+  pub size : len ≡ resultOr 0 (λ x. x .len) a
 
--- ---- the declared enums as numbers
+-- ---- the declared enums as numbers: the code, then the lent numbers in order
 
-abbrev pub editedCode : Edited → ℕ
-editedCode (Written size) = 0
-editedCode Absent = 100
-editedCode Remove = 101
-editedCode (Refused refusal) = refusal
+abbrev pub editedNumbers : Edited → List ℕ
+editedNumbers (Written size) = 0 ∷ size ∷ []
+editedNumbers Absent = 100 ∷ 0 ∷ []
+editedNumbers Remove = 101 ∷ 0 ∷ []
+editedNumbers (Refused refusal) = refusal ∷ 0 ∷ []
 
-abbrev pub editedSize : Edited → ℕ
-editedSize (Written size) = size
-editedSize Absent = 0
-editedSize Remove = 0
-editedSize (Refused refusal) = 0
+abbrev pub takenNumbers : Taken → List ℕ
+takenNumbers (Out size count) = 0 ∷ size ∷ count ∷ []
+takenNumbers NoMatch = 100 ∷ 0 ∷ 0 ∷ []
+takenNumbers (Denied refusal) = refusal ∷ 0 ∷ 0 ∷ []
 
-abbrev pub takenCode : Taken → ℕ
-takenCode (Out size count) = 0
-takenCode NoMatch = 100
-takenCode (Denied refusal) = refusal
+abbrev pub toldNumbers : Told → List ℕ
+toldNumbers (Value number) = 0 ∷ number ∷ []
+toldNumbers (Untold refusal) = refusal ∷ 0 ∷ []
 
-abbrev pub takenSize : Taken → ℕ
-takenSize (Out size count) = size
-takenSize NoMatch = 0
-takenSize (Denied refusal) = 0
+abbrev pub filedNumbers : Filed → List ℕ
+filedNumbers (Under key) = 0 ∷ key .objectid ∷ key .kind ∷ key .offset ∷ []
+filedNumbers (Unfiled refusal) = refusal ∷ 0 ∷ 0 ∷ 0 ∷ []
 
-abbrev pub takenCount : Taken → ℕ
-takenCount (Out size count) = count
-takenCount NoMatch = 0
-takenCount (Denied refusal) = 0
+abbrev pub judgedNumbers : Judged → List ℕ
+judgedNumbers (Says judgement) = 0 ∷ cond judgement 1 0 ∷ []
+judgedNumbers (Unjudged refusal) = refusal ∷ 0 ∷ []
 
-abbrev pub toldCode : Told → ℕ
-toldCode (Value number) = 0
-toldCode (Untold number) = number
-
-abbrev pub toldNumber : Told → ℕ
-toldNumber (Value number) = number
-toldNumber (Untold number) = 0
-
-abbrev pub filedCode : Filed → ℕ
-filedCode (Under key) = 0
-filedCode (Unfiled number) = number
-
-abbrev pub filedObjectid : Filed → ℕ
-filedObjectid (Under key) = key .objectid
-filedObjectid (Unfiled number) = 0
-
-abbrev pub filedKind : Filed → ℕ
-filedKind (Under key) = key .kind
-filedKind (Unfiled number) = 0
-
-abbrev pub filedOffset : Filed → ℕ
-filedOffset (Under key) = key .offset
-filedOffset (Unfiled number) = 0
-
-abbrev pub judgedCode : Judged → ℕ
-judgedCode (Says judgement) = 0
-judgedCode (Unjudged number) = number
-
-abbrev pub judgedNumber : Judged → ℕ
-judgedNumber (Says judgement) = cond judgement 1 0
-judgedNumber (Unjudged number) = 0
-
-abbrev pub pickedCode : Picked → ℕ
-pickedCode (Reference r) = 0
-pickedCode (Unpicked number) = number
-
-abbrev pub pickedKind : Picked → ℕ
-pickedKind (Reference r) = r .kind
-pickedKind (Unpicked number) = 0
-
-abbrev pub pickedOffset : Picked → ℕ
-pickedOffset (Reference r) = r .offset
-pickedOffset (Unpicked number) = 0
-
-abbrev pub pickedStart : Picked → ℕ
-pickedStart (Reference r) = r .start
-pickedStart (Unpicked number) = 0
-
-abbrev pub pickedLen : Picked → ℕ
-pickedLen (Reference r) = r .len
-pickedLen (Unpicked number) = 0
+abbrev pub pickedNumbers : Picked → List ℕ
+pickedNumbers (Reference r) = 0 ∷ r .kind ∷ r .offset ∷ r .start ∷ r .len ∷ []
+pickedNumbers (Unpicked refusal) = refusal ∷ 0 ∷ 0 ∷ 0 ∷ 0 ∷ []

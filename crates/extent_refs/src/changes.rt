@@ -2,7 +2,7 @@
 ghost use mathlib.Core.Path.{_≡_};
 ghost use mathlib.Core.Option.{none};
 ghost use Prim.Native.Nat.{_≤_, _<_};
-ghost use Rattle.extent_refs.specs.Postings.{changeOf, narrowed, standIn};
+ghost use Rattle.extent_refs.specs.Posts.{changeOf, narrowed, standIn};
 use format::BlockRef;
 use format::Change;
 use format::DataRef;

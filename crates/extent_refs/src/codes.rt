@@ -1,6 +1,7 @@
 // Answers as numbers: the code is returned, the result's numbers are lent, and they are 0 without a result.
 ghost use mathlib.Core.Path.{_≡_};
-ghost use Rattle.extent_refs.specs.Exports.{editedCode, editedSize, takenCode, takenSize, takenCount, toldCode, toldNumber, filedCode, filedObjectid, filedKind, filedOffset, judgedCode, judgedNumber, pickedCode, pickedKind, pickedOffset, pickedStart, pickedLen};
+ghost use mathlib.Core.List.{[], _∷_};
+ghost use Rattle.extent_refs.specs.Exports.{editedNumbers, takenNumbers, toldNumbers, filedNumbers, judgedNumbers, pickedNumbers};
 use format::Edited;
 use format::Filed;
 use format::Judged;
@@ -15,7 +16,7 @@ const ABSENT: u32 = 100;
 const REMOVE: u32 = 101;
 
 pub fn put_edited(answer: Edited, written: &mut u64) -> u32
-    ensures { λ r. ⌜ (r ≡ editedCode answer) × (now (written .exit) ≡ editedSize answer) ⌝ }
+    ensures { λ r. ⌜ r ∷ now (written .exit) ∷ [] ≡ editedNumbers answer ⌝ }
 {
     *written = 0;
     match answer {
@@ -30,7 +31,7 @@ pub fn put_edited(answer: Edited, written: &mut u64) -> u32
 }
 
 pub fn put_taken(answer: Taken, size: &mut u64, count: &mut u64) -> u32
-    ensures { λ r. ⌜ (r ≡ takenCode answer) × (now (size .exit) ≡ takenSize answer) × (now (count .exit) ≡ takenCount answer) ⌝ }
+    ensures { λ r. ⌜ r ∷ now (size .exit) ∷ now (count .exit) ∷ [] ≡ takenNumbers answer ⌝ }
 {
     *size = 0;
     *count = 0;
@@ -49,7 +50,7 @@ pub fn put_taken(answer: Taken, size: &mut u64, count: &mut u64) -> u32
 }
 
 pub fn put_told(answer: Told, value: &mut u64) -> u32
-    ensures { λ r. ⌜ (r ≡ toldCode answer) × (now (value .exit) ≡ toldNumber answer) ⌝ }
+    ensures { λ r. ⌜ r ∷ now (value .exit) ∷ [] ≡ toldNumbers answer ⌝ }
 {
     *value = 0;
     match answer {
@@ -62,7 +63,7 @@ pub fn put_told(answer: Told, value: &mut u64) -> u32
 }
 
 pub fn put_filed(answer: Filed, objectid: &mut u64, kind: &mut u64, offset: &mut u64) -> u32
-    ensures { λ r. ⌜ (r ≡ filedCode answer) × (now (objectid .exit) ≡ filedObjectid answer) × (now (kind .exit) ≡ filedKind answer) × (now (offset .exit) ≡ filedOffset answer) ⌝ }
+    ensures { λ r. ⌜ r ∷ now (objectid .exit) ∷ now (kind .exit) ∷ now (offset .exit) ∷ [] ≡ filedNumbers answer ⌝ }
 {
     *objectid = 0;
     *kind = 0;
@@ -79,7 +80,7 @@ pub fn put_filed(answer: Filed, objectid: &mut u64, kind: &mut u64, offset: &mut
 }
 
 pub fn put_judged(answer: Judged, value: &mut u64) -> u32
-    ensures { λ r. ⌜ (r ≡ judgedCode answer) × (now (value .exit) ≡ judgedNumber answer) ⌝ }
+    ensures { λ r. ⌜ r ∷ now (value .exit) ∷ [] ≡ judgedNumbers answer ⌝ }
 {
     *value = 0;
     match answer {
@@ -101,7 +102,7 @@ pub fn put_picked(
     start: &mut u64,
     len: &mut u64,
 ) -> u32
-    ensures { λ r. ⌜ (r ≡ pickedCode answer) × (now (kind .exit) ≡ pickedKind answer) × (now (offset .exit) ≡ pickedOffset answer) × (now (start .exit) ≡ pickedStart answer) × (now (len .exit) ≡ pickedLen answer) ⌝ }
+    ensures { λ r. ⌜ r ∷ now (kind .exit) ∷ now (offset .exit) ∷ now (start .exit) ∷ now (len .exit) ∷ [] ≡ pickedNumbers answer ⌝ }
 {
     *kind = 0;
     *offset = 0;

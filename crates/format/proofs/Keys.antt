@@ -256,10 +256,3 @@ inserted-out new items result e =
               (subst (λ (l : List Item). T (all (λ i. not (hasKey (new .key) i)) l)) (k .same) s)) (k .miss);
           higher = k .hit;
         }
-
--- an accepted insert keeps keys rising
-pub rising-inserted : (new : Item) (items result : List Item) → T (rising items) → inserted new items ≡ accepted result → T (rising result)
-rising-inserted new items result t e =
-    let p : Between new items result = inserted-out new items result e in
-    subst (λ (l : List Item). T (rising l)) (sym (p .are))
-    (rising-put (p .front) new (p .back) (subst (λ (l : List Item). T (rising l)) (p .were) t) (p .lower) (p .higher))

@@ -1,11 +1,9 @@
 -- SharedAdd's item and inline size, computed: the key is (bytenr, kind, parent), 184 counts and 182 does not, and no other type is
 -- a shared one. Assumes nothing.
 use mathlib.Core.Path.{_≡_, refl}
-use mathlib.Core.List.{List, [], _∷_}
-use Prim.Native.Nat.{ℕ}
+use mathlib.Core.List.{[], _∷_}
 use Rattle.fields.specs.Numbers.{leBytes}
-use Rattle.format.specs.declared.Key.{Key}
-use Rattle.format.specs.Questions.{Answer, refused, accepted, ask}
+use Rattle.format.specs.Questions.{refused, accepted, ask}
 use Rattle.format.specs.References.{rowIn, payloadLength, countPosition, counted}
 use Rattle.format.specs.Bodies.{sharedKind, sharedAddKey, sharedAddItem, sharedAddInlineSize}
 

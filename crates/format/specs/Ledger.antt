@@ -2,7 +2,6 @@
 -- 01's "give", to drop one its "take". Assumes nothing.
 use mathlib.Core.Bool.{Bool, true, false, _&&_, _||_, cond}
 use mathlib.Core.List.{List}
-use mathlib.Core.Option.{none}
 use Prim.Native.Nat.{ℕ}
 use lib.Dec.{leb, eqb}
 use Rattle.fields.specs.Lists.{sum, all, Cut, firstCut}

@@ -10,7 +10,7 @@ use Rattle.format.proofs.Refs.{Reads as Decided, read, strange, cutOff}
 use Rattle.inline_refs.specs.declared.count.Counted.{Counted}
 use Rattle.inline_refs.specs.declared.count.Counted.the-variants.{Count, Refused}
 use Rattle.inline_refs.specs.Steps.{readFrom}
-use Rattle.inline_refs.specs.Counts.{refCountOf}
+use Rattle.inline_refs.specs.Scans.{refCountOf}
 use Rattle.inline_refs.proofs.Steps.{At}
 
 -- ---- the count of what is left, with n references before it

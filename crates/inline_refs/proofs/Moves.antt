@@ -5,9 +5,8 @@ use Prim.Native.Nat.{ℕ}
 use Rattle.inline_refs.specs.declared.step.RefStep.{RefStep}
 use Rattle.inline_refs.specs.declared.step.RefStep.the-variants.{Ref as Whole, End, Refused}
 use Rattle.inline_refs.specs.declared.step.Cursor.{Cursor}
-use Rattle.inline_refs.specs.Steps.{refStepAt}
+use Rattle.inline_refs.specs.Steps.{refStepAt, moved}
 use Rattle.inline_refs.proofs.Steps.{At, seen}
-use Rattle.inline_refs.specs.Moves.{moved}
 
 module _ (s : List ℕ) (at : ℕ) (step : RefStep) (is : step ≡ refStepAt s at) where
   module _ (kind start size count : ℕ) (next : Cursor) (e : step ≡ Whole kind start size count next) where

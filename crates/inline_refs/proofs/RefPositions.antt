@@ -16,8 +16,7 @@ use Rattle.inline_refs.specs.declared.noted.Found.{Found}
 use Rattle.inline_refs.specs.declared.noted.Found.the-variants.{At, Nothing}
 use Rattle.inline_refs.specs.declared.noted.AddAt.{AddAt}
 use Rattle.inline_refs.specs.declared.noted.AddAt.the-variants.{Gap as NewAt, Standing}
-use Rattle.inline_refs.specs.Scans.{kindOf, fieldsOf, isWanted, refSizeOf}
-use Rattle.inline_refs.specs.Noted.{hitOf, addAnywhere, addByScan}
+use Rattle.inline_refs.specs.Scans.{kindOf, fieldsOf, isWanted, refSizeOf, hitOf, addAnywhere, addByScan}
 use Rattle.inline_refs.proofs.Views.{Between, CutAt, either, View}
 
 -- ---- a cut with its positions, as three parts

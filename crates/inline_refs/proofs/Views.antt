@@ -10,7 +10,7 @@ use lib.Dec.{eqb}
 use Rattle.fields.proofs.Lists.{by-test}
 use Rattle.fields.specs.Lists.{sum, Cut, later, firstCut}
 use Rattle.format.specs.References.{Ref}
-use Rattle.format.specs.Bodies.{gap, stops}
+use Rattle.format.specs.Bodies.{stops}
 use Rattle.inline_refs.specs.declared.ref_name.RefName.{RefName}
 use Rattle.inline_refs.specs.declared.scan.Seen.{Seen}
 use Rattle.inline_refs.specs.declared.scan.Seen.the-variants.{Open, Gap, Hit, Late}

@@ -1,13 +1,15 @@
--- The one scan over the references of a body: what it notes on the way, and what it hands back. Assumes nothing.
+-- The one scan over the references of a body: what it notes on the way, what it hands back, and what its notes mean to a call.
+-- Assumes nothing.
 use mathlib.Core.Path.{_≡_}
-use mathlib.Core.Bool.{Bool, _||_, cond}
+use mathlib.Core.Bool.{Bool, true, _||_, cond}
 use mathlib.Core.List.{List, [], _∷_}
 use Prim.Native.Nat.{ℕ, _+_}
 use lib.Dec.{eqb}
+use lib.ListN.{length}
 use Rattle.format.specs.Questions.{Answer, accepted, resultOrCode}
-use Rattle.extent_write.specs.Runs.{RunFits}
-use Rattle.format.specs.References.{payloadLength, rankOf, Ref}
+use Rattle.format.specs.References.{payloadLength, Ref, rankOf}
 use Rattle.format.specs.Bodies.{onBody, named, one, triple, stops}
+use Rattle.extent_write.specs.Runs.{RunFits}
 use Rattle.inline_refs.specs.declared.ref_name.RefName.{RefName}
 use Rattle.inline_refs.specs.declared.ref_name.RefName.the-variants.{Block, Data, SharedBlock, SharedData}
 use Rattle.inline_refs.specs.declared.ref_name.Ranked.{Ranked}
@@ -19,6 +21,12 @@ use Rattle.inline_refs.specs.declared.scan.Scan.{Scan}
 use Rattle.inline_refs.specs.declared.scan.Scan.the-variants.{Fault, Read}
 use Rattle.inline_refs.specs.declared.scan.Rest.{Rest}
 use Rattle.inline_refs.specs.declared.scan.Rest.the-variants.{Clean, Fault as Faulty}
+use Rattle.inline_refs.specs.declared.count.Counted.{Counted}
+use Rattle.inline_refs.specs.declared.count.Counted.the-variants.{Count, Refused}
+use Rattle.inline_refs.specs.declared.noted.Found.{Found}
+use Rattle.inline_refs.specs.declared.noted.Found.the-variants.{At, Nothing}
+use Rattle.inline_refs.specs.declared.noted.AddAt.{AddAt}
+use Rattle.inline_refs.specs.declared.noted.AddAt.the-variants.{Gap as NewAt, Standing}
 
 unfoldable pub kindOf : RefName → ℕ
 kindOf (Block name) = 176
@@ -84,3 +92,33 @@ restOf answer = resultOrCode Faulty (λ refs. Clean) answer
 -- questions 3 and 6 to 8, then the references
 unfoldable pub refsIn : ℕ → List ℕ → Answer (List Ref)
 refsIn type body = onBody type body (λ b. accepted (b .refs))
+
+-- how many references were read. As above 100 and 101 do not come
+unfoldable pub refCountOf : Answer (List Ref) → Counted
+refCountOf answer = resultOrCode Refused (λ refs. Count (length refs)) answer
+
+-- ---- what a scan's notes mean to a call
+
+unfoldable pub hitOf : Seen → Found
+hitOf (Open others) = Nothing
+hitOf (Gap at others) = Nothing
+hitOf (Hit at next weight) = At at next weight
+hitOf (Late gap at next weight) = At at next weight
+
+unfoldable pub addAnywhere : ℕ → Seen → AddAt
+addAnywhere end (Open others) = NewAt end
+addAnywhere end (Gap at others) = NewAt at
+addAnywhere end (Hit at next weight) = Standing at next weight
+addAnywhere end (Late gap at next weight) = Standing at next weight
+
+unfoldable pub addByScan : ℕ → Seen → AddAt
+addByScan end (Open others) = NewAt end
+addByScan end (Gap at others) = NewAt at
+addByScan end (Hit at next weight) = Standing at next weight
+addByScan end (Late gap at next weight) = NewAt gap
+
+unfoldable pub othersIn : Seen → Bool
+othersIn (Open others) = others
+othersIn (Gap at others) = others
+othersIn (Hit at next weight) = true
+othersIn (Late gap at next weight) = true

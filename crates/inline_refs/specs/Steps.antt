@@ -37,3 +37,9 @@ openOf type body =
     cond (bodyFits body)
     (cond (leb 24 (length body)) (cond (leb (startOf type body) (length body)) (From (startOf type body)) (Shut 6)) (Shut 6))
     (Shut 3)
+
+-- where a reader stands after a step: behind a whole reference; otherwise where it stood
+unfoldable pub moved : RefStep → ℕ → ℕ
+moved (Whole kind start size count next) at = next .at
+moved End at = at
+moved (Refused refusal) at = at

@@ -7,7 +7,7 @@ ghost use lib.ListN.{length};
 ghost use Rattle.format.specs.Constants.{mostData};
 ghost use Rattle.format.specs.References.{kinds};
 ghost use Rattle.inline_refs.specs.Steps.{readFrom};
-ghost use Rattle.inline_refs.specs.Counts.{refCountOf};
+ghost use Rattle.inline_refs.specs.Scans.{refCountOf};
 
 // The number, or the question that is answered "no".
 pub enum Counted {

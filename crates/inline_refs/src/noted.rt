@@ -1,7 +1,7 @@
 // What a scan's notes mean to a call: where the wanted reference stands, or where a new one goes.
 use crate::scan::Seen;
 ghost use mathlib.Core.Path.{_≡_};
-ghost use Rattle.inline_refs.specs.Noted.{hitOf, addAnywhere, addByScan, othersIn};
+ghost use Rattle.inline_refs.specs.Scans.{hitOf, addAnywhere, addByScan, othersIn};
 
 // The answer of an inline search: where the wanted reference stands, where the next one starts, and its weight.
 pub enum Found {

@@ -8,8 +8,7 @@ use crate::step::Cursor;
 use crate::step::RefStep;
 ghost use mathlib.Core.Path.{_≡_};
 ghost use Rattle.format.specs.References.{kinds};
-ghost use Rattle.inline_refs.specs.Steps.{refStepAt};
-ghost use Rattle.inline_refs.specs.Moves.{moved};
+ghost use Rattle.inline_refs.specs.Steps.{refStepAt, moved};
 
 pub struct Reader<'a> {
     pub body: &'a [u8],

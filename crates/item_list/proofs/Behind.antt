@@ -9,7 +9,7 @@ use mir.Facts.{and-yes}
 use Rattle.fields.specs.Lists.{all, Cut}
 use Rattle.fields.proofs.Lists.{T-eq, all-right, all-map, Found, cut-some}
 use Rattle.format.specs.declared.Key.{Key}
-use Rattle.format.specs.Questions.{Answer, accepted}
+use Rattle.format.specs.Questions.{accepted}
 use Rattle.format.specs.Items.{Item, keyBelow, rising, itemBytes, itemsBytes, sheetBytes, readItems}
 use Rattle.format.specs.Sheets.{hasKey}
 use Rattle.format.proofs.Items.{sane, length-itemBytes, length-sheetBytes, itemsBytes-append, read-itemsBytes}

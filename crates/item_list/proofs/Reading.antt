@@ -26,8 +26,7 @@ use Rattle.item_list.specs.declared.ItemQuery.the-variants.{Index, Recor
 use Rattle.item_list.specs.declared.Listing.{Listing}
 use Rattle.item_list.specs.declared.Listing.the-variants.{Refused, Found, Missing as Without}
 use Rattle.item_list.specs.Steps.{itemAt, itemStepAt, opensList, following, checkedOf, itemsIn, listItems, IsList}
-use Rattle.item_list.specs.Seeks.{itemSizeOf, positionIn, passing}
-use Rattle.item_list.specs.Listings.{listedAt, listingOf, itemCountOf, orElse, verdictOf}
+use Rattle.item_list.specs.Seeks.{itemSizeOf, positionIn, passing, listedAt, listingOf, itemCountOf, orElse, verdictOf}
 use Rattle.item_list.proofs.Steps.{whole-at, items-end, items-broken, items-over, items-item}
 use Rattle.item_list.proofs.Walks.{ends}
 
@@ -304,9 +303,6 @@ counted s n t e =
       sane-all = k .0;
       bytes-are = sheetBytes-read s (listItems s) t (h .0);
     }
-
-pub listed : (s : List ℕ) (n : ℕ) → checkedOf (readSheet s) ≡ Count n → IsList s
-listed s n e = record { reads = checked-count (readSheet s) n e .0 }
 
 -- what `find` has shown of a list, where it found the wanted item and where it did not
 pub record Located (test : ℕ → Item → Bool) (s : List ℕ) (count index start end : ℕ) : Type 0 where

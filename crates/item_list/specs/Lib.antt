@@ -1,4 +1,3 @@
 pub mod ItemWrites
 pub mod Steps
 pub mod Seeks
-pub mod Listings

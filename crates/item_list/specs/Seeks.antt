@@ -1,10 +1,12 @@
--- Where items stand in an item list (document 01's sheet): the first that passes a test, and the position of a key. Assumes nothing.
+-- Where items stand in an item list (document 01's sheet): the first that passes a test, and the position of a key; and what the
+-- one pass answers: whether the bytes are an item list, and that first item. Assumes nothing.
 use mathlib.Core.Bool.{Bool, not, cond}
 use mathlib.Core.List.{List, [], _∷_}
 use Prim.Native.Nat.{ℕ, _+_}
 use lib.Dec.{eqb}
 use lib.ListN.{length}
 use Rattle.format.specs.declared.Key.{Key}
+use Rattle.format.specs.Questions.{Answer, resultOrCode}
 use Rattle.format.specs.Items.{Item, keyBelow}
 use Rattle.format.specs.Apply.{recordOf}
 use Rattle.item_list.specs.declared.ItemPosition.{ItemPosition}
@@ -13,6 +15,10 @@ use Rattle.item_list.specs.declared.ItemQuery.{ItemQuery}
 use Rattle.item_list.specs.declared.ItemQuery.the-variants.{Index, Record, AtOrPast}
 use Rattle.item_list.specs.declared.Sought.{Sought}
 use Rattle.item_list.specs.declared.Sought.the-variants.{Present, Absent}
+use Rattle.item_list.specs.declared.Listing.{Listing}
+use Rattle.item_list.specs.declared.Listing.the-variants.{Refused, Found, Missing as Without}
+use Rattle.item_list.specs.declared.Checked.{Checked}
+use Rattle.item_list.specs.declared.Checked.the-variants.{Count, Refused as NoList}
 
 -- how many bytes an item takes
 unfoldable pub itemSizeOf : Item → ℕ
@@ -45,3 +51,29 @@ seekIn key at [] = Absent at
 seekIn key at (i ∷ items) =
     cond (keyBelow (i .key) key) (seekIn key (at + itemSizeOf i) items)
     (cond (keyBelow key (i .key)) (Absent at) (Present at (at + itemSizeOf i)))
+
+-- ---- the one pass
+
+-- a list of so many items, and a position in it
+unfoldable pub listedAt : ℕ → ItemPosition → Listing
+listedAt count Missing = Without count
+listedAt count (At index start end) = Found count index start end
+
+-- the reader of an item list decides (format/proofs/Decisions, `sheet-decides`), so 100 and 101 do not come
+unfoldable pub listingOf : (ℕ → Item → Bool) → Answer (List Item) → Listing
+listingOf test answer = resultOrCode Refused (λ items. listedAt (length items) (positionIn test 0 1 items)) answer
+
+-- the first of two positions that is one
+unfoldable pub orElse : ItemPosition → ItemPosition → ItemPosition
+orElse Missing other = other
+orElse (At index start end) other = At index start end
+
+-- question 2 at the end of the items
+unfoldable pub verdictOf : Bool → ℕ → ItemPosition → Listing
+verdictOf ordered n position = cond ordered (listedAt n position) (Refused 2)
+
+-- the answer with no word of the search
+unfoldable pub itemCountOf : Listing → Checked
+itemCountOf (Refused refusal) = NoList refusal
+itemCountOf (Without count) = Count count
+itemCountOf (Found count index start end) = Count count

@@ -7,7 +7,7 @@ ghost use Rattle.format.specs.Questions.{bind, ask, accepted};
 ghost use Rattle.format.specs.Items.{readItems, readSheet, rising, nodesizeFits};
 ghost use Rattle.item_list.specs.declared.ItemPosition.the-variants.{Missing};
 ghost use Rattle.item_list.specs.Steps.{checkedOf};
-ghost use Rattle.item_list.specs.Listings.{itemCountOf, verdictOf};
+ghost use Rattle.item_list.specs.Seeks.{itemCountOf, verdictOf};
 use super::Checked;
 use super::ItemStep;
 use super::finding;

@@ -8,7 +8,6 @@ use lib.Dec.{leb, T}
 use lib.ListN.{length}
 use Rattle.fields.specs.Lists.{all, Cut}
 use borrow.Author.Tests.{ne-eqb}
-use Rattle.format.specs.declared.Key.{Key}
 use Rattle.format.specs.declared.Keyed.{Keyed}
 use Rattle.format.specs.declared.Keyed.the-variants.{Block as KeyedBlock, Data as KeyedData}
 use Rattle.format.specs.declared.SharedRef.{SharedRef}
@@ -26,18 +25,15 @@ use Rattle.item_list.specs.Steps.{listItems}
 use Rattle.backref.specs.declared.plan.Plan.{Plan}
 use Rattle.backref.specs.declared.plan.Outcome.the-variants.{Refused}
 use Rattle.backref.specs.Plans.{planAnswer, Planned}
-use Rattle.backref.specs.Adds.{sharedRef, addInline}
+use Rattle.backref.specs.ByName.{addInline}
 use Rattle.backref.proofs.Outcomes.{plan-refused}
-use Rattle.record_edit.specs.Records.{dataOf, heldEdit, nothing, editedSheet}
+use Rattle.record_edit.specs.Records.{dataOf, heldEdit, nothing, editedSheet, StandsFor}
 use Rattle.transaction.specs.Keyed.{limitFor}
 use Rattle.transaction.proofs.KeyedAdditions.{either}
-use Rattle.ledger.specs.Known.{nameIn}
-use Rattle.ledger.specs.Asked.{AskedAdd}
-use Rattle.ledger.specs.Adding.{addChange, leftUnread, addedBody, grownOnly}
+use Rattle.ledger.specs.Posting.{nameIn, AskedAdd, addChange, leftUnread, addedBody, grownOnly}
 use Rattle.ledger.proofs.Alsos.{also-bind}
 use Rattle.fields.specs.Numbers.{areBytes}
 use Rattle.record_edit.specs.declared.RecordAt.{RecordAt}
-use Rattle.record_edit.specs.Stands.{StandsFor}
 use Rattle.record_edit.proofs.Stands.{stands}
 use Rattle.record_edit.proofs.Searches.{on-record}
 use Rattle.transaction.proofs.Records.{put-limited}

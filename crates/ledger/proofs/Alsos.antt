@@ -10,7 +10,7 @@ use Rattle.backref.specs.declared.plan.Outcome.{Outcome}
 use Rattle.backref.specs.declared.plan.Outcome.the-variants.{Edit, Absent, Remove, Refused}
 use Rattle.backref.specs.declared.plan.Plan.{Plan}
 use Rattle.backref.specs.Plans.{planOutcome, planAnswer, PlanIn}
-use Rattle.ledger.specs.Asked.{firstNo, AlsoAsked, AskedAdd}
+use Rattle.ledger.specs.Posting.{firstNo, AlsoAsked, AskedAdd}
 
 -- ---- of a plan
 

@@ -13,7 +13,7 @@ use Rattle.inline_refs.specs.declared.ref_name.RefName.{RefName}
 use Rattle.inline_refs.specs.declared.ref_name.RefName.the-variants.{Block, Data, SharedBlock, SharedData}
 use Rattle.item_list.specs.Steps.{listItems}
 use Rattle.record_edit.specs.declared.RecordAt.{RecordAt}
-use Rattle.record_edit.specs.Stands.{onKey, StandsFor}
+use Rattle.record_edit.specs.Records.{onKey, StandsFor}
 use Rattle.transaction.specs.Drops.{SharedInForm}
 use Rattle.record_edit.proofs.Stands.{on-key}
 use Rattle.record_edit.proofs.Searches.{on-record}

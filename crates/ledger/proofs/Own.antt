@@ -36,7 +36,7 @@ use Rattle.item_list.specs.declared.Sought.the-variants.{Absent}
 use Rattle.item_list.specs.Seeks.{seekIn}
 use Rattle.item_list.proofs.Positions.{gap}
 use Rattle.record_edit.proofs.Held.{all-but}
-use Rattle.ledger.specs.Known.{nameIn, isOwnItem}
+use Rattle.ledger.specs.Posting.{nameIn, isOwnItem}
 
 -- the key of an item of that name
 abbrev pub ownKey : Name → Key

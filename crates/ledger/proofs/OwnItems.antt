@@ -26,13 +26,12 @@ use Rattle.item_list.specs.Steps.{listItems, listItemsFrom}
 use Rattle.item_list.specs.Seeks.{seekIn}
 use Rattle.item_list.proofs.Reading.{Counted}
 use Rattle.item_list.proofs.Positions.{Sits, sits, Inside, inside}
-use Rattle.record_edit.specs.Records.{dataOf}
+use Rattle.record_edit.specs.Records.{dataOf, StandsFor}
 use Rattle.record_edit.proofs.Places.{item-there}
 use Rattle.transaction.proofs.BehindRecord.{behind-is}
-use Rattle.ledger.specs.Known.{nameIn, isOwnItem}
+use Rattle.ledger.specs.Posting.{nameIn, isOwnItem}
 use Rattle.ledger.proofs.Own.{ownKey, own-absent, own-found, data-long}
 use Rattle.record_edit.specs.declared.RecordAt.{RecordAt}
-use Rattle.record_edit.specs.Stands.{StandsFor}
 use Rattle.record_edit.proofs.Stands.{Stands, stands}
 use Rattle.transaction.proofs.RefDrops.{kind-high}
 

@@ -25,13 +25,12 @@ use Rattle.inline_refs.specs.declared.ref_name.RefName.the-variants.{Block, Dat
 use Rattle.inline_refs.specs.Scans.{kindOf}
 use Rattle.item_list.specs.Steps.{listItems}
 use Rattle.item_list.proofs.ItemWrites.{answered-no}
-use Rattle.backref.specs.Adds.{SharedName}
+use Rattle.backref.specs.ByName.{SharedName}
 use Rattle.transaction.specs.Drops.{dropRef}
-use Rattle.ledger.specs.Adding.{addChange}
-use Rattle.ledger.specs.Posting.{unbalancedOr}
+use Rattle.ledger.specs.Posting.{addChange, unbalancedOr}
 use Rattle.record_edit.specs.declared.RecordAt.{RecordAt}
 use Rattle.record_edit.specs.declared.FoundRecord.{FoundRecord}
-use Rattle.record_edit.specs.Stands.{StandsFor, askedSheet, Finds}
+use Rattle.record_edit.specs.Records.{StandsFor, askedSheet, Finds}
 use Rattle.record_edit.proofs.Searches.{on-refused, on-passed, passed-shows, finds-as}
 
 -- ---- the name of a shared reference

@@ -1,4 +1,1 @@
-pub mod Known
-pub mod Asked
-pub mod Adding
 pub mod Posting

@@ -22,10 +22,8 @@ ghost use Rattle.format.specs.Ledger.{notItsOwn, changed};
 ghost use Rattle.inline_refs.specs.Scans.{kindOf, fieldsOf, RankedFor};
 ghost use Rattle.item_list.specs.Steps.{listItems};
 ghost use Rattle.backref.specs.Plans.{Planned};
-ghost use Rattle.record_edit.specs.Stands.{StandsFor};
-ghost use Rattle.ledger.specs.Known.{nameIn};
-ghost use Rattle.ledger.specs.Asked.{AskedAdd};
-ghost use Rattle.ledger.specs.Adding.{addChange, leftUnread, addedBody, grownOnly};
+ghost use Rattle.record_edit.specs.Records.{StandsFor};
+ghost use Rattle.ledger.specs.Posting.{nameIn, AskedAdd, addChange, leftUnread, addedBody, grownOnly};
 
 // Amount 0 of a data reference leaves the body unread.
 fn is_unread(wanted: RefName, amount: u32) -> bool

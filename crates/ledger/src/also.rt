@@ -2,7 +2,7 @@
 use backref::Outcome;
 use backref::Plan;
 ghost use mathlib.Core.Path.{_≡_};
-ghost use Rattle.ledger.specs.Asked.{firstNo, AlsoAsked};
+ghost use Rattle.ledger.specs.Posting.{firstNo, AlsoAsked};
 
 // The refusal where the further question is answered with no: the lower number comes first.
 fn first_no(outcome: Outcome, refusal: u32) -> u32

@@ -15,8 +15,8 @@ ghost use Rattle.format.specs.References.{rankOf};
 ghost use Rattle.format.specs.Ledger.{notItsOwn};
 ghost use Rattle.inline_refs.specs.Scans.{kindOf, fieldsOf};
 ghost use Rattle.item_list.specs.Steps.{listItems};
-ghost use Rattle.record_edit.specs.Stands.{StandsFor};
-ghost use Rattle.ledger.specs.Known.{nameIn, isOwnItem};
+ghost use Rattle.record_edit.specs.Records.{StandsFor};
+ghost use Rattle.ledger.specs.Posting.{nameIn, isOwnItem};
 
 // Whether an item with these bytes that stands there is of that name. Two triples may have one hash.
 fn is_own(wanted: RefName, bytes: &[u8]) -> bool

@@ -14,7 +14,7 @@ ghost use Rattle.format.specs.Items.{nodesizeFits, heldSheet};
 ghost use Rattle.format.specs.Names.{balanced};
 ghost use Rattle.format.specs.Ledger.{nameOf, kindFits, changed};
 ghost use Rattle.item_list.specs.Steps.{IsList, listItems};
-ghost use Rattle.record_edit.specs.Stands.{StandsFor};
+ghost use Rattle.record_edit.specs.Records.{StandsFor};
 ghost use Rattle.ledger.specs.Posting.{unbalancedOr};
 ghost use Rattle.theorems.specs.Calls.{CallKept};
 

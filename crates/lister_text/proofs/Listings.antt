@@ -21,10 +21,9 @@ use Rattle.format.specs.Lister.{line, refLines, listing, printed, listed}
 use Rattle.format.proofs.Outputs.{answered-refused, answered-written}
 use Rattle.format.proofs.Refs.{readRefs-decides}
 use Rattle.inline_refs.specs.Steps.{readFrom}
-use Rattle.inline_refs.specs.Scans.{refsIn}
+use Rattle.inline_refs.specs.Scans.{refsIn, refCountOf}
 use Rattle.inline_refs.proofs.Notes.{Opens}
 use Rattle.inline_refs.specs.declared.count.Counted.the-variants.{Count, Refused}
-use Rattle.inline_refs.specs.Counts.{refCountOf}
 use Rattle.inline_refs.proofs.Counts.{count-reads, fault-reads}
 use Rattle.lister_text.specs.Puts.{Put, refsOf}
 

@@ -11,7 +11,7 @@ ghost use Rattle.format.specs.Questions.{refused};
 ghost use Rattle.format.specs.References.{kinds, known, payloadLength, countPosition, counted, fieldCount, refAt, totalOf, flagsOf};
 ghost use Rattle.format.specs.Lister.{line, refLine, refLines, printed};
 ghost use Rattle.inline_refs.specs.Steps.{readFrom};
-ghost use Rattle.inline_refs.specs.Counts.{refCountOf};
+ghost use Rattle.inline_refs.specs.Scans.{refCountOf};
 ghost use Rattle.lister_text.specs.Puts.{Put, spaced, refsOf};
 
 // The only line of a refusal.

@@ -25,7 +25,7 @@ use Rattle.item_list.proofs.Reading.{Counted, Located, Lacking}
 use Rattle.item_list.proofs.Positions.{Positioned, positioned, record-missing, Inside, inside}
 use Rattle.record_edit.specs.declared.RecordAt.{RecordAt}
 use Rattle.record_edit.specs.declared.FoundRecord.{FoundRecord}
-use Rattle.record_edit.specs.Stands.{StandsFor, askedSheet, RecordMissing, RecordFound, Finds}
+use Rattle.record_edit.specs.Records.{StandsFor, askedSheet, RecordMissing, RecordFound, Finds}
 use Rattle.record_edit.proofs.Places.{item-there}
 use Rattle.format.proofs.Answers.{ask-ok, bind-ok}
 

@@ -24,8 +24,7 @@ use Rattle.item_list.proofs.Reading.{Counted, counted}
 use Rattle.item_list.proofs.Positions.{Inside, inside}
 use Rattle.item_list.proofs.ItemWrites.{sane-fit}
 use Rattle.record_edit.specs.declared.RecordAt.{RecordAt}
-use Rattle.record_edit.specs.Records.{dataOf}
-use Rattle.record_edit.specs.Stands.{StandsAt, onKey}
+use Rattle.record_edit.specs.Records.{dataOf, StandsAt, onKey}
 
 pub record Stands (s : List ℕ) (c : Cut Item) (target : RecordAt) : Type 0 where
   pub reads : readSheet s ≡ accepted (listItems s)

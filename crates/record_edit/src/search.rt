@@ -3,7 +3,7 @@ use super::FoundRecord;
 use super::RecordAt;
 use item_list::ItemQuery;
 use item_list::Listing;
-ghost use Rattle.record_edit.specs.Stands.{Finds};
+ghost use Rattle.record_edit.specs.Records.{Finds};
 
 // `three` says whether question 3 is answered with yes.
 pub fn find_record(sheet: &[u8], extent: u64, three: bool) -> FoundRecord

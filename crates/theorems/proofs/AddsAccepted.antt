@@ -20,7 +20,7 @@ use Rattle.format.specs.declared.Change.{Change}
 use Rattle.format.specs.declared.Change.the-variants.{AddBlock, AddData, AddShared}
 use Rattle.format.specs.Questions.{Answer, accepted, ask, bind}
 use Rattle.format.specs.References.{known, payloadLength, countPosition, counted, fieldCount, rowIn, Ref, makeRef, refBytes, refsBytes, Body, bodyWith, readBody, bodyBytes, rankOf, ordered}
-use Rattle.format.specs.Bodies.{bodyFits, onBody, one, triple, weighed, sharedKind, raisedBy, RefPosition, gap, standing, isGap, standingWeight, addedAt, addAt, positionAnywhere, positionByScan, addInlineTreeRef, addInlineData, addInlineShared}
+use Rattle.format.specs.Bodies.{one, triple, weighed, sharedKind, raisedBy, RefPosition, gap, standing, isGap, standingWeight, addedAt, addAt, positionAnywhere, positionByScan, addInlineTreeRef, addInlineData, addInlineShared}
 use Rattle.format.specs.Items.{Item, dataFits, sheetHolds, putBack}
 use Rattle.format.specs.Apply.{inlineLimit, onRecord, keyedBody, applyKeyedAdd, sharedBody, applySharedAdd}
 use Rattle.format.specs.Names.{Name}

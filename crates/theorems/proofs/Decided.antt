@@ -3,7 +3,6 @@
 use mathlib.Core.Path.{_≡_, refl}
 use mathlib.Core.Bool.{Bool, true, false, _&&_, _||_, cond}
 use mathlib.Core.List.{List}
-use mathlib.Core.Option.{Option, none, some}
 use Prim.Native.Nat.{ℕ, zero, suc, _+_, _-_, _^_}
 use lib.Dec.{T, leb, ltb, eqb}
 use lib.ListN.{length}
@@ -18,7 +17,7 @@ use Rattle.format.specs.declared.Keyed.the-variants.{Block, Data}
 use Rattle.format.specs.declared.Key.{Key}
 use Rattle.format.specs.declared.Change.{Change}
 use Rattle.format.specs.declared.Change.the-variants.{AddBlock, AddData, AddShared, DropBlock, DropData, DropShared}
-use Rattle.format.specs.Questions.{Answer, isRefusal, decides, keeps, refused, absent, remove, accepted, ask, bind, needed, found, ifAbsent, also, held}
+use Rattle.format.specs.Questions.{Answer, isRefusal, decides, keeps, refused, absent, remove, accepted, ask, needed, found, ifAbsent, also, held}
 use Rattle.format.specs.References.{counted, Ref, Body, totalOf, readBody, rankOf}
 use Rattle.format.specs.Bodies.{named, one, triple, bodyFits, sharedKind, onBody, onHead, raisedBy, loweredByOne, reducedBy, onTotal, lowerTotal, reduceTotal, dropInline, dropInlineTreeRef, dropInlineDataRef, takeInlineShared, keyedCount, dropKeyedDataRef, RefPosition, isGap, standingWeight, addAt, addInlineTreeRef, addInlineData, addInlineShared}
 use Rattle.format.specs.Items.{Item, keyOf, readSheet, onSheet, nodesizeFits, sheetHolds, heldSheet}

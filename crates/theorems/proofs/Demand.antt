@@ -1,6 +1,6 @@
 -- Demand 3: from what one accepted posting does to any list of postings on any balanced sheet. Assumes nothing.
 use mathlib.Core.Path.{_≡_, refl, sym, ap, _∙_, subst}
-use Prim.Native.Nat.{ℕ, _+_}
+use Prim.Native.Nat.{ℕ}
 use native.Mathlib.Omega.{arith}
 use mathlib.Core.Bool.{Bool, true, false, not, _&&_, cond}
 use mathlib.Core.List.{List, [], _∷_}
@@ -14,7 +14,7 @@ use Rattle.format.specs.Items.{Item}
 use Rattle.format.specs.Names.{Name, sameName, count}
 use Rattle.format.specs.Ledger.{nameOf}
 use Rattle.format.specs.History.{Posting, answerTo, sheetAfter, isAccepted, run, Seen, allSeen, Tally, enter, tallyFrom, touched, itemsOf, sheetItems, passes, balancedSheet}
-use Rattle.theorems.specs.Acceptance.{AllYes, Made, Exactly}
+use Rattle.theorems.specs.Acceptance.{Made}
 use Rattle.theorems.specs.Demand.{Wide, Wides, Correct, AllCorrect, Demand3}
 use Rattle.theorems.proofs.Decided.{decided}
 use Rattle.theorems.proofs.Posting.{posts-made}

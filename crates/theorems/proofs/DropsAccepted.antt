@@ -17,7 +17,7 @@ use Rattle.fields.proofs.Lists.{cond-no, some-inj, no-some, sum-append, all-map
 use Rattle.fields.proofs.Numbers.{length-leBytes}
 use Rattle.fields.proofs.Parts.{length-written}
 use Rattle.format.specs.declared.Key.{Key}
-use Rattle.format.specs.Questions.{Answer, absent, accepted, ask, bind, needed, found, ifAbsent}
+use Rattle.format.specs.Questions.{Answer, absent, accepted, ask, bind, needed, found}
 use Rattle.format.specs.References.{Ref, Body, bodyWith, totalOf, readBody, bodyBytes}
 use Rattle.format.specs.Bodies.{named, bodyFits, onHead, onTotal, loweredByOne, reducedBy, lowerTotal, reduceTotal, less, dropInline}
 use Rattle.format.specs.Items.{Item, dataFits, sheetHolds, putBack}
@@ -40,12 +40,6 @@ pub bind-ask : {A B : Type 0} (t : Bool) (n : ℕ) (r : Answer A) (next : A → 
 unfolding ask bind
 bind-ask true n r next = refl
 bind-ask false n r next = refl
-
-pub ifAbsent-ask : {A : Type 0} (t : Bool) (n : ℕ) (a : A) (other : Answer A)
-    → ifAbsent (ask t n (accepted a)) other ≡ ask t n (accepted a)
-unfolding ask ifAbsent
-ifAbsent-ask true n a other = refl
-ifAbsent-ask false n a other = refl
 
 -- one count off inline
 pub inline-found : (type : ℕ) (d : List ℕ) (b : Body) (kind : ℕ) (fields : List ℕ) (x : Cut Ref) → length d ≤ 65535

@@ -1,7 +1,7 @@
 -- Demand 3 at the computed list of postings (format's proofs, Postings): what it assumes can be met. Assumes nothing.
 use mathlib.Core.Bool.{Bool}
 use mathlib.Core.List.{List, [], _∷_}
-use Prim.Native.Nat.{ℕ, _^_}
+use Prim.Native.Nat.{_^_}
 use lib.Dec.{T, ltb}
 use mir.Facts.{and-yes}
 use Rattle.fields.specs.Lists.{all}
@@ -9,7 +9,7 @@ use Rattle.format.specs.Ledger.{nameOf}
 use Rattle.format.specs.History.{Posting}
 use Rattle.format.proofs.Computed.{computed}
 use Rattle.format.proofs.Postings.{opening, postings, opens}
-use Rattle.theorems.specs.Demand.{Wide, Wides, Demand3}
+use Rattle.theorems.specs.Demand.{Wides, Demand3}
 use Rattle.theorems.proofs.Demand.{demand-3}
 
 abbrev isWide : Posting → Bool

@@ -15,7 +15,7 @@ use Rattle.fields.proofs.Lists.{sum-append, all-map, all-rest, all-put}
 use Rattle.format.specs.declared.Change.{Change}
 use Rattle.format.specs.Questions.{Answer, accepted, needed, held}
 use Rattle.format.specs.References.{Body}
-use Rattle.format.specs.Items.{Item, rising, readSheet, sheetBytes, nodesizeFits, dataFits, onSheet, sheetHolds, heldSheet, withBytes, putBack, without}
+use Rattle.format.specs.Items.{Item, rising, readSheet, sheetBytes, nodesizeFits, dataFits, onSheet, sheetHolds, heldSheet, withBytes, putBack}
 use Rattle.format.specs.Apply.{inlineLimit, recordOf, onRecord}
 use Rattle.format.specs.Names.{Name, balanced}
 use Rattle.format.specs.Ledger.{kindFits, changed, post, posted}
@@ -151,19 +151,6 @@ unfolding dataFits
 fit-put c d t h =
     all-put (λ i. dataFits (i .bytes)) (c .front) (withBytes (c .hit) d) (c .back)
     (all-rest (λ i. dataFits (i .bytes)) (c .front) (c .hit) (c .back) t) (le→leb (length d) 65535 h)
-
--- the item at a cut gone
-pub size-without : (c : Cut Item) → sum itemSize (without c) + itemSize (c .hit) ≡ sum itemSize (c .front ++ c .hit ∷ c .back)
-size-without c =
-    let e₁ = sum-append itemSize (c .front) (c .back) in
-    let e₂ = sum-append itemSize (c .front) (c .hit ∷ c .back) in
-    omega arith
-
-pub few-without : (c : Cut Item) → length (without c) ≤ length (c .front ++ c .hit ∷ c .back)
-few-without c =
-    let e₁ = length-append (c .front) (c .back) in
-    let e₂ = length-append (c .front) (c .hit ∷ c .back) in
-    omega arith
 
 -- the inline limit is far below the largest body
 pub limit-small : (nodesize : ℕ) → nodesize ≤ 65536 → inlineLimit nodesize ≤ 65535

@@ -27,7 +27,7 @@ use Rattle.backref.proofs.plan.Outcome.{the-type}
 use Rattle.backref.proofs.Outcomes.{plan-is}
 use Rattle.record_edit.specs.declared.RecordAt.{RecordAt}
 use Rattle.record_edit.specs.Records.{dataOf, nothing, editedSheet, heldEdit}
-use Rattle.transaction.specs.Edits.{gone, newCount, heldPlan, heldAt}
+use Rattle.transaction.specs.Drops.{gone, newCount, heldPlan, heldAt}
 use Rattle.transaction.proofs.Rewrites.{last-four}
 
 -- ---- the item's own drop

@@ -21,7 +21,7 @@ use Rattle.item_list.specs.Steps.{listItems}
 use Rattle.item_list.specs.Seeks.{seekIn}
 use Rattle.item_list.proofs.Reading.{Counted}
 use Rattle.item_list.proofs.Positions.{Sits, sits, no-cut, Inside, inside}
-use Rattle.record_edit.specs.Stands.{StandsAt, onKey}
+use Rattle.record_edit.specs.Records.{StandsAt, onKey}
 use Rattle.transaction.specs.Drops.{dropRef}
 
 module _ (s : List ℕ) (bytenr level : ℕ) (name : BlockRef) (own : Bool) where

@@ -24,12 +24,11 @@ use Rattle.item_list.specs.ItemWrites.{heldBytes}
 use Rattle.item_list.proofs.ItemWrites.{answered-no, answered-by}
 use Rattle.backref.specs.declared.plan.Plan.{Plan}
 use Rattle.backref.specs.Plans.{planAnswer, Planned}
-use Rattle.record_edit.specs.Records.{dataOf, heldEdit, nothing, editedSheet}
+use Rattle.record_edit.specs.Records.{dataOf, heldEdit, nothing, editedSheet, askedSheet, RecordMissing, RecordFound}
 use Rattle.transaction.specs.Keyed.{unread, keyedPlan, larger, limitFor}
 use Rattle.fields.specs.Lists.{Cut}
 use Rattle.fields.specs.Numbers.{areBytes}
 use Rattle.record_edit.specs.declared.RecordAt.{RecordAt}
-use Rattle.record_edit.specs.Stands.{askedSheet, RecordMissing, RecordFound}
 use Rattle.record_edit.proofs.Stands.{Stands, stands}
 use Rattle.record_edit.proofs.Searches.{on-refused, on-missing, on-found}
 use Rattle.transaction.proofs.Records.{put-limited}

@@ -30,7 +30,7 @@ use Rattle.item_list.specs.Steps.{listItems}
 use Rattle.item_list.specs.Seeks.{seekIn}
 use Rattle.item_list.proofs.Positions.{no-cut}
 use Rattle.record_edit.specs.declared.RecordAt.{RecordAt}
-use Rattle.record_edit.specs.Stands.{StandsAt, onKey}
+use Rattle.record_edit.specs.Records.{StandsAt, onKey}
 use Rattle.transaction.specs.Drops.{dropRef}
 use Rattle.record_edit.proofs.Stands.{Stands, stands, on-key}
 use Rattle.transaction.proofs.Turns.{accepted-absent, stays}

@@ -23,7 +23,7 @@ use Rattle.format.proofs.Answers.{ask-yes, accepted-inj, refused-not, absent-no
 use Rattle.format.proofs.Items.{length-itemBytes}
 use Rattle.format.proofs.Splices.{sheet-join, sheet-data}
 use Rattle.record_edit.specs.declared.RecordAt.{RecordAt}
-use Rattle.transaction.specs.Edits.{withOwnFlag}
+use Rattle.transaction.specs.Drops.{withOwnFlag}
 use Rattle.record_edit.proofs.Stands.{Stands}
 use Rattle.transaction.proofs.Rewrites.{sheet-part, part-inside}
 

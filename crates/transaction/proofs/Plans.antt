@@ -15,7 +15,7 @@ use Rattle.backref.proofs.Outcomes.{plan-is, inside-edit, length-edited}
 use Rattle.record_edit.specs.declared.SecondEdit.{SecondEdit}
 use Rattle.record_edit.specs.declared.RecordAt.{RecordAt}
 use Rattle.record_edit.specs.Records.{dataOf, editedSheet, heldRecord, heldEdit}
-use Rattle.transaction.specs.Edits.{heldPlan}
+use Rattle.transaction.specs.Drops.{heldPlan}
 
 module _ (p : Plan) (body : List ℕ) (inside : PlanIn p body) (room count : ℕ) (sheet : List ℕ → List ℕ) where
   under : EditIn p body → heldEdit room count 65564 sheet (edited p body) ≡ heldRecord room count (length (edited p body)) (sheet (edited p body))

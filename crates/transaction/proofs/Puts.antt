@@ -28,7 +28,7 @@ use Rattle.record_edit.specs.declared.SecondEdit.{SecondEdit}
 use Rattle.record_edit.specs.declared.RecordAt.{RecordAt}
 use Rattle.record_edit.specs.Records.{dataOf, editedSheet, heldRecord, nothing}
 use Rattle.record_edit.proofs.Held.{held-items, held-bind, all-but}
-use Rattle.transaction.specs.Edits.{gone, newCount, heldPlan}
+use Rattle.transaction.specs.Drops.{gone, newCount, heldPlan}
 use Rattle.record_edit.proofs.Stands.{Stands}
 use Rattle.transaction.proofs.Turns.{not-absent, stays}
 use Rattle.transaction.proofs.Rewrites.{sheet-part}

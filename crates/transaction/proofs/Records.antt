@@ -14,8 +14,7 @@ use Rattle.format.specs.Apply.{recordNumber}
 use Rattle.backref.specs.declared.plan.Plan.{Plan}
 use Rattle.backref.specs.Plans.{planAnswer}
 use Rattle.record_edit.specs.declared.RecordAt.{RecordAt}
-use Rattle.record_edit.specs.Records.{dataOf, nothing, editedSheet, heldRecord, heldEdit}
-use Rattle.record_edit.specs.Stands.{askedSheet, RecordMissing, RecordFound}
+use Rattle.record_edit.specs.Records.{dataOf, nothing, editedSheet, heldRecord, heldEdit, askedSheet, RecordMissing, RecordFound}
 use Rattle.record_edit.proofs.Held.{held-bind}
 use Rattle.record_edit.proofs.Stands.{Stands}
 use Rattle.record_edit.proofs.Searches.{on-refused, on-missing, on-found}

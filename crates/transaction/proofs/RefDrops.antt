@@ -23,7 +23,7 @@ use Rattle.format.specs.declared.Edited.{Edited}
 use Rattle.format.specs.declared.Edited.the-variants.{Refused as Denied}
 use Rattle.format.specs.Questions.{Answer, refused, absent, remove, accepted, bind, needed, ifAbsent, held, TakenOut, Answered}
 use Rattle.format.specs.References.{known, rowIn, rankOf, makeRef}
-use Rattle.format.specs.Bodies.{one, lowerTotal, reduceTotal, dropInlineTreeRef, dropInlineDataRef, keyedCount, dropKeyedDataRef, takeInlineShared}
+use Rattle.format.specs.Bodies.{one, lowerTotal, reduceTotal, dropInlineTreeRef, keyedCount, dropKeyedDataRef, takeInlineShared}
 use Rattle.format.specs.Items.{Item, keyOf, heldSheet, putBack, without}
 use Rattle.format.specs.Sheets.{hasKey, deleted}
 use Rattle.format.specs.Apply.{isRecord, replaced, flagged, dropTreeRef}
@@ -41,17 +41,14 @@ use Rattle.item_list.specs.Seeks.{seekIn}
 use Rattle.item_list.proofs.ItemWrites.{answered-no}
 use Rattle.backref.specs.declared.plan.Outcome.the-variants.{Absent}
 use Rattle.backref.specs.declared.plan.Plan.{Plan}
-use Rattle.backref.specs.Plans.{planAnswer, planTaken, Planned, PlannedTaken}
-use Rattle.backref.specs.Adds.{sharedRef}
-use Rattle.backref.specs.Takes.{dropNamed}
-use Rattle.backref.specs.Steps.{Reduces}
+use Rattle.backref.specs.Plans.{planAnswer, planTaken, Planned, PlannedTaken, Reduces}
+use Rattle.backref.specs.ByName.{sharedRef, dropNamed}
 use Rattle.backref.proofs.Reductions.{reduces-whole}
 use Rattle.backref.proofs.Takings.{taken-whole}
 use Rattle.record_edit.specs.declared.RecordAt.{RecordAt}
 use Rattle.record_edit.specs.Records.{dataOf, editedSheet, heldRecord, nothing, heldEdit}
 use Rattle.record_edit.proofs.Held.{held-bind}
-use Rattle.transaction.specs.Edits.{gone, newCount, heldPlan, heldAt}
-use Rattle.transaction.specs.Drops.{dropRef, SharedInForm, takenWhole, droppedInline, loweredTotal, itemDrop, CountFits}
+use Rattle.transaction.specs.Drops.{gone, newCount, heldPlan, heldAt, dropRef, SharedInForm, takenWhole, droppedInline, loweredTotal, itemDrop, CountFits}
 use Rattle.record_edit.proofs.Stands.{Stands}
 use Rattle.transaction.proofs.Turns.{is-absent, turns}
 use Rattle.transaction.proofs.BehindRecord.{BehindAt, behind-at, behind-none}

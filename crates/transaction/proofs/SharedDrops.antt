@@ -22,13 +22,11 @@ use Rattle.format.specs.Apply.{sharedRest, applySharedDrop, applySharedDropTo}
 use Rattle.format.proofs.Answers.{ask-ok, bind-ok, bind-next, accepted-inj}
 use Rattle.item_list.proofs.ItemWrites.{answered-no}
 use Rattle.backref.specs.declared.plan.Plan.{Plan}
-use Rattle.backref.specs.Plans.{planAnswer, Planned, PlannedTaken}
-use Rattle.backref.specs.Steps.{Reduces, Needs}
+use Rattle.backref.specs.Plans.{planAnswer, Planned, PlannedTaken, Reduces, Needs}
 use Rattle.backref.proofs.Reductions.{reduces-whole, needs-whole}
 use Rattle.backref.proofs.Takings.{taken-says, taken-whole}
-use Rattle.record_edit.specs.Records.{dataOf, heldEdit, nothing, editedSheet}
+use Rattle.record_edit.specs.Records.{dataOf, heldEdit, nothing, editedSheet, askedSheet, RecordMissing, RecordFound}
 use Rattle.record_edit.specs.declared.RecordAt.{RecordAt}
-use Rattle.record_edit.specs.Stands.{askedSheet, RecordMissing, RecordFound}
 use Rattle.record_edit.proofs.Stands.{stands}
 use Rattle.record_edit.proofs.Searches.{on-refused, on-missing, on-found}
 use Rattle.transaction.proofs.Records.{put-limited}

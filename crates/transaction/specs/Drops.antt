@@ -1,22 +1,58 @@
--- A reference dropped, by its name: out of the record's body, or else off its own item and the record's total. Assumes nothing.
+-- A reference dropped, by its name: out of the record's body, or else off its own item and the record's total; and the two edits
+-- of a drop, of the record's body and of an item behind the record. Assumes nothing.
 use mathlib.Core.Path.{_≡_}
 use mathlib.Core.Bool.{false}
 use mathlib.Core.List.{List}
-use Prim.Native.Nat.{ℕ}
+use Prim.Native.Nat.{ℕ, _-_}
+use lib.Bits.{bitOr}
 use lib.Dec.{T}
-use lib.ListN.{length}
+use lib.ListN.{length, replicate}
 use Rattle.fields.specs.Lists.{all, Cut}
-use Rattle.fields.specs.Numbers.{le}
+use Rattle.fields.specs.Numbers.{le, leBytes}
+use Rattle.fields.specs.Parts.{part, written}
 use Rattle.format.specs.declared.SharedRef.{SharedRef}
-use Rattle.format.specs.Questions.{Answer, remove, bind}
-use Rattle.format.specs.Bodies.{lowerTotal, reduceTotal, dropInlineTreeRef, dropInlineDataRef, dropKeyedDataRef, takeInlineShared}
+use Rattle.format.specs.Questions.{Answer, refused, absent, remove, accepted, bind}
+use Rattle.format.specs.Bodies.{lowerTotal, reduceTotal, dropInlineTreeRef, dropInlineDataRef, takeInlineShared, dropKeyedDataRef}
 use Rattle.format.specs.Items.{Item}
 use Rattle.format.specs.Apply.{dropTreeRef}
 use Rattle.format.specs.Names.{good}
 use Rattle.format.specs.Ledger.{dropDataRef, dropSharedRef}
 use Rattle.inline_refs.specs.declared.ref_name.RefName.{RefName}
 use Rattle.inline_refs.specs.declared.ref_name.RefName.the-variants.{Block, Data, SharedBlock, SharedData}
-use Rattle.backref.specs.Adds.{sharedRef}
+use Rattle.backref.specs.declared.plan.Plan.{Plan}
+use Rattle.backref.specs.ByName.{sharedRef}
+use Rattle.backref.specs.Plans.{planAnswer}
+use Rattle.record_edit.specs.declared.SecondEdit.{SecondEdit}
+use Rattle.record_edit.specs.declared.RecordAt.{RecordAt}
+use Rattle.record_edit.specs.Records.{dataOf, editedSheet, heldRecord}
+
+-- an item goes; the last four bytes of an item are another count
+abbrev pub gone : ℕ → ℕ → SecondEdit
+gone from to = record { from = from; to = to; new = replicate 4 0; size = 0 }
+
+abbrev pub newCount : ℕ → ℕ → SecondEdit
+newCount to count = record { from = to - 4; to = to; new = leBytes 4 count; size = 4 }
+
+-- question 21 of the list with the planned body and the second edit
+abbrev pub heldPlan : ℕ → ℕ → List ℕ → RecordAt → Plan → SecondEdit → Answer (List ℕ)
+heldPlan room count s target plan b =
+    bind (planAnswer plan (dataOf s (target .start) (target .end))) (λ body.
+    heldRecord room count (length body) (editedSheet s target b body))
+
+-- the same by the answer of an item's own drop: the item goes, or counts one less
+unfoldable pub heldAt : ℕ → List ℕ → RecordAt → ℕ → ℕ → Answer (List ℕ) → List ℕ → Answer (List ℕ)
+heldAt room s target from to (refused refusal) body = refused refusal
+heldAt room s target from to absent body = absent
+heldAt room s target from to remove body =
+    heldRecord room (target .«item_count» - 1) (length body) (editedSheet s target (gone from to) body)
+heldAt room s target from to (accepted item) body =
+    heldRecord room (target .«item_count») (length body) (editedSheet s target (newCount to (le (part (to - 4) 4 s) - 1)) body)
+
+-- the own-flag, 256, in the flags that stand at a position
+abbrev pub withOwnFlag : ℕ → List ℕ → List ℕ
+withOwnFlag at bytes = written at (leBytes 8 (bitOr (le (part at 8 bytes)) 256)) bytes
+
+-- ---- by the name
 
 -- the drop, without the own-flag
 unfoldable pub dropRef : RefName → List Item → Cut Item → Answer (List Item)

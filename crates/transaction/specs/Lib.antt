@@ -1,4 +1,3 @@
 pub mod Held
-pub mod Edits
 pub mod Drops
 pub mod Keyed

@@ -11,7 +11,7 @@ ghost use Rattle.format.specs.Constants.{itemHead, mostSheet};
 ghost use Rattle.format.specs.Questions.{Answered};
 ghost use Rattle.backref.specs.Plans.{PlanIn};
 ghost use Rattle.record_edit.specs.Records.{dataOf};
-ghost use Rattle.transaction.specs.Edits.{gone, newCount, heldPlan};
+ghost use Rattle.transaction.specs.Drops.{gone, newCount, heldPlan};
 
 fn one_less(items: usize) -> usize
     ensures { λ r. ⌜ r ≡ items - 1 ⌝ }

@@ -16,8 +16,8 @@ ghost use Rattle.format.specs.Questions.{Answered};
 ghost use Rattle.format.specs.Items.{heldSheet};
 ghost use Rattle.format.specs.Apply.{dropTreeRef, dropKeptTreeRefFrom};
 ghost use Rattle.item_list.specs.Steps.{listItems};
-ghost use Rattle.record_edit.specs.Stands.{StandsAt, onKey};
-ghost use Rattle.transaction.specs.Edits.{withOwnFlag};
+ghost use Rattle.record_edit.specs.Records.{StandsAt, onKey};
+ghost use Rattle.transaction.specs.Drops.{withOwnFlag};
 
 // The own-flag set in the flags that stand at `at`.
 fn set_own(out: &mut [u8], at: usize)

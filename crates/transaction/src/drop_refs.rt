@@ -21,10 +21,8 @@ ghost use Rattle.format.specs.Bodies.{lowerTotal, dropKeyedDataRef};
 ghost use Rattle.format.specs.Items.{heldSheet};
 ghost use Rattle.item_list.specs.Steps.{listItems};
 ghost use Rattle.backref.specs.Plans.{Planned};
-ghost use Rattle.record_edit.specs.Records.{dataOf};
-ghost use Rattle.record_edit.specs.Stands.{StandsAt, onKey};
-ghost use Rattle.transaction.specs.Edits.{heldAt};
-ghost use Rattle.transaction.specs.Drops.{dropRef, SharedInForm, takenWhole, droppedInline, loweredTotal, itemDrop, CountFits};
+ghost use Rattle.record_edit.specs.Records.{dataOf, StandsAt, onKey};
+ghost use Rattle.transaction.specs.Drops.{heldAt, dropRef, SharedInForm, takenWhole, droppedInline, loweredTotal, itemDrop, CountFits};
 
 // A shared reference out of the body, and its own count off the total.
 fn plan_taken(item_type: u8, body: &[u8], name: SharedRef) -> Plan

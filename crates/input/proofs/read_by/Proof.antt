@@ -1,6 +1,5 @@
 use denote.Ref.{now}
 use borrow.Author.Needs.{needs}
-use mathlib.Core.Path.{sym}
 use native.Mathlib.Omega.{arith}
 use Rattle.input.proofs.Fills.{within, copied-in}
 use Rattle.input.proofs.read_by.Statement.{statement}

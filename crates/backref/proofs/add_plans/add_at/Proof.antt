@@ -1,4 +1,4 @@
-use Rattle.backref.specs.Adds.{addAtOf}
+use Rattle.backref.specs.ByName.{addAtOf}
 use borrow.Author.Tests.{eq-eqb, ne-eqb}
 use borrow.Author.Needs.{needs}
 use Rattle.backref.proofs.add_plans.add_at.Statement.{statement}

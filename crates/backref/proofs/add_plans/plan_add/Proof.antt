@@ -4,7 +4,7 @@ use denote.Ref.{now}
 use borrow.Author.Tests.{not-true, not-false}
 use Rattle.fields.proofs.Numbers.{areBytes-in}
 use Rattle.format.proofs.Bodies.{read-long}
-use Rattle.backref.specs.Adds.{ownRank}
+use Rattle.backref.specs.ByName.{ownRank}
 use Rattle.backref.proofs.AddedAt.{scan-reads}
 use Rattle.backref.proofs.Gives.{give-fault, give-ten, give-gap, give-nine, give-eleven, give-standing}
 use borrow.Author.Needs.{needs}

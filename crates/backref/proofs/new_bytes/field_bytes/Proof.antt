@@ -5,7 +5,7 @@ use native.Mathlib.Omega.{arith}
 use Rattle.fields.specs.Numbers.{leBytes}
 use Rattle.fields.specs.Parts.{written}
 use Rattle.inline_refs.proofs.RowLengths.{count-inside}
-use Rattle.backref.specs.Adds.{withCount}
+use Rattle.backref.specs.ByName.{withCount}
 use borrow.Author.Needs.{needs}
 use Rattle.backref.proofs.new_bytes.field_bytes.Statement.{statement}
 use Rattle.backref.proofs.new_bytes.field_bytes.Tie as tie

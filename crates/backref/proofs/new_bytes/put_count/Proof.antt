@@ -1,7 +1,7 @@
 use Prim.Native.Nat.{_<_}
 use native.Mathlib.Omega.{arith}
 use borrow.Author.Tests.{le-leb, lt-leb}
-use Rattle.backref.specs.Adds.{withCount}
+use Rattle.backref.specs.ByName.{withCount}
 use borrow.Author.Needs.{needs}
 use Rattle.backref.proofs.new_bytes.put_count.Statement.{statement}
 use Rattle.backref.proofs.new_bytes.put_count.Tie as tie

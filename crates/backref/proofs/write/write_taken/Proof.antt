@@ -1,7 +1,7 @@
 use mathlib.Core.Path.{sym, ap}
 use lib.ListN.{length}
 use denote.Ref.{now}
-use Rattle.backref.specs.TakenPlans.{takenFrom}
+use Rattle.backref.specs.Plans.{takenFrom}
 use Rattle.backref.proofs.TakenPlans.{wrote-taken}
 use borrow.Author.Needs.{needs}
 use Rattle.backref.proofs.write.write_taken.Statement.{statement}

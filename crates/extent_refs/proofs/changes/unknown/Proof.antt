@@ -1,5 +1,5 @@
 use mathlib.Core.Path.{refl}
-use Rattle.extent_refs.specs.Postings.{standIn}
+use Rattle.extent_refs.specs.Posts.{standIn}
 use Rattle.extent_refs.proofs.changes.unknown.Statement.{statement}
 use Rattle.extent_refs.proofs.changes.unknown.Tie as tie
 

@@ -1,7 +1,7 @@
 use denote.Ref.{now}
 use lib.ListN.{length}
 use borrow.Author.Needs.{needs}
-use Rattle.extent_refs.specs.Postings.{changeOf}
+use Rattle.extent_refs.specs.Posts.{changeOf}
 use Rattle.extent_refs.proofs.Answers.{coded}
 use Rattle.extent_refs.proofs.Postings.{answered-in}
 use Rattle.extent_refs.proofs.ledger_calls.ledger_post.Statement.{statement}

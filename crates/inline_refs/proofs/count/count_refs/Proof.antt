@@ -5,7 +5,7 @@ use Prim.Native.Nat.{_-_, _≤_}
 use native.Mathlib.Omega.{arith}
 use lib.ListN.{length}
 use Rattle.inline_refs.specs.Steps.{readFrom}
-use Rattle.inline_refs.specs.Counts.{refCountOf}
+use Rattle.inline_refs.specs.Scans.{refCountOf}
 use Rattle.inline_refs.proofs.Steps.{seen}
 use Rattle.inline_refs.proofs.Moves.{stands-behind}
 use Rattle.inline_refs.proofs.Counts.{plus, counts-none, counts-step, counts-end, counts-fault}

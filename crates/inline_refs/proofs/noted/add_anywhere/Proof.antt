@@ -1,4 +1,4 @@
-use Rattle.inline_refs.specs.Noted.{addAnywhere}
+use Rattle.inline_refs.specs.Scans.{addAnywhere}
 use borrow.Author.Needs.{needs}
 use Rattle.inline_refs.proofs.noted.add_anywhere.Statement.{statement}
 use Rattle.inline_refs.proofs.noted.add_anywhere.Tie as tie

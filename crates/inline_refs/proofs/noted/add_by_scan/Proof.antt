@@ -1,4 +1,4 @@
-use Rattle.inline_refs.specs.Noted.{addByScan}
+use Rattle.inline_refs.specs.Scans.{addByScan}
 use borrow.Author.Needs.{needs}
 use Rattle.inline_refs.proofs.noted.add_by_scan.Statement.{statement}
 use Rattle.inline_refs.proofs.noted.add_by_scan.Tie as tie

@@ -1,4 +1,4 @@
-use Rattle.inline_refs.specs.Noted.{othersIn}
+use Rattle.inline_refs.specs.Scans.{othersIn}
 use borrow.Author.Needs.{needs}
 use Rattle.inline_refs.proofs.noted.any_others.Statement.{statement}
 use Rattle.inline_refs.proofs.noted.any_others.Tie as tie

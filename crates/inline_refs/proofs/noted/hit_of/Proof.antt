@@ -1,4 +1,4 @@
-use Rattle.inline_refs.specs.Noted.{hitOf}
+use Rattle.inline_refs.specs.Scans.{hitOf}
 use borrow.Author.Needs.{needs}
 use Rattle.inline_refs.proofs.noted.hit_of.Statement.{statement}
 use Rattle.inline_refs.proofs.noted.hit_of.Tie as tie

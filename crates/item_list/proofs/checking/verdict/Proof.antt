@@ -1,4 +1,4 @@
-use Rattle.item_list.specs.Listings.{listedAt, itemCountOf, verdictOf}
+use Rattle.item_list.specs.Seeks.{listedAt, itemCountOf, verdictOf}
 use Rattle.item_list.proofs.checking.verdict.Statement.{statement}
 use Rattle.item_list.proofs.checking.verdict.Tie as tie
 

@@ -7,7 +7,7 @@ use Rattle.format.specs.Questions.{accepted, ask, bind}
 use Rattle.format.specs.Items.{readItems, rising}
 use Rattle.item_list.specs.declared.ItemPosition.the-variants.{Missing}
 use Rattle.item_list.specs.Steps.{checkedOf}
-use Rattle.item_list.specs.Listings.{itemCountOf}
+use Rattle.item_list.specs.Seeks.{itemCountOf}
 use Rattle.item_list.proofs.Steps.{PastItem, whole-at, past-first, past-next, step-end}
 use Rattle.item_list.proofs.Reading.{run, run-end, run-broken, run-over, run-step, nothing, count-first, count-refused, none-found}
 use Rattle.item_list.proofs.checking.walk.Statement.{statement}

@@ -1,6 +1,5 @@
 use mathlib.Core.Path.{sym, ap, _∙_}
-use Rattle.item_list.specs.Seeks.{passing}
-use Rattle.item_list.specs.Listings.{listingOf}
+use Rattle.item_list.specs.Seeks.{passing, listingOf}
 use Rattle.item_list.proofs.Reading.{sheet-shut, sheet-read, opens-some}
 use borrow.Author.Needs.{needs}
 use Rattle.item_list.proofs.finding.find.Statement.{statement}

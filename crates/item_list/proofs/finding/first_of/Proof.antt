@@ -1,5 +1,5 @@
 use mathlib.Core.Path.{sym, _∙_}
-use Rattle.item_list.specs.Listings.{orElse}
+use Rattle.item_list.specs.Seeks.{orElse}
 use borrow.Author.Needs.{needs}
 use Rattle.item_list.proofs.finding.first_of.Statement.{statement}
 use Rattle.item_list.proofs.finding.first_of.Tie as tie

@@ -1,4 +1,4 @@
-use Rattle.item_list.specs.Listings.{listedAt, verdictOf}
+use Rattle.item_list.specs.Seeks.{listedAt, verdictOf}
 use borrow.Author.Needs.{needs}
 use Rattle.item_list.proofs.finding.listing.Statement.{statement}
 use Rattle.item_list.proofs.finding.listing.Tie as tie

@@ -5,8 +5,7 @@ use native.Mathlib.Omega.{arith}
 use lib.ListN.{drop}
 use Rattle.format.specs.Questions.{accepted, ask, bind}
 use Rattle.format.specs.Items.{readItems, rising}
-use Rattle.item_list.specs.Seeks.{passing}
-use Rattle.item_list.specs.Listings.{listingOf}
+use Rattle.item_list.specs.Seeks.{passing, listingOf}
 use Rattle.item_list.proofs.Steps.{PastItem, whole-at, past-first, past-next, step-end}
 use Rattle.item_list.proofs.Reading.{run, run-first, run-end, run-broken, run-over, run-step, found-by-key}
 use Rattle.item_list.proofs.finding.walk.Statement.{statement}

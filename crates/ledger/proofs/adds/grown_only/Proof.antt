@@ -1,4 +1,4 @@
-use Rattle.ledger.specs.Adding.{grownOnly}
+use Rattle.ledger.specs.Posting.{grownOnly}
 use borrow.Author.Needs.{needs}
 use Rattle.ledger.proofs.adds.grown_only.Statement.{statement}
 use Rattle.ledger.proofs.adds.grown_only.Tie as tie

@@ -1,4 +1,4 @@
-use Rattle.ledger.specs.Asked.{firstNo}
+use Rattle.ledger.specs.Posting.{firstNo}
 use Rattle.ledger.proofs.Alsos.{first-other, first-refusal}
 use borrow.Author.Needs.{needs}
 use Rattle.ledger.proofs.also.first_no.Statement.{statement}

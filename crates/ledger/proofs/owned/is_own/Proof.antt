@@ -1,6 +1,6 @@
 use mathlib.Core.Path.{ap}
 use Rattle.inline_refs.specs.Scans.{kindOf}
-use Rattle.ledger.specs.Known.{isOwnItem}
+use Rattle.ledger.specs.Posting.{isOwnItem}
 use borrow.Author.Needs.{needs}
 use Rattle.ledger.proofs.owned.is_own.Statement.{statement}
 use Rattle.ledger.proofs.owned.is_own.Tie as tie

@@ -6,7 +6,7 @@ use lib.ListN.{length}
 use Rattle.fields.proofs.Lists.{T-eq}
 use Rattle.inline_refs.specs.Scans.{kindOf}
 use Rattle.item_list.specs.Steps.{listItems}
-use Rattle.ledger.specs.Adding.{addChange}
+use Rattle.ledger.specs.Posting.{addChange}
 use Rattle.ledger.proofs.Postings.{drop-block, drop-data, drop-shared, shared-add, as-drop, as-change, entered-as, fits-as, not-block}
 use Rattle.inline_refs.specs.declared.ref_name.RefName.the-variants.{Block, Data}
 use Rattle.theorems.proofs.Edit.{balanced-out}

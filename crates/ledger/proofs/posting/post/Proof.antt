@@ -3,7 +3,7 @@ use lib.ListN.{length}
 use denote.Ref.{now}
 use Rattle.format.specs.Items.{nodesizeFits}
 use Rattle.format.specs.Ledger.{nameOf, kindFits}
-use Rattle.record_edit.specs.Stands.{RecordMissing, RecordFound}
+use Rattle.record_edit.specs.Records.{RecordMissing, RecordFound}
 use Rattle.record_edit.proofs.Searches.{passed-shows}
 use Rattle.ledger.proofs.Postings.{finds-for, sheet-no, missing-answered, asked-no, kind-yes, balanced-list, post-answered}
 use borrow.Author.Needs.{needs}

@@ -7,7 +7,7 @@ use Rattle.fields.specs.Numbers.{areBytes}
 use Rattle.fields.proofs.Numbers.{areBytes-in}
 use Rattle.format.specs.Bodies.{sharedKind}
 use Rattle.format.specs.Items.{nodesizeFits}
-use Rattle.record_edit.specs.Stands.{RecordFound}
+use Rattle.record_edit.specs.Records.{RecordFound}
 use Rattle.record_edit.proofs.Stands.{Stands, stands}
 use Rattle.record_edit.proofs.Searches.{finds-as}
 use Rattle.transaction.proofs.Additions.{shared-add-refused, shared-add-missing, shared-add-answered}

@@ -3,7 +3,7 @@ use mathlib.Core.List.{List}
 use Prim.Native.Nat.{ℕ, _-_}
 use denote.Ref.{now}
 use lib.ListN.{length}
-use Rattle.transaction.specs.Edits.{heldPlan}
+use Rattle.transaction.specs.Drops.{heldPlan}
 use Rattle.transaction.proofs.Plans.{put-held}
 use borrow.Author.Needs.{needs}
 use Rattle.transaction.proofs.drop_edits.put_count.Statement.{statement}

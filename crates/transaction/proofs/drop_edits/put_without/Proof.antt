@@ -2,7 +2,7 @@ use mathlib.Core.Path.{ap}
 use Prim.Native.Nat.{ℕ}
 use denote.Ref.{now}
 use lib.ListN.{length}
-use Rattle.transaction.specs.Edits.{gone, heldPlan}
+use Rattle.transaction.specs.Drops.{gone, heldPlan}
 use Rattle.transaction.proofs.Plans.{put-held}
 use borrow.Author.Needs.{needs}
 use Rattle.transaction.proofs.drop_edits.put_without.Statement.{statement}

@@ -8,7 +8,7 @@ use Rattle.item_list.specs.Seeks.{passing}
 use Rattle.item_list.proofs.Reading.{Located, located, lacking, listing-refused}
 use Rattle.item_list.proofs.Positions.{key-missing, key-room, key-past, key-here}
 use Rattle.item_list.proofs.ItemWrites.{answered-no}
-use Rattle.record_edit.specs.Stands.{StandsAt}
+use Rattle.record_edit.specs.Records.{StandsAt}
 use Rattle.transaction.proofs.KeptRecords.{kept-refused, kept-none, kept-stands, kept-told, kept-plain}
 use borrow.Author.Needs.{needs}
 use Rattle.transaction.proofs.drop_kept.drop_kept_tree_ref.Statement.{statement}

@@ -5,7 +5,7 @@ use lib.Dec.{T}
 use Rattle.fields.specs.Numbers.{areBytes}
 use Rattle.fields.proofs.Numbers.{areBytes-in}
 use Rattle.format.specs.Bodies.{sharedKind}
-use Rattle.record_edit.specs.Stands.{RecordFound}
+use Rattle.record_edit.specs.Records.{RecordFound}
 use Rattle.record_edit.proofs.Stands.{Stands, stands}
 use Rattle.record_edit.proofs.Searches.{finds-as}
 use Rattle.transaction.proofs.SharedDrops.{shared-drop-refused, shared-drop-missing, shared-drop-answered}

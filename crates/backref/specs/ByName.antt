@@ -1,22 +1,23 @@
--- Where an added reference goes, by the wanted name. Assumes nothing.
+-- Calls on a body by the wanted name: where an added reference goes; one that loses one count or is taken out whole.
+-- Assumes nothing.
 use mathlib.Core.Path.{_≡_}
 use mathlib.Core.Bool.{Bool, true, false, cond}
-use mathlib.Core.List.{List}
+use mathlib.Core.List.{List, _++_}
 use Prim.Native.Nat.{ℕ, _+_, _-_, _≤_, _<_}
 use lib.Dec.{leb, eqb}
 use lib.ListN.{length, take}
+use Rattle.fields.specs.Lists.{firstCut}
 use Rattle.fields.specs.Numbers.{leBytes}
 use Rattle.fields.specs.Parts.{written}
 use Rattle.format.specs.declared.SharedRef.{SharedRef}
-use Rattle.format.specs.Questions.{Answer}
-use Rattle.format.specs.References.{payloadLength, Ref, makeRef, refBytes, rankOf}
-use Rattle.format.specs.Bodies.{one, onBody, RefPosition, positionAnywhere, positionByScan, addAt, addInlineData, addInlineShared, keyedAt}
+use Rattle.format.specs.Questions.{Answer, accepted, bind, found, TakenOut}
+use Rattle.format.specs.References.{payloadLength, Ref, makeRef, refBytes, bodyWith, bodyBytes, rankOf}
+use Rattle.format.specs.Bodies.{onBody, named, one, dropInline, dropInlineTreeRef, dropInlineDataRef, RefPosition, positionAnywhere, positionByScan, addAt, addInlineData, addInlineShared, keyedAt}
 use Rattle.inline_refs.specs.declared.ref_name.RefName.{RefName}
 use Rattle.inline_refs.specs.declared.ref_name.RefName.the-variants.{Block, Data, SharedBlock, SharedData}
 use Rattle.inline_refs.specs.declared.scan.Seen.{Seen}
 use Rattle.inline_refs.specs.declared.noted.AddAt.{AddAt}
-use Rattle.inline_refs.specs.Scans.{kindOf, fieldsOf}
-use Rattle.inline_refs.specs.Noted.{addAnywhere, addByScan}
+use Rattle.inline_refs.specs.Scans.{kindOf, fieldsOf, addAnywhere, addByScan}
 use Rattle.backref.specs.declared.plan.Outcome.the-variants.{Edit, Refused}
 use Rattle.backref.specs.declared.plan.Plan.{Plan}
 
@@ -76,3 +77,19 @@ pub record Raised (from to : ℕ) (wanted : RefName) (count total amount : ℕ) 
   pub front : total ≤ 18446744073709551615 - amount
       → take (1 + payloadLength (kindOf wanted)) (p .new) ≡ refBytes (newRef wanted count)
   pub long : total ≤ 18446744073709551615 - amount → length (p .new) ≡ 32
+
+-- ---- drops
+
+-- drop_inline_tree_ref and drop_inline_data_ref in one. A shared reference is dropped by the same rule, which no call asks for
+abbrev pub dropNamed : ℕ → List ℕ → RefName → Answer (List ℕ)
+dropNamed type body (Block name) = dropInlineTreeRef type body name
+dropNamed type body (Data name) = dropInlineDataRef type body name
+dropNamed type body (SharedBlock parent) = dropInline type body 182 (one parent)
+dropNamed type body (SharedData parent) = dropInline type body 184 (one parent)
+
+-- take_inline_shared behind its question 3
+unfoldable pub takeInline : ℕ → List ℕ → RefName → Answer TakenOut
+takeInline type body wanted =
+    onBody type body (λ b.
+    bind (found (firstCut (named (kindOf wanted) (fieldsOf wanted)) (b .refs))) (λ c.
+    accepted (record { bytes = bodyBytes (bodyWith b (b .total) (c .front ++ c .back)); count = c .hit .weight })))
