@@ -112,6 +112,9 @@ module _ (nodesize : ℕ) (sheet : List ℕ) (room : ℕ) (raw : T (areBytes she
         holds = shorter-in sheet (gone (f .items) (f .at)) room after short (S .short) (f .roomy);
       })
 
+  drop-exactly : Exactly (Accepts nodesize sheet change room) (DropFacts nodesize sheet m room test gone)
+  drop-exactly = record { only = drop-only; enough = drop-enough }
+
 -- ---- inline or else by its item
 
 inline-way : (r : Answer (List ℕ)) (t : Bool) (body : List ℕ) (k : List ℕ → Answer (List Item)) (a : List Item)
@@ -381,43 +384,24 @@ pub drops-block : (nodesize : ℕ) (sheet : List ℕ) (extent : ℕ) (name : Blo
     (DropsBlock nodesize sheet (nameOf (DropBlock extent name)) room)
 unfolding changed
 drops-block nodesize sheet extent name room raw =
+    let f = drop-exactly nodesize sheet room raw (DropBlock extent name) tt (dropTreeRef name false) (leb 2)
+    (λ items c. freed (nameOf (DropBlock extent name)) c 9 21) (λ items. refl) (block-counts sheet extent name)
+    (block-gives sheet extent name) in
     record {
       only = λ acc.
-          (let f = drop-only nodesize sheet room raw (DropBlock extent name) tt (dropTreeRef name false) (leb 2) gone
-          (λ items. refl) counts gives acc in
-          record {
-            items = f .items;
-            at = f .at;
-            upToFive = f .upToFive;
-            named = f .counts;
-            two = leb→le _ _
-                (f .asked);
-            roomy = f .roomy;
-          });
-      enough = λ f.
-          drop-enough nodesize sheet room raw (DropBlock extent name) tt (dropTreeRef name false) (leb 2) gone
-          (λ items. refl) counts gives
+          (let d = f .only acc in
+          record { items = d .items; at = d .at; upToFive = d .upToFive; named = d .counts; two = leb→le _ _ (d .asked); roomy = d .roomy });
+      enough = λ d.
+          f .enough
           (record {
-            items = f .items;
-            at = f .at;
-            upToFive = f .upToFive;
-            counts = f .named;
-            asked = le→leb 2 (totalOf (f .at .hit .bytes))
-                (f .two);
-            roomy = f .roomy;
+            items = d .items;
+            at = d .at;
+            upToFive = d .upToFive;
+            counts = d .named;
+            asked = le→leb 2 (totalOf (d .at .hit .bytes)) (d .two);
+            roomy = d .roomy;
           });
     }
-  where
-    gone : List Item → Cut Item → ℕ
-    gone items c = freed (nameOf (DropBlock extent name)) c 9 21
-
-    counts : (items : List Item) → SheetFacts sheet items → (c : Cut Item) (b : Body) → Here (nameOf (DropBlock extent name)) items c b
-        → (after : List Item) → dropTreeRef name false items c ≡ accepted after → 1 ≤ count (nameOf (DropBlock extent name)) items
-    counts items S c b H after e = block-counts sheet extent name items S c b H after e
-
-    gives : (items : List Item) → SheetFacts sheet items → (c : Cut Item) (b : Body) → Here (nameOf (DropBlock extent name)) items c b
-        → 1 ≤ count (nameOf (DropBlock extent name)) items → Gives sheet (leb 2) (gone items c) c (dropTreeRef name false items c)
-    gives items S c b H n = block-gives sheet extent name items S c b H n
 
 -- ---- a data reference
 
@@ -572,45 +556,24 @@ pub drops-data : (nodesize : ℕ) (sheet : List ℕ) (extent : ℕ) (name : Data
     → Exactly (Accepts nodesize sheet (DropData extent name) room) (DropsData nodesize sheet (nameOf (DropData extent name)) room)
 unfolding changed
 drops-data nodesize sheet extent name room raw =
+    let f = drop-exactly nodesize sheet room raw (DropData extent name) tt (dropDataRef name) (leb 2)
+    (λ items c. cond (eqb (count (nameOf (DropData extent name)) items) 1) (freed (nameOf (DropData extent name)) c 29 49) 0)
+    (λ items. refl) (data-stands sheet extent name) (data-gives sheet extent name) in
     record {
       only = λ acc.
-          (let f = drop-only nodesize sheet room raw (DropData extent name) tt (dropDataRef name) (leb 2) gone
-          (λ items. refl) counts gives acc in
-          record {
-            items = f .items;
-            at = f .at;
-            upToFive = f .upToFive;
-            named = f .counts;
-            two = leb→le _ _
-                (f .asked);
-            roomy = f .roomy;
-          });
-      enough = λ f.
-          drop-enough nodesize sheet room raw (DropData extent name) tt (dropDataRef name) (leb 2) gone (λ items. refl) counts gives
+          (let d = f .only acc in
+          record { items = d .items; at = d .at; upToFive = d .upToFive; named = d .counts; two = leb→le _ _ (d .asked); roomy = d .roomy });
+      enough = λ d.
+          f .enough
           (record {
-            items = f .items;
-            at = f .at;
-            upToFive = f .upToFive;
-            counts = f .named;
-            asked = le→leb 2 (totalOf (f .at .hit .bytes))
-                (f .two);
-            roomy = f .roomy;
+            items = d .items;
+            at = d .at;
+            upToFive = d .upToFive;
+            counts = d .named;
+            asked = le→leb 2 (totalOf (d .at .hit .bytes)) (d .two);
+            roomy = d .roomy;
           });
     }
-  where
-    m : Name
-    m = nameOf (DropData extent name)
-
-    gone : List Item → Cut Item → ℕ
-    gone items c = cond (eqb (count m items) 1) (freed m c 29 49) 0
-
-    counts : (items : List Item) → SheetFacts sheet items → (c : Cut Item) (b : Body) → Here m items c b
-        → (after : List Item) → dropDataRef name items c ≡ accepted after → 1 ≤ count m items
-    counts items S c b H after e = data-stands sheet extent name items S c b H after e
-
-    gives : (items : List Item) → SheetFacts sheet items → (c : Cut Item) (b : Body) → Here m items c b → 1 ≤ count m items
-        → Gives sheet (leb 2) (gone items c) c (dropDataRef name items c)
-    gives items S c b H n = data-gives sheet extent name items S c b H n
 
 -- ---- a shared reference
 
@@ -759,26 +722,19 @@ drops-shared nodesize sheet extent name room raw =
     record {
       only = λ acc.
           (let k = posts-out nodesize sheet (DropShared extent name) room acc .kind in
-          let f = drop-only nodesize sheet room raw (DropShared extent name) k (dropSharedRef name) unasked gone (λ items. refl)
-          (counts k) (gives k) acc in
-          record { items = f .items; at = f .at; kind = k; upToFive = f .upToFive; named = f .counts; roomy = f .roomy });
-      enough = λ f.
-          drop-enough nodesize sheet room raw (DropShared extent name) (f .kind) (dropSharedRef name) unasked gone (λ items. refl)
-          (counts (f .kind)) (gives (f .kind))
-          (record { items = f .items; at = f .at; upToFive = f .upToFive; counts = f .named; asked = tt; roomy = f .roomy });
+          let d = f k .only acc in
+          record { items = d .items; at = d .at; kind = k; upToFive = d .upToFive; named = d .counts; roomy = d .roomy });
+      enough = λ d.
+          f (d .kind) .enough
+          (record { items = d .items; at = d .at; upToFive = d .upToFive; counts = d .named; asked = tt; roomy = d .roomy });
     }
   where
     m : Name
     m = nameOf (DropShared extent name)
 
-    gone : List Item → Cut Item → ℕ
-    gone items c = freed m c (sharedSize (name .kind)) (sharedItem (name .kind))
-
-    counts : T (sharedKind (name .kind)) → (items : List Item) → SheetFacts sheet items → (c : Cut Item) (b : Body) → Here m items c b
-        → (after : List Item) → dropSharedRef name items c ≡ accepted after → 1 ≤ count m items
-    counts k items S c b H after e = shared-stands sheet extent name k items S c b H after e
-
-    gives : T (sharedKind (name .kind)) → (items : List Item) → SheetFacts sheet items → (c : Cut Item) (b : Body) → Here m items c b
-        → 1 ≤ count m items
-        → Gives sheet unasked (gone items c) c (dropSharedRef name items c)
-    gives k items S c b H n = shared-gives sheet extent name k items S c b H n
+    f : (k : T (sharedKind (name .kind))) → Exactly (Accepts nodesize sheet (DropShared extent name) room)
+        (DropFacts nodesize sheet m room unasked (λ items c. freed m c (sharedSize (name .kind)) (sharedItem (name .kind))))
+    f k =
+        drop-exactly nodesize sheet room raw (DropShared extent name) k (dropSharedRef name) unasked
+        (λ items c. freed m c (sharedSize (name .kind)) (sharedItem (name .kind))) (λ items. refl)
+        (shared-stands sheet extent name k) (shared-gives sheet extent name k)
