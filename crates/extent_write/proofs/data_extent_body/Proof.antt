@@ -10,10 +10,8 @@ returns c =
     let at-count = at-body .before .before .before .before in
     let at-offset = at-count .before .before .before in
     let at-ino = at-offset .before .before .before in
-    let at-head = at-ino .before .before .before in
-    let a = at-head .before .before .before .args in
     answered-body _
-    (data-is (a .generation) (a .root) (a .ino) (a .offset) (at-head .put-head .ensures) (at-ino .put-u64-le .ensures) (at-offset .put-u64-le2 .ensures) (at-count .put-u32-le .ensures))
+    (data-is _ _ _ _ (at-ino .before .before .before .put-head .ensures) (at-ino .put-u64-le .ensures) (at-offset .put-u64-le2 .ensures) (at-count .put-u32-le .ensures))
     (at-body .put-body .ensures)
 
 pub data-extent-body-spec : {M : Type 1} → statement M

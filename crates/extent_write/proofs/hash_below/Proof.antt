@@ -11,9 +11,7 @@ returns c =
 
 returns-2 : tie.Need-returns-2
 returns-2 c =
-    let call = c .before .before .before in
-    let a = call .before .args in
-    below-whole (a .tree) (a .objectid) (a .offset) _ (a .rank) (call .register-of .ensures) _ _ (c .before .run-two .ensures) (c .joined .ensures)
+    below-whole _ _ _ _ _ (c .before .before .before .register-of .ensures) _ _ (c .before .run-two .ensures) (c .joined .ensures)
 
 pub hash-below-spec : {M : Type 1} → statement M
 hash-below-spec =

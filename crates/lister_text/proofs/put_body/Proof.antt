@@ -1,4 +1,3 @@
-use denote.Ref.{now}
 use mathlib.Core.Path.{sym, _∙_}
 use native.Mathlib.Omega.{arith}
 use borrow.Author.Needs.{needs}
@@ -11,17 +10,13 @@ use Rattle.lister_text.proofs.put_body.Tie as tie
 count-refs-requires : tie.Need-count-refs-requires
 count-refs-requires c κs =
     let start = c .before .before .before in
-    let opened = start .before .before in
-    let a = opened .before .before .before .args in
-    let o = opens (a .item-type) (now (a .body)) _ (sym (start .start .given .1) ∙ opened .open-body .ensures) in
+    let o = opens _ _ _ (sym (start .start .given .1) ∙ start .before .before .open-body .ensures) in
     (c .before .rows .ensures, (o .inside, o .fits))
 
 put-head-requires : tie.Need-put-head-requires
 put-head-requires c κs =
     let start = c .before .before .before .before .before .before .before .before in
-    let opened = start .before .before in
-    let a = opened .before .before .before .args in
-    opens (a .item-type) (now (a .body)) _ (sym (start .start .given .1) ∙ opened .open-body .ensures) .long
+    opens _ _ _ (sym (start .start .given .1) ∙ start .before .before .open-body .ensures) .long
 
 put-refs-requires : tie.Need-put-refs-requires
 put-refs-requires c κs =
@@ -30,19 +25,15 @@ put-refs-requires c κs =
     let counted = count .before .before in
     let rows = counted .before .before in
     let start = rows .before .before in
-    let opened = start .before .before in
-    let a = opened .before .before .before .args in
-    let o = opens (a .item-type) (now (a .body)) _ (sym (start .start .given .1) ∙ opened .open-body .ensures) in
+    let o = opens _ _ _ (sym (start .start .given .1) ∙ start .before .before .open-body .ensures) in
     (rows .rows .ensures, (o .fits, sym (count .count .given .1) ∙ counted .count-refs .ensures, o .inside, head .put-head .ensures .1))
 
 returns : tie.Need-returns
 returns c =
     let put = c .before .before in
     let number = put .before .before .before in
-    let opened = number .before .before in
-    let a = opened .before .before .before .args in
-    let o = opens (a .item-type) (now (a .body)) _ (sym (number .number .given .1) ∙ opened .open-body .ensures) in
-    (put-is (text-shut (a .item-type) (now (a .body)) _ o) (put .put-refused .ensures .0), omega (arith, put .put-refused .ensures .1))
+    let o = opens _ _ _ (sym (number .number .given .1) ∙ number .before .before .open-body .ensures) in
+    (put-is (text-shut _ _ _ o) (put .put-refused .ensures .0), omega (arith, put .put-refused .ensures .1))
 
 returns-2 : tie.Need-returns-2
 returns-2 c =
@@ -50,10 +41,8 @@ returns-2 c =
     let number = put .before .before .before in
     let counted = number .before .before in
     let start = counted .before .before .before .before in
-    let opened = start .before .before in
-    let a = opened .before .before .before .args in
-    let o = opens (a .item-type) (now (a .body)) _ (sym (start .start .given .1) ∙ opened .open-body .ensures) in (
-      put-is (text-fault (a .item-type) (now (a .body)) _ o _ (sym (number .number2 .given .1) ∙ counted .count-refs .ensures)) (put .put-refused2 .ensures .0),
+    let o = opens _ _ _ (sym (start .start .given .1) ∙ start .before .before .open-body .ensures) in (
+      put-is (text-fault _ _ _ o _ (sym (number .number2 .given .1) ∙ counted .count-refs .ensures)) (put .put-refused2 .ensures .0),
       omega (arith, put .put-refused2 .ensures .1),
     )
 
@@ -64,10 +53,8 @@ returns-3 c =
     let count = head .before .before .before in
     let counted = count .before .before in
     let start = counted .before .before .before .before in
-    let opened = start .before .before in
-    let a = opened .before .before .before .args in
-    let o = opens (a .item-type) (now (a .body)) _ (sym (start .start .given .1) ∙ opened .open-body .ensures) in (
-      put-is (text-is (a .item-type) (now (a .body)) _ o _ (sym (count .count .given .1) ∙ counted .count-refs .ensures)) (put-then (head .put-head .ensures .0) (put .put-refs .ensures .0)),
+    let o = opens _ _ _ (sym (start .start .given .1) ∙ start .before .before .open-body .ensures) in (
+      put-is (text-is _ _ _ o _ (sym (count .count .given .1) ∙ counted .count-refs .ensures)) (put-then (head .put-head .ensures .0) (put .put-refs .ensures .0)),
       omega (arith, o .fits, put .put-refs .ensures .1),
     )
 

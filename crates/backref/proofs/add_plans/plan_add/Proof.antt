@@ -14,10 +14,8 @@ use Rattle.backref.proofs.add_plans.plan_add.Tie as tie
 get-u64-le-requires : tie.Need-get-u64-le-requires
 get-u64-le-requires c κs =
     let seen = c .before in
-    let scan = seen .before .before in
-    let a = scan .before .before .args in
-    let r = scan-reads (a .item-type) (now (a .body)) (a .wanted) _ _ (sym (seen .seen .given .1) ∙ scan .scan-to-add .ensures) in
-    omega (arith, read-long (a .item-type) (now (a .body)) _ (r .read))
+    let r = scan-reads _ _ _ _ _ (sym (seen .seen .given .1) ∙ seen .before .before .scan-to-add .ensures) in
+    omega (arith, read-long _ _ _ (r .read))
 
 returns : tie.Need-returns
 unfolding ownRank
@@ -61,8 +59,7 @@ returns-3 c =
 returns-4 : tie.Need-returns-4
 returns-4 c =
     let scan = c .before .before .before .before in
-    let a = scan .before .before .args in
-    give-fault (a .item-type) (now (a .body)) (a .wanted) _ (a .amount) _ _ (sym (c .before .before .refusal .given .1) ∙ scan .scan-to-add .ensures) (c .refuse .ensures .0)
+    give-fault _ _ _ _ _ _ _ (sym (c .before .before .refusal .given .1) ∙ scan .scan-to-add .ensures) (c .refuse .ensures .0)
 
 returns-5 : tie.Need-returns-5
 unfolding ownRank

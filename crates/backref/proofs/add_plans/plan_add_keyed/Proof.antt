@@ -13,10 +13,8 @@ use Rattle.backref.proofs.add_plans.plan_add_keyed.Tie as tie
 get-u64-le-requires : tie.Need-get-u64-le-requires
 get-u64-le-requires c κs =
     let seen = c .before in
-    let scan = seen .before .before in
-    let a = scan .before .before .args in
-    let r = scan-reads (a .item-type) (now (a .body)) (a .wanted) (a .rank) _ (sym (seen .seen .given .1) ∙ scan .scan-body .ensures) in
-    omega (arith, read-long (a .item-type) (now (a .body)) _ (r .read))
+    let r = scan-reads _ _ _ _ _ (sym (seen .seen .given .1) ∙ seen .before .before .scan-body .ensures) in
+    omega (arith, read-long _ _ _ (r .read))
 
 returns : tie.Need-returns
 returns c =
@@ -57,8 +55,7 @@ returns-3 c =
 returns-4 : tie.Need-returns-4
 returns-4 c =
     let scan = c .before .before .before .before in
-    let a = scan .before .before .args in
-    key-fault (a .item-type) (now (a .body)) (a .wanted) (a .rank) (a .amount) _ _ (sym (c .before .before .refusal .given .1) ∙ scan .scan-body .ensures) (c .refuse .ensures .0)
+    key-fault _ _ _ _ _ _ _ (sym (c .before .before .refusal .given .1) ∙ scan .scan-body .ensures) (c .refuse .ensures .0)
 
 returns-5 : tie.Need-returns-5
 returns-5 c =

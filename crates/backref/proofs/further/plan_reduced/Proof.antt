@@ -6,13 +6,11 @@ use Rattle.backref.proofs.further.plan_reduced.Tie as tie
 
 returns : tie.Need-returns
 returns c =
-    let a = c .before .before .before .before .before .args in
-    reduced-low (a .plan) (a .amount) (omega arith) (c .before .before .before .enum-told .given .1) _ (c .before .if1 .taken) (c .refuse .ensures .0)
+    reduced-low _ _ (omega arith) (c .before .before .before .enum-told .given .1) _ (c .before .if1 .taken) (c .refuse .ensures .0)
 
 returns-2 : tie.Need-returns-2
 returns-2 c =
-    let a = c .before .before .before .before .before .args in
-    reduced-edit (a .plan) (a .amount) (omega arith) (c .before .before .before .enum-told .given .1) _ (c .before .if1 .left) (c .edit .ensures)
+    reduced-edit _ _ (omega arith) (c .before .before .before .enum-told .given .1) _ (c .before .if1 .left) (c .edit .ensures)
 
 returns-3 : tie.Need-returns-3
 returns-3 c = reduced-absent (c .before .before .args .plan) (c .before .before .args .amount) (omega arith) (c .enum-told2 .given .1)

@@ -11,8 +11,7 @@ use Rattle.backref.proofs.keyed.keyed_data_ref_body.Tie as tie
 
 put-u32-le-requires : tie.Need-put-u32-le-requires
 put-u32-le-requires c κs =
-    let row = c .before .before .before .before .before .before .before .before .before .before in
-    let at = at-is (row .lengths-of .ensures .1) in
+    let at = at-is (c .before .before .before .before .before .before .before .before .before .before .lengths-of .ensures .1) in
     omega (arith, at)
 
 array-share-prefix-new : tie.Need-array-share-prefix-new
@@ -36,9 +35,8 @@ returns c =
     let at-objectid = at-offset .before .before .before in
     let at-tree = at-objectid .before .before .before in
     let row = at-tree .before .before in
-    let a = row .before .before .args in
     answered-body _
-    (item-is (a .name) (a .count) (row .lengths-of .ensures .1) (row .lengths-of .ensures .0) (at-tree .put-u64-le .ensures)
+    (item-is _ _ (row .lengths-of .ensures .1) (row .lengths-of .ensures .0) (at-tree .put-u64-le .ensures)
     (at-objectid .put-u64-le2 .ensures) (at-offset .put-u64-le3 .ensures) (at-count .put-u32-le .ensures))
     (at-body .put-body .ensures)
 

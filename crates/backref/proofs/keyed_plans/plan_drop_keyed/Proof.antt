@@ -15,15 +15,13 @@ use Rattle.backref.proofs.keyed_plans.plan_drop_keyed.Tie as tie
 
 returns : tie.Need-returns
 returns c =
-    let a = c .before .before .before .args in
-    (keyed-long (now (a .item)) (a .name) _ (c .before .if1 .taken) (c .refuse .ensures .0), c .refuse .ensures .1)
+    (keyed-long _ _ _ (c .before .if1 .taken) (c .refuse .ensures .0), c .refuse .ensures .1)
 
 returns-2 : tie.Need-returns-2
 returns-2 c =
     let row = c .before .before .before in
-    let a = row .before .before .before .args in
     let long = long-is _ (row .lengths-of .ensures .0) in
-    (keyed-size (now (a .item)) (a .name) _ (row .before .if1 .left) (λ e. c .before .if2 .taken (e ∙ sym long)) (c .refuse2 .ensures .0), c .refuse2 .ensures .1)
+    (keyed-size _ _ _ (row .before .if1 .left) (λ e. c .before .if2 .taken (e ∙ sym long)) (c .refuse2 .ensures .0), c .refuse2 .ensures .1)
 
 names-triple-requires : tie.Need-names-triple-requires
 names-triple-requires c κs =
@@ -33,10 +31,8 @@ names-triple-requires c κs =
 returns-3 : tie.Need-returns-3
 returns-3 c =
     let names = c .before .before in
-    let row = names .before .before .before in
-    let a = row .before .before .before .args in
-    let long = long-is _ (row .lengths-of .ensures .0) in
-    (keyed-other (now (a .item)) (a .name) _ (names .before .if2 .left ∙ long) _ (names .names-triple .ensures) (not-true _ (c .before .if3 .taken)) (c .refuse3 .ensures .0), c .refuse3 .ensures .1)
+    let long = long-is _ (names .before .before .before .lengths-of .ensures .0) in
+    (keyed-other _ _ _ (names .before .if2 .left ∙ long) _ (names .names-triple .ensures) (not-true _ (c .before .if3 .taken)) (c .refuse3 .ensures .0), c .refuse3 .ensures .1)
 
 get-u32-le-requires : tie.Need-get-u32-le-requires
 get-u32-le-requires c κs =

@@ -1,5 +1,4 @@
 use mathlib.Core.Path.{sym, _∙_}
-use denote.Ref.{now}
 use borrow.Author.Needs.{needs}
 use Rattle.inline_refs.proofs.Notes.{opens}
 use Rattle.backref.proofs.Picks.{pick-shut, pick-refused, pick-is}
@@ -9,8 +8,7 @@ use Rattle.backref.proofs.pick.inline_ref.Tie as tie
 count-refs-requires : tie.Need-count-refs-requires
 count-refs-requires c κs =
     let opened = c .before .before .before .before .before in
-    let a = opened .before .before .args in
-    let w = opens (a .item-type) (now (a .body)) _ (sym (c .before .before .before .start .given .1) ∙ opened .open-body .ensures) in
+    let w = opens _ _ _ (sym (c .before .before .before .start .given .1) ∙ opened .open-body .ensures) in
     (c .before .rows .ensures, (w .inside, w .fits))
 
 pick-requires : tie.Need-pick-requires
@@ -18,33 +16,25 @@ pick-requires c κs =
     let counted = c .before .before .before .before in
     let rows = counted .before .before in
     let start = rows .before .before in
-    let opened = start .before .before in
-    let a = opened .before .before .args in
-    let w = opens (a .item-type) (now (a .body)) _ (sym (start .start .given .1) ∙ opened .open-body .ensures) in
+    let w = opens _ _ _ (sym (start .start .given .1) ∙ start .before .before .open-body .ensures) in
     (rows .rows .ensures, (w .fits, sym (c .before .before .count .given .1) ∙ counted .count-refs .ensures))
 
 returns : tie.Need-returns
 returns c =
-    let opened = c .before .before .before in
-    let a = opened .before .before .args in
-    (pick-shut (a .item-type) (now (a .body)) (a .index) _ (opens (a .item-type) (now (a .body)) _ (sym (c .before .refusal .given .1) ∙ opened .open-body .ensures)), tt)
+    (pick-shut _ _ _ _ (opens _ _ _ (sym (c .before .refusal .given .1) ∙ c .before .before .before .open-body .ensures)), tt)
 
 returns-2 : tie.Need-returns-2
 returns-2 c =
     let counted = c .before .before .before in
     let start = counted .before .before .before .before in
-    let opened = start .before .before in
-    let a = opened .before .before .args in
-    let w = opens (a .item-type) (now (a .body)) _ (sym (start .start .given .1) ∙ opened .open-body .ensures) in
-    (pick-refused (a .item-type) (now (a .body)) (a .index) _ w _ (sym (c .before .refusal2 .given .1) ∙ counted .count-refs .ensures), tt)
+    let w = opens _ _ _ (sym (start .start .given .1) ∙ start .before .before .open-body .ensures) in
+    (pick-refused _ _ _ _ w _ (sym (c .before .refusal2 .given .1) ∙ counted .count-refs .ensures), tt)
 
 returns-3 : tie.Need-returns-3
 returns-3 c =
     let start = c .before .before .before .before .before .before .before .before .before in
-    let opened = start .before .before in
-    let a = opened .before .before .args in
-    let w = opens (a .item-type) (now (a .body)) _ (sym (start .start .given .1) ∙ opened .open-body .ensures) in
-    (c .pick .ensures .0 ∙ pick-is (a .item-type) (now (a .body)) (a .index) _ w, c .pick .ensures .1)
+    let w = opens _ _ _ (sym (start .start .given .1) ∙ start .before .before .open-body .ensures) in
+    (c .pick .ensures .0 ∙ pick-is _ _ _ _ w, c .pick .ensures .1)
 
 pub inline-ref-spec : {M : Type 1} → statement M
 inline-ref-spec =

@@ -40,9 +40,8 @@ mul-positions c =
 slice-write-positions : tie.Need-slice-write-positions Inv-loop μ-loop
 slice-write-positions c =
     let step = c .before .before in
-    let s = step .before .before .before .before in
     let said = step .step-from .ensures in
-    let w = stands-behind (now (s .args .body)) (step .before .loop .at) _ (said .0) _ _ _ _ _ (c .enum-told .given .1) _ (said .1) in
+    let w = stands-behind (now (step .before .before .before .before .args .body)) (step .before .loop .at) _ (said .0) _ _ _ _ _ (c .enum-told .given .1) _ (said .1) in
     room-left _ _ _ _ _ _ (step .before .loop .inv .0) _ _ _ _ _ w
 
 add-i : tie.Need-add-i Inv-loop μ-loop
@@ -56,17 +55,15 @@ add-i c =
 loop-less : tie.Need-loop-less Inv-loop μ-loop
 loop-less c =
     let step = c .before .before in
-    let s = step .before .before .before .before in
     let said = step .step-from .ensures in
-    let w = stands-behind (now (s .args .body)) (step .before .loop .at) _ (said .0) _ _ _ _ _ (c .enum-told .given .1) _ (said .1) in
+    let w = stands-behind (now (step .before .before .before .before .args .body)) (step .before .loop .at) _ (said .0) _ _ _ _ _ (c .enum-told .given .1) _ (said .1) in
     omega (arith, w .inside, w .further, w .within)
 
 loop-again : tie.Need-loop-again Inv-loop μ-loop
 loop-again c =
     let step = c .before .before in
-    let s = step .before .before .before .before in
     let said = step .step-from .ensures in
-    let w = stands-behind (now (s .args .body)) (step .before .loop .at) _ (said .0) _ _ _ _ _ (c .enum-told .given .1) _ (said .1) in
+    let w = stands-behind (now (step .before .before .before .before .args .body)) (step .before .loop .at) _ (said .0) _ _ _ _ _ (c .enum-told .given .1) _ (said .1) in
     (placing-next _ _ _ _ _ _ (step .before .loop .inv .0) _ _ _ _ _ w, omega (arith, w .further, step .before .loop .inv .1))
 
 same-length : tie.Need-same-length Inv-loop μ-loop

@@ -1,4 +1,3 @@
-use denote.Ref.{now}
 use Rattle.backref.proofs.Writes.{four}
 use borrow.Author.Needs.{needs}
 use Rattle.backref.proofs.write.put_edit.Statement.{statement}
@@ -11,8 +10,7 @@ returns c =
     let first = second .before .before .before .before in
     let total = first .before .before .before .before .before in
     let s = total .before .before .before .before .before in
-    let a = s .args in
-    four (a .from) (a .to) (a .total) (now (a .new)) (now (a .body)) (s .pre .0 .0) (s .pre .0 .1) (s .pre .0 .2) (now (a .out)) _ _ _ _ (a .at) _ _ _ (s .pre .1)
+    four _ _ _ _ _ (s .pre .0 .0) (s .pre .0 .1) (s .pre .0 .2) _ _ _ _ _ _ _ _ _ (s .pre .1)
     (total .put-u64-le .ensures) (first .append .ensures) (second .append2 .ensures) (third .append3 .ensures)
 
 pub put-edit-spec : {M : Type 1} → statement M

@@ -9,26 +9,22 @@ use Rattle.balance.proofs.record.admit.Tie as tie
 returns : tie.Need-returns
 returns c =
     let s = c .before .before .before in
-    let a = s .args in
-    says-lower (now (a .body)) (a .run) (a .at) (a .kind) (a .start) (s .pre .1 .0 .0) (s .pre .1 .0 .1) (c .if1 .taken)
+    says-lower _ _ _ _ _ (s .pre .1 .0 .0) (s .pre .1 .0 .1) (c .if1 .taken)
 
 returns-2 : tie.Need-returns-2
 returns-2 c =
     let s = c .before .before .before .before .before in
-    let a = s .args in
-    says-owner (now (a .body)) (a .run) (a .at) (a .kind) (a .start) (s .pre .1 .0 .0) (s .pre .1 .0 .1) _ (c .before .weight-at .ensures) (s .pre .0 .1) (c .before .before .if1 .left) (c .if2 .taken)
+    says-owner _ _ _ _ _ (s .pre .1 .0 .0) (s .pre .1 .0 .1) _ (c .before .weight-at .ensures) (s .pre .0 .1) (c .before .before .if1 .left) (c .if2 .taken)
 
 returns-3 : tie.Need-returns-3
 returns-3 c =
     let s = c .before .before .before .before .before .before in
-    let a = s .args in
-    says-light (now (a .body)) (a .run) (a .at) (a .kind) (a .start) (s .pre .1 .0 .0) (s .pre .1 .0 .1) _ (c .before .before .weight-at .ensures) (c .before .if2 .left) (c .if3 .taken)
+    says-light _ _ _ _ _ (s .pre .1 .0 .0) (s .pre .1 .0 .1) _ (c .before .before .weight-at .ensures) (c .before .if2 .left) (c .if3 .taken)
 
 returns-4 : tie.Need-returns-4
 returns-4 c =
     let s = c .before .before .before .before .before .before .before .before in
-    let a = s .args in
-    says-higher (now (a .body)) (a .run) (a .at) (a .kind) (a .start) (s .pre .1 .0 .0) (s .pre .1 .0 .1) _ (c .before .before .before .before .weight-at .ensures) (s .pre .0 .1) (c .before .before .if3 .left) (c .if4 .taken)
+    says-higher _ _ _ _ _ (s .pre .1 .0 .0) (s .pre .1 .0 .1) _ (c .before .before .before .before .weight-at .ensures) (s .pre .0 .1) (c .before .before .if3 .left) (c .if4 .taken)
 
 follow-requires : tie.Need-follow-requires
 follow-requires c κs =
@@ -40,8 +36,7 @@ follow-requires c κs =
 
 returns-5 : tie.Need-returns-5
 returns-5 c =
-    let s = c .before .before .before .before .before .before .before .before .before in
-    let a = s .args in
+    let a = c .before .before .before .before .before .before .before .before .before .args in
     let k : a .kind ≡ a .run .kind = omega (arith, c .before .before .before .before .before .before .if1 .left, c .before .if4 .left) in
     as-kind (now (a .body)) (a .run) (a .start) (a .kind) (a .run .kind) _ k (c .follow .ensures)
 

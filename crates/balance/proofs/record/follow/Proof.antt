@@ -16,9 +16,8 @@ one-more-requires c κs =
 returns : tie.Need-returns
 returns c =
     let s = c .before .before .before .before in
-    let a = s .args in
-    as-run (now (a .body)) (a .run) _ _ _ _ _ (c .one-more .ensures)
-    (says-known (now (a .body)) (a .run) (a .at) (a .start) (s .pre .1 .0 .0) (s .pre .1 .0 .1 .1) (c .before .if1 .taken) _ (s .pre .1 .1 .0) (s .pre .0 .1 .1))
+    as-run _ _ _ _ _ _ _ (c .one-more .ensures)
+    (says-known _ _ _ _ (s .pre .1 .0 .0) (s .pre .1 .0 .1 .1) (c .before .if1 .taken) _ (s .pre .1 .1 .0) (s .pre .0 .1 .1))
 
 last-rank-requires : tie.Need-last-rank-requires
 last-rank-requires c κs = let s = c .before .before .before in (s .pre .0 .0, s .pre .1 .0 .1 .1 .inside)

@@ -28,9 +28,8 @@ returns c =
 add-n : tie.Need-add-n Inv-loop μ-loop
 add-n c =
     let step = c .before .before .before .before in
-    let i = step .before .loop .inv in
     let w = seen (now (step .before .before .before .args .body)) (step .before .loop .at) _ (sym (c .before .before .here .given .1) ∙ step .step .ensures) in
-    omega (arith, i .few, w .inside)
+    omega (arith, step .before .loop .inv .few, w .inside)
 
 loop-less : tie.Need-loop-less Inv-loop μ-loop
 loop-less c =
@@ -56,9 +55,8 @@ returns-2 c =
 returns-3 : tie.Need-returns-3 Inv-loop μ-loop
 returns-3 c =
     let step = c .before .before in
-    let i = step .before .loop .inv in
     let w = seen (now (step .before .before .before .args .body)) (step .before .loop .at) _ (sym (c .enum-told2 .given .1) ∙ step .step .ensures) in
-    absurd (step-never _ _ _ (i .reads) w)
+    absurd (step-never _ _ _ (step .before .loop .inv .reads) w)
 
 pub count-spec : {M : Type 1} → statement M
 count-spec =

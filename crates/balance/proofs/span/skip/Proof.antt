@@ -50,9 +50,8 @@ returns-2 c =
 returns-3 : tie.Need-returns-3 Inv-loop μ-loop
 returns-3 c =
     let step = c .before .before in
-    let i = step .before .loop .inv in
     let w = seen (now (step .before .before .before .args .body)) (step .before .loop .at) _ (sym (c .enum-told2 .given .1) ∙ step .step .ensures) in
-    absurd (step-never _ _ _ (i .reads) w)
+    absurd (step-never _ _ _ (step .before .loop .inv .reads) w)
 
 pub skip-spec : {M : Type 1} → statement M
 skip-spec =

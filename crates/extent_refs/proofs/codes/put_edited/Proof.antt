@@ -4,14 +4,5 @@ use Rattle.extent_refs.specs.Exports.{editedNumbers}
 use Rattle.extent_refs.proofs.codes.put_edited.Statement.{statement}
 use Rattle.extent_refs.proofs.codes.put_edited.Tie as tie
 
-returns-2 : tie.Need-returns-2
-returns-2 c = ap editedNumbers (sym (c .enum-told .given .1))
-
-returns-3 : tie.Need-returns-3
-returns-3 c = ap editedNumbers (sym (c .enum-told2 .given .1))
-
-returns-4 : tie.Need-returns-4
-returns-4 c = ap editedNumbers (sym (c .before .answer2 .given .1))
-
 pub put-edited-spec : {M : Type 1} → statement M
-put-edited-spec = tie.close (tie.spec (λ c. search needs) (λ c. search needs) (λ c. search needs) (λ c. search needs) (λ c. search needs) returns-2 returns-3 returns-4)
+put-edited-spec = tie.close (tie.spec (λ c. search needs) (λ c. search needs) (λ c. search needs) (λ c. search needs) (λ c. search needs) (λ c. ap editedNumbers (sym (c .enum-told .given .1))) (λ c. ap editedNumbers (sym (c .enum-told2 .given .1))) (λ c. ap editedNumbers (sym (c .before .answer2 .given .1))))

@@ -4,11 +4,5 @@ use Rattle.extent_refs.specs.Exports.{pickedNumbers}
 use Rattle.extent_refs.proofs.codes.put_picked.Statement.{statement}
 use Rattle.extent_refs.proofs.codes.put_picked.Tie as tie
 
-returns : tie.Need-returns
-returns c = ap pickedNumbers (sym (c .before .before .answer .given .1))
-
-returns-2 : tie.Need-returns-2
-returns-2 c = ap pickedNumbers (sym (c .before .answer2 .given .1))
-
 pub put-picked-spec : {M : Type 1} → statement M
-put-picked-spec = tie.close (tie.spec (λ c. search needs) (λ c. search needs) (λ c. search needs) returns returns-2)
+put-picked-spec = tie.close (tie.spec (λ c. search needs) (λ c. search needs) (λ c. search needs) (λ c. ap pickedNumbers (sym (c .before .before .answer .given .1))) (λ c. ap pickedNumbers (sym (c .before .answer2 .given .1))))

@@ -4,9 +4,6 @@ use Rattle.format.specs.Bodies.{treeBlockKey}
 use Rattle.extent_write.proofs.TreeBlockAllocation.key.Statement.{statement}
 use Rattle.extent_write.proofs.TreeBlockAllocation.key.Tie as tie
 
-returns : tie.Need-returns
-unfolding treeBlockKey
-returns c = refl
-
 pub key-spec : {M : Type 1} → statement M
-key-spec = tie.close (tie.spec (λ c. search needs) returns)
+unfolding treeBlockKey
+key-spec = tie.close (tie.spec (λ c. search needs) (λ c. refl))

@@ -25,8 +25,7 @@ returns c =
 loop-again : tie.Need-loop-again Inv-loop μ-loop
 loop-again c =
     let l = c .before .before .before .loop in
-    let a = c .before .before .before .before in
-    (omega arith, row-miss kinds (l .i) _ (omega arith) _ (ap (λ (t : List (List ℕ)). getD t (l .i) []) (a .pre)) (c .if1 .left) ∙ l .inv .1)
+    (omega arith, row-miss kinds (l .i) _ (omega arith) _ (ap (λ (t : List (List ℕ)). getD t (l .i) []) (c .before .before .before .before .pre)) (c .if1 .left) ∙ l .inv .1)
 
 returns-2 : tie.Need-returns-2 Inv-loop μ-loop
 unfolding rowFrom rowIn

@@ -16,8 +16,7 @@ names-triple-requires : tie.Need-names-triple-requires
 unfolding kindOf
 names-triple-requires c κs =
     let test = c .before .before .before in
-    let s = test .before .before .before in
-    omega (arith, payload-178 _ (sym (sym (test .before .kind-of .ensures) ∙ test .if1 .left) ∙ ap kindOf (c .before .wanted2 .given .1)), s .pre .1)
+    omega (arith, payload-178 _ (sym (sym (test .before .kind-of .ensures) ∙ test .if1 .left) ∙ ap kindOf (c .before .wanted2 .given .1)), test .before .before .before .pre .1)
 
 get-u64-le-requires-2 : tie.Need-get-u64-le-requires-2
 get-u64-le-requires-2 c κs = let s = c .before .before .before .before .before .before in omega (arith, payload-eight _ (s .pre .0), s .pre .1)

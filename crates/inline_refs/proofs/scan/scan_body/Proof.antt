@@ -1,5 +1,4 @@
 use mathlib.Core.Path.{sym, _∙_}
-use denote.Ref.{now}
 use Rattle.inline_refs.proofs.Notes.{scan-opened, scan-shut}
 use borrow.Author.Needs.{needs}
 use Rattle.inline_refs.proofs.scan.scan_body.Statement.{statement}
@@ -8,15 +7,12 @@ use Rattle.inline_refs.proofs.scan.scan_body.Tie as tie
 returns : tie.Need-returns
 returns c =
     let call = c .before .before .before .before .before .before .before in
-    let a = call .before .before .args in
-    scan-opened (a .item-type) (now (a .body)) (a .wanted) _ _ (sym (c .before .before .before .before .before .start .given .1) ∙ call .open-body .ensures)
+    scan-opened _ _ _ _ _ (sym (c .before .before .before .before .before .start .given .1) ∙ call .open-body .ensures)
     (c .scan-from .ensures)
 
 returns-2 : tie.Need-returns-2
 returns-2 c =
-    let call = c .before .before .before in
-    let a = call .before .before .args in
-    scan-shut (a .item-type) (now (a .body)) _ _ _ (sym (c .before .refusal .given .1) ∙ call .open-body .ensures)
+    scan-shut _ _ _ _ _ (sym (c .before .refusal .given .1) ∙ c .before .before .before .open-body .ensures)
 
 pub scan-body-spec : {M : Type 1} → statement M
 scan-body-spec =

@@ -43,9 +43,8 @@ enum-told c = c .match .keys1
 
 returns : tie.Need-returns Inv-loop μ-loop
 returns c =
-    let a = c .before .before .before .before .before .before .args in
     let i = c .before .before .before .before .loop .inv .1 in
-    subst (Divided (a .nodesize) (listItems (now (a .s)))) (sym (c .choose .ensures))
+    subst (Divided _ (listItems _)) (sym (c .choose .ensures))
     (measuring-all _ _ _ _ _ _ _ _ _ (i .so) (rest-end _ _ _ (i .rest) (sym (c .before .before .before .step-after .ensures) ∙ c .before .enum-told .given .1)))
 
 enum-told-2 : tie.Need-enum-told-2 Inv-loop μ-loop

@@ -16,8 +16,7 @@ use Rattle.leaf_edit.proofs.editing.delete.Tie as tie
 
 returns : tie.Need-returns
 returns c =
-    let a = c .before .before .before .before .before .before .args in
-    answered-no (delete (now (a .sheet)) (a .key)) _ _ (now (a .out)) (delete-refused _ _ _ (listing-refused _ _ _ (sym (c .before .before .before .find .ensures) ∙ c .before .listing .given .1)))
+    answered-no (delete _ _) _ _ _ (delete-refused _ _ _ (listing-refused _ _ _ (sym (c .before .before .before .find .ensures) ∙ c .before .listing .given .1)))
 
 returns-2 : tie.Need-returns-2
 returns-2 c =
@@ -35,9 +34,8 @@ is-past-requires c κs = key-room _ _ _ _ _ _ (found c)
 
 returns-3 : tie.Need-returns-3
 returns-3 c =
-    let a = c .before .before .before .before .before .before .before .before .args in
     let l = found (c .before .before) in
-    answered-no (delete (now (a .sheet)) (a .key)) _ _ (now (a .out)) (delete-absent _ _ (l .list) _ _ (key-past _ _ _ _ _ _ l (sym (c .before .is-past .ensures) ∙ c .if1 .taken)))
+    answered-no (delete _ _) _ _ _ (delete-absent _ _ (l .list) _ _ (key-past _ _ _ _ _ _ l (sym (c .before .is-past .ensures) ∙ c .if1 .taken)))
 
 -- it is the wanted one
 goes : (c : tie.Else1) → Deletion (now (c .before .before .before .before .before .before .before .before .args .sheet)) (c .before .before .before .listing2 .given .0 .0) (found (c .before .before) .list) (c .before .before .before .before .before .before .before .before .args .key) (c .before .before .before .listing2 .given .0 .1 .1 .0) (c .before .before .before .listing2 .given .0 .1 .1 .1 .0)

@@ -12,8 +12,7 @@ use Rattle.leaf_edit.proofs.halves.split.Tie as tie
 
 returns : tie.Need-returns
 returns c =
-    let a = c .before .before .before .before .before .before .args in
-    cuts-refused (split (now (a .sheet))) _ (now (a .cuts)) _ _ (split-refused _ _ (sheet-refused _ _ (sym (c .before .before .before .check .ensures) ∙ c .before .checked .given .1))) refl
+    cuts-refused (split _) _ _ _ _ (split-refused _ _ (sheet-refused _ _ (sym (c .before .before .before .check .ensures) ∙ c .before .checked .given .1))) refl
 
 -- the list was accepted
 good : (c : tie.After-known-told2) → Counted (now (c .before .before .before .before .before .before .args .sheet)) (c .before .checked2 .given .0 .0)
@@ -21,8 +20,7 @@ good c = counted _ _ (areBytes-in (now (c .before .before .before .before .befor
 
 returns-2 : tie.Need-returns-2
 returns-2 c =
-    let a = c .before .before .before .before .before .before .before .args in
-    cuts-refused (split (now (a .sheet))) _ (now (a .cuts)) _ _ (split-few _ _ (good (c .before)) (c .if1 .taken)) refl
+    cuts-refused (split _) _ _ _ _ (split-few _ _ (good (c .before)) (c .if1 .taken)) refl
 
 returns-3 : tie.Need-returns-3
 returns-3 c =

@@ -15,10 +15,9 @@ use Rattle.leaf_edit.proofs.lookup.item_range.Tie as tie
 returns : tie.Need-returns
 unfolding lentPart lentNumber codeOf
 returns c =
-    let a = c .before .before .before .before .before .args in
     let e = listing-refused _ _ _ (sym (c .before .before .before .find .ensures) ∙ c .before .listing .given .1) in
-    let h = item-refused (now (a .sheet)) (a .index) _ e in
-    let k = start-refused (now (a .sheet)) (a .index) _ e in
+    let h = item-refused _ _ _ e in
+    let k = start-refused _ _ _ e in
     (sym (ap codeOf h), sym (ap lentNumber k), sym (ap (λ (x : Answer (List ℕ)). length (lentPart x)) h))
 
 returns-2 : tie.Need-returns-2

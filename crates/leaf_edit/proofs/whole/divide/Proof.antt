@@ -19,11 +19,10 @@ measure-requires c κs = (c .before .before .pre .0, node-small _ (c .before .be
 
 returns : tie.Need-returns
 returns c =
-    let a = c .before .before .before .before .before .args in
     let p = c .before .before .before .before .before .pre in
-    let large : Divided (a .nodesize) (listItems (now (a .sheet))) TooLarge =
-    subst (Divided (a .nodesize) (listItems (now (a .sheet)))) (c .enum-told .given .1) (c .before .before .measure .ensures) in
-    cuts-refused (splitToFit (a .nodesize) (now (a .sheet))) _ (now (a .cuts)) (now (a .cuts)) _ (to-fit-large _ _ _ (p .0) (p .1) large) refl
+    let large : Divided _ (listItems _) TooLarge =
+    subst (Divided _ (listItems _)) (c .enum-told .given .1) (c .before .before .measure .ensures) in
+    cuts-refused (splitToFit _ _) _ _ _ _ (to-fit-large _ _ _ (p .0) (p .1) large) refl
 
 -- two leaves
 two : (c : tie.After-known-told) → Divided (c .before .before .before .before .before .before .args .nodesize) (listItems (now (c .before .before .before .before .before .before .args .sheet))) (TwoWay (c .before .division .given .0 .0))
@@ -54,9 +53,8 @@ more c = subst (Divided (c .before .before .before .before .before .before .args
 
 returns-4 : tie.Need-returns-4
 returns-4 c =
-    let a = c .before .before .before .before .before .before .before .args in
     let p = c .before .before .before .before .before .before .before .pre in
-    cuts-refused (splitToFit (a .nodesize) (now (a .sheet))) _ (now (a .cuts)) (now (a .cuts)) _ (to-fit-few _ _ _ (p .0) (p .1) (more (c .before) .0) (c .if2 .taken)) refl
+    cuts-refused (splitToFit _ _) _ _ _ _ (to-fit-few _ _ _ (p .0) (p .1) (more (c .before) .0) (c .if2 .taken)) refl
 
 more-are : (c : tie.Else2) → splitToFit (c .before .before .before .before .before .before .before .args .nodesize) (now (c .before .before .before .before .before .before .before .args .sheet)) ≡ accepted (filled (c .before .before .before .before .before .before .before .args .nodesize) 0 101 (listItems (now (c .before .before .before .before .before .before .before .args .sheet))))
 more-are c = to-fit-filled _ _ _ (c .before .before .before .before .before .before .before .pre .0) (c .before .before .before .before .before .before .before .pre .1) (more (c .before) .0) (c .if2 .left) (more (c .before) .1)

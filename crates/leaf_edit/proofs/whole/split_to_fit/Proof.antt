@@ -11,8 +11,7 @@ use Rattle.leaf_edit.proofs.whole.split_to_fit.Tie as tie
 
 returns : tie.Need-returns
 returns c =
-    let a = c .before .before .before .before .before .before .args in
-    cuts-refused (splitToFit (a .nodesize) (now (a .sheet))) _ (now (a .cuts)) (now (a .cuts)) _
+    cuts-refused (splitToFit _ _) _ _ _ _
     (to-fit-refused _ _ _ (sheet-refused _ _ (sym (c .before .before .before .check .ensures) ∙ c .before .checked .given .1))) refl
 
 -- the list was accepted
@@ -24,9 +23,8 @@ divide-requires c κs = (sized _ _ (good (c .before .before .before)), sym (c .b
 
 returns-3 : tie.Need-returns-3
 returns-3 c =
-    let a = c .before .before .before .before .before .before .before .before .args in
-    cuts-refused (splitToFit (a .nodesize) (now (a .sheet))) _ (now (a .cuts)) (now (a .cuts)) _
-    (to-fit-node (a .nodesize) (now (a .sheet)) (good (c .before .before) .reads) (sym (c .before .nodesize-fits .ensures) ∙ c .if1 .left)) refl
+    cuts-refused (splitToFit _ _) _ _ _ _
+    (to-fit-node _ _ (good (c .before .before) .reads) (sym (c .before .nodesize-fits .ensures) ∙ c .if1 .left)) refl
 
 pub split-to-fit-spec : {M : Type 1} → statement M
 split-to-fit-spec =

@@ -32,8 +32,7 @@ returns c =
     let count = feed .before .before .before .before in
     let put = count .before .before .before .before in
     let many = put .before .before in
-    let kind = many .before .before .before in
-    put-line _ _ _ (many .field-count .ensures) (kind .put-digits .ensures .0) (put .put-fields .ensures .0) (count .put-count .ensures .0) (feed .put-byte .ensures)
+    put-line _ _ _ (many .field-count .ensures) (many .before .before .before .put-digits .ensures .0) (put .put-fields .ensures .0) (count .put-count .ensures .0) (feed .put-byte .ensures)
 
 pub put-ref-spec : {M : Type 1} → statement M
 put-ref-spec =

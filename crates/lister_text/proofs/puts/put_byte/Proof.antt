@@ -3,13 +3,7 @@ use Rattle.lister_text.proofs.Writes.{put-out, put-in}
 use Rattle.lister_text.proofs.puts.put_byte.Statement.{statement}
 use Rattle.lister_text.proofs.puts.put_byte.Tie as tie
 
-returns : tie.Need-returns
-returns c = put-out _ _ _ (c .if1 .taken)
-
-returns-2 : tie.Need-returns-2
-returns-2 c = put-in _ _ _
-
 pub put-byte-spec : {M : Type 1} → statement M
 put-byte-spec =
     tie.close
-    (tie.spec (λ c. search needs) returns (λ c. search needs) (λ c. search needs) (λ c. search needs) returns-2)
+    (tie.spec (λ c. search needs) (λ c. put-out _ _ _ (c .if1 .taken)) (λ c. search needs) (λ c. search needs) (λ c. search needs) (λ c. put-in _ _ _))
