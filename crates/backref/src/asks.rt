@@ -14,12 +14,7 @@ pub fn holds_inline_data_ref(item_type: u8, body: &[u8], name: DataRef) -> Judge
     match inline_refs::scan_body(item_type, body, RefName::Data(name), 0) {
         Scan::Fault(refusal) => Judged::Refused(refusal),
         Scan::Read(seen) => {
-            let Found::At {
-                at: _,
-                next: _,
-                weight: _,
-            } = inline_refs::hit_of(seen)
-            else {
+            let Found::At { .. } = inline_refs::hit_of(seen) else {
                 return Judged::Says(false);
             };
             Judged::Says(true)

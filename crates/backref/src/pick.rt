@@ -37,8 +37,7 @@ fn pick<'a>(
                 kind,
                 start: payload,
                 size,
-                count: _,
-                next: _,
+                ..
             } => {
                 if left == 0 {
                     return Picked::Ref(InlineRef {

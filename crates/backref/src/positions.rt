@@ -33,13 +33,7 @@ fn put_positions<'a>(
         let stepped = inline_refs::step_from(rows, body, at);
         let step = stepped.step;
         match step {
-            RefStep::Ref {
-                kind: _,
-                start: _,
-                size: _,
-                count: _,
-                next: _,
-            } => {
+            RefStep::Ref { .. } => {
                 positions[i] = at as u16;
                 i += 1;
                 at = stepped.at;

@@ -35,7 +35,7 @@ use Rattle.balance.specs.declared.record.Weighed.{Weighed}
 use Rattle.balance.specs.declared.record.Weighed.the-variants.{Of, Bad as Unfit}
 use Rattle.balance.specs.Spans.{weighing, weighedOf, Light}
 use Rattle.balance.specs.declared.group.Group.{Group}
-use Rattle.balance.specs.Groups.{itemOf, tallyOf, afterRecord, Taking}
+use Rattle.balance.specs.Groups.{itemOf, tallyOf, openedGroup, Taking}
 use Rattle.balance.proofs.Fairness.{taken-fair, taken-unfair}
 
 -- ---- a weight comes from references that read
@@ -158,7 +158,7 @@ module _ (s : List ℕ) (g : Group) (at next : ℕ) (key : Key) (rec : T (isReco
         ∙ and-false (not (tallyOf s g .marked)))
 
     module _ (order : at + 21 ≤ next) (within : next ≤ length s) (total weight : ℕ) where
-      pub mark-good : (h : Group) → h ≡ afterRecord (g .extent) (at + 21) next from total weight → g .marked ≡ false → Of weight ≡ weighedOf (readFrom inner from) → Light (length inner) (Of weight) → total ≡ le (part 0 8 inner)
+      pub mark-good : (h : Group) → h ≡ openedGroup true (g .extent) (at + 21) next from total weight → g .marked ≡ false → Of weight ≡ weighedOf (readFrom inner from) → Light (length inner) (Of weight) → total ≡ le (part 0 8 inner)
           → Taking s g (itemOf s at next key) next h
       unfolding tallyOf totalOf refsRead
       mark-good made is m w l q =
@@ -168,7 +168,7 @@ module _ (s : List ℕ) (g : Group) (at next : ℕ) (key : Key) (rec : T (isReco
           let f : refsFrom inner from ≡ h .refs = ap refsRead r in
           let n : length inner ≡ next - (at + 21) = length-part (next - (at + 21)) (at + 21) s (omega arith) in
           let y = taken-by (tallyOf s g) (itemOf s at next key) rec (bodyFrom (key .kind) inner (h .refs)) (read-refs (h .refs) r) m (h .passes) in
-          taken-fair s g (itemOf s at next key) next (afterRecord (g .extent) (at + 21) next from total weight)
+          taken-fair s g (itemOf s at next key) next (openedGroup true (g .extent) (at + 21) next from total weight)
           (y ∙ (λ i. some (record { extent = g .extent; marked = true; refs = sym f i; total = sym q i; weight = sym (h .sums) i })))
           (record {
             fair = refl;

@@ -64,8 +64,8 @@ pub record GroupKept (s : List ℕ) (g : Group) (at : ℕ) : Type 0 where
   pub light : g .weight ≤ 4294967296 * at
 
 -- an extent of which no reference was looked for: whether its record was read, with what
-abbrev pub opened : Bool → ℕ → ℕ → ℕ → ℕ → ℕ → ℕ → Group
-opened marked extent from to start total weight =
+abbrev pub openedGroup : Bool → ℕ → ℕ → ℕ → ℕ → ℕ → ℕ → Group
+openedGroup marked extent from to start total weight =
     record {
       extent = extent;
       fair = true;
@@ -78,13 +78,9 @@ opened marked extent from to start total weight =
       span = record { kind = 0; from = 0; n = 0; near = 0 };
     }
 
--- an extent whose record was read
-abbrev pub afterRecord : ℕ → ℕ → ℕ → ℕ → ℕ → ℕ → Group
-afterRecord extent from to start total weight = opened true extent from to start total weight
-
 -- an extent of which no item was read
 abbrev pub empty : ℕ → Group
-empty extent = opened false extent 0 0 0 0 0
+empty extent = openedGroup false extent 0 0 0 0 0
 
 -- an item of the extent at hand, up to `next`: what is kept after it, or that it may not stand there
 pub record Taking (s : List ℕ) (g : Group) (i : Item) (next : ℕ) (h : Group) : Type 0 where

@@ -2,6 +2,7 @@
 use crate::Span;
 ghost use mathlib.Core.Path.{_≡_};
 ghost use mathlib.Core.Bool.{false};
+ghost use Rattle.balance.specs.Groups.{openedGroup};
 
 // Whether the items so far are balanced: if not, the rest says nothing. Whether the extent's record stood, where in the sheet the
 // record's data and in it the references stand, the record's total, the weight of all references so far, and the references of
@@ -18,19 +19,27 @@ pub struct Group {
     pub span: Span,
 }
 
-// The sheet is not balanced.
-pub fn unfair() -> Group
-    ensures { λ r. ⌜ r .fair ≡ false ⌝ }
+// What is kept of an extent before its reference items are read: its record, or that none stood yet.
+pub fn opened(
+    marked: bool,
+    extent: u64,
+    from: usize,
+    to: usize,
+    start: usize,
+    total: u64,
+    weight: u64,
+) -> Group
+    ensures { λ r. ⌜ r ≡ openedGroup marked extent from to start total weight ⌝ }
 {
     Group {
-        extent: 0,
-        fair: false,
-        marked: false,
-        from: 0,
-        to: 0,
-        start: 0,
-        total: 0,
-        weight: 0,
+        extent,
+        fair: true,
+        marked,
+        from,
+        to,
+        start,
+        total,
+        weight,
         span: Span {
             kind: 0,
             from: 0,
@@ -38,4 +47,13 @@ pub fn unfair() -> Group
             near: 0,
         },
     }
+}
+
+// The sheet is not balanced.
+pub fn unfair() -> Group
+    ensures { λ r. ⌜ r .fair ≡ false ⌝ }
+{
+    let mut none = opened(false, 0, 0, 0, 0, 0, 0);
+    none.fair = false;
+    none
 }

@@ -1,5 +1,4 @@
 // The record of an extent.
-use crate::Span;
 use crate::Weighed;
 use crate::group;
 use crate::group::Group;
@@ -13,29 +12,7 @@ ghost use lib.ListN.{length};
 ghost use Rattle.format.specs.Constants.{itemHead};
 ghost use Rattle.format.specs.References.{kinds};
 ghost use Rattle.format.specs.Apply.{isRecord};
-ghost use Rattle.balance.specs.Groups.{itemOf, afterRecord, Taking};
-
-// An extent whose record was read.
-fn marked(extent: u64, from: usize, to: usize, start: usize, total: u64, weight: u64) -> Group
-    ensures { λ r. ⌜ r ≡ afterRecord extent from to start total weight ⌝ }
-{
-    Group {
-        extent,
-        fair: true,
-        marked: true,
-        from,
-        to,
-        start,
-        total,
-        weight,
-        span: Span {
-            kind: 0,
-            from: 0,
-            n: 0,
-            near: 0,
-        },
-    }
-}
+ghost use Rattle.balance.specs.Groups.{itemOf, Taking};
 
 pub fn take_record(
     rows: &[[u8; 3]; 5],
@@ -59,7 +36,7 @@ pub fn take_record(
         Start::From(start) => match crate::weigh_refs(rows, body, start) {
             Weighed::Of(weight) => {
                 let total = fields::get_u64_le(body, 0);
-                marked(g.extent, from, next, start, total, weight)
+                group::opened(true, g.extent, from, next, start, total, weight)
             }
             Weighed::Bad => group::unfair(),
         },

@@ -181,9 +181,9 @@ pub fn weigh_refs(rows: &[[u8; 3]; 5], body: &[u8], start: usize) -> Weighed
             RefStep::Ref {
                 kind,
                 start: payload,
-                size: _,
                 count,
                 next,
+                ..
             } => {
                 let after = next.at;
                 match admit(body, run, at, kind, payload, count) {

@@ -30,10 +30,8 @@ fn skip(rows: &[[u8; 3]; 5], body: &[u8], start: usize, kind: u8) -> usize
         match cursor.step(rows, body) {
             RefStep::Ref {
                 kind: here,
-                start: _,
-                size: _,
-                count: _,
                 next,
+                ..
             } => {
                 if kind <= here {
                     return at;
@@ -59,10 +57,8 @@ fn count(rows: &[[u8; 3]; 5], body: &[u8], from: usize, kind: u8) -> usize
         match cursor.step(rows, body) {
             RefStep::Ref {
                 kind: here,
-                start: _,
-                size: _,
-                count: _,
                 next,
+                ..
             } => {
                 if here != kind {
                     return n;
@@ -113,7 +109,7 @@ pub fn stride(rows: &[[u8; 3]; 5], kind: u8) -> usize
     ensures { λ r. ⌜ r ≡ 1 + payloadLength kind ⌝ }
 {
     match inline_refs::row_of(rows, kind) {
-        Row::Known { size, count: _ } => 1 + size,
+        Row::Known { size, .. } => 1 + size,
         Row::Unknown => 1,
     }
 }

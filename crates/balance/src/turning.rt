@@ -1,5 +1,4 @@
 // One more item of the sheet.
-use crate::Span;
 use crate::group;
 use crate::group::Group;
 use crate::marking;
@@ -26,22 +25,7 @@ ghost use Rattle.balance.specs.Groups.{itemOf, empty, GroupKept, Taking,
 pub fn begin(extent: u64) -> Group
     ensures { λ r. ⌜ r ≡ empty extent ⌝ }
 {
-    Group {
-        extent,
-        fair: true,
-        marked: false,
-        from: 0,
-        to: 0,
-        start: 0,
-        total: 0,
-        weight: 0,
-        span: Span {
-            kind: 0,
-            from: 0,
-            n: 0,
-            near: 0,
-        },
-    }
+    group::opened(false, extent, 0, 0, 0, 0, 0)
 }
 
 // Whether an item with this key is a record.

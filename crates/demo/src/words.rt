@@ -68,8 +68,8 @@ fn inline_refs_from(body: &[u8], start: usize) {
                 kind,
                 start: payload,
                 size,
-                count: _,
                 next,
+                ..
             } => {
                 inline_ref(body, kind, payload, size);
                 at = next.at;

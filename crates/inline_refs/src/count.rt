@@ -27,13 +27,7 @@ pub fn count_refs<'a>(table: &'a [[u8; 3]; 5], body: &'a [u8], start: usize) -> 
         let stepped = crate::reader::step_from(table, body, at);
         let step = stepped.step;
         match step {
-            RefStep::Ref {
-                kind: _,
-                start: _,
-                size: _,
-                count: _,
-                next: _,
-            } => {
+            RefStep::Ref { .. } => {
                 at = stepped.at;
                 n += 1;
             }

@@ -15,13 +15,13 @@ pub fn hit_of(seen: Seen) -> Found
     match seen {
         Seen::Hit { at, next, weight } => Found::At { at, next, weight },
         Seen::Late {
-            gap: _,
             at,
             next,
             weight,
+            ..
         } => Found::At { at, next, weight },
-        Seen::Open { others: _ } => Found::Nothing,
-        Seen::Gap { at: _, others: _ } => Found::Nothing,
+        Seen::Open { .. } => Found::Nothing,
+        Seen::Gap { .. } => Found::Nothing,
     }
 }
 
@@ -38,13 +38,13 @@ pub fn add_anywhere(seen: Seen, end: usize) -> AddAt
     match seen {
         Seen::Hit { at, next, weight } => AddAt::Standing { at, next, weight },
         Seen::Late {
-            gap: _,
             at,
             next,
             weight,
+            ..
         } => AddAt::Standing { at, next, weight },
-        Seen::Open { others: _ } => AddAt::Gap(end),
-        Seen::Gap { at, others: _ } => AddAt::Gap(at),
+        Seen::Open { .. } => AddAt::Gap(end),
+        Seen::Gap { at, .. } => AddAt::Gap(at),
     }
 }
 
@@ -54,14 +54,9 @@ pub fn add_by_scan(seen: Seen, end: usize) -> AddAt
 {
     match seen {
         Seen::Hit { at, next, weight } => AddAt::Standing { at, next, weight },
-        Seen::Late {
-            gap,
-            at: _,
-            next: _,
-            weight: _,
-        } => AddAt::Gap(gap),
-        Seen::Open { others: _ } => AddAt::Gap(end),
-        Seen::Gap { at, others: _ } => AddAt::Gap(at),
+        Seen::Late { gap, .. } => AddAt::Gap(gap),
+        Seen::Open { .. } => AddAt::Gap(end),
+        Seen::Gap { at, .. } => AddAt::Gap(at),
     }
 }
 
@@ -70,18 +65,9 @@ pub fn any_others(seen: Seen) -> bool
     ensures { λ r. ⌜ r ≡ othersIn seen ⌝ }
 {
     match seen {
-        Seen::Hit {
-            at: _,
-            next: _,
-            weight: _,
-        } => true,
-        Seen::Late {
-            gap: _,
-            at: _,
-            next: _,
-            weight: _,
-        } => true,
+        Seen::Hit { .. } => true,
+        Seen::Late { .. } => true,
         Seen::Open { others } => others,
-        Seen::Gap { at: _, others } => others,
+        Seen::Gap { others, .. } => others,
     }
 }

@@ -29,13 +29,7 @@ fn step_at<'a>(table: &'a [[u8; 3]; 5], body: &'a [u8], at: usize) -> Stepped
     let cursor = Cursor { at };
     let step = cursor.step(table, body);
     match step {
-        RefStep::Ref {
-            kind: _,
-            start: _,
-            size: _,
-            count: _,
-            next,
-        } => {
+        RefStep::Ref { next, .. } => {
             let after = next.at;
             Stepped { step, at: after }
         }

@@ -79,13 +79,7 @@ fn rest_of(rows: &[[u8; 3]; 5], body: &[u8], start: usize) -> Rest
     loop {
         let cursor = Cursor { at };
         match cursor.step(rows, body) {
-            RefStep::Ref {
-                kind: _,
-                start: _,
-                size: _,
-                count: _,
-                next,
-            } => at = next.at,
+            RefStep::Ref { next, .. } => at = next.at,
             RefStep::End => return Rest::Clean,
             RefStep::Refused(refusal) => return Rest::Fault(refusal),
         }
@@ -146,9 +140,9 @@ fn scan_gap(
             RefStep::Ref {
                 kind,
                 start: payload,
-                size: _,
                 count,
                 next,
+                ..
             } => {
                 if crate::ref_name::names(wanted, body, kind, payload) {
                     let weight = weight_at(body, kind, payload, count);
@@ -184,9 +178,9 @@ fn scan_from(
             RefStep::Ref {
                 kind,
                 start: payload,
-                size: _,
                 count,
                 next,
+                ..
             } => {
                 if crate::ref_name::names(wanted, body, kind, payload) {
                     let weight = weight_at(body, kind, payload, count);
@@ -236,9 +230,9 @@ fn scan_first(
         RefStep::Ref {
             kind,
             start: payload,
-            size: _,
             count,
             next,
+            ..
         } => {
             if !crate::ref_name::names(wanted, body, kind, payload) {
                 return scan_ranked(rows, body, start, wanted, known);

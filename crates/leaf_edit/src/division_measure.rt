@@ -47,7 +47,7 @@ fn choose(best: Cutting, leaves: usize) -> Division
     ensures { λ r. ⌜ r ≡ chosen best leaves ⌝ }
 {
     match best {
-        Cutting::Before { at, gap: _ } => return Division::TwoWay(at),
+        Cutting::Before { at, .. } => return Division::TwoWay(at),
         Cutting::Nowhere => return Division::Leaves(leaves),
     }
 }

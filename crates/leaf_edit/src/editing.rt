@@ -22,12 +22,12 @@ pub fn delete(sheet: &[u8], key: Key, out: &mut [u8]) -> Edited
     let listing = item_list::find(sheet, ItemQuery::AtOrPast(key));
     match listing {
         Listing::Refused(refusal) => return Edited::Refused(refusal),
-        Listing::Missing { count: _ } => return Edited::Refused(5),
+        Listing::Missing { .. } => return Edited::Refused(5),
         Listing::Found {
             count,
-            index: _,
             start,
             end,
+            ..
         } => {
             if item_list::is_past(sheet, start, key) {
                 return Edited::Refused(5);
@@ -53,12 +53,7 @@ fn insert_at(sheet: &[u8], key: Key, three: bool) -> InsertAt
             }
             return InsertAt::Refused(3);
         }
-        Listing::Found {
-            count,
-            index: _,
-            start,
-            end: _,
-        } => {
+        Listing::Found { count, start, .. } => {
             if three {
                 if item_list::is_past(sheet, start, key) {
                     return InsertAt::Free { at: start, count };

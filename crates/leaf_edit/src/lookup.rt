@@ -35,16 +35,11 @@ pub fn item<'a>(sheet: &'a [u8], index: usize, refused: &mut u32) -> &'a [u8]
             *refused = refusal;
             return no_part(sheet);
         }
-        Listing::Missing { count: _ } => {
+        Listing::Missing { .. } => {
             *refused = 5;
             return no_part(sheet);
         }
-        Listing::Found {
-            count: _,
-            index: _,
-            start,
-            end,
-        } => {
+        Listing::Found { start, end, .. } => {
             *refused = 0;
             return part_of(sheet, start + ITEM_HEAD, end);
         }
@@ -60,12 +55,11 @@ pub fn item_range(sheet: &[u8], index: usize, start: &mut u64, size: &mut u64) -
     let listing = item_list::find(sheet, ItemQuery::Index(index));
     match listing {
         Listing::Refused(refusal) => return refusal,
-        Listing::Missing { count: _ } => return 5,
+        Listing::Missing { .. } => return 5,
         Listing::Found {
-            count: _,
-            index: _,
             start: from,
             end,
+            ..
         } => {
             *start = (from + ITEM_HEAD) as u64;
             *size = (end - (from + ITEM_HEAD)) as u64;

@@ -45,7 +45,7 @@ pub fn has_none(sheet: &[u8], target: RecordAt, extent: u64, wanted: RefName, ra
     };
     let sought = item_list::seek(sheet, target.end, key);
     match sought {
-        Sought::Absent { at: _ } => return true,
+        Sought::Absent { .. } => return true,
         Sought::Present { start, end } => {
             return !is_own(wanted, &sheet[start + ITEM_HEAD..end]);
         }

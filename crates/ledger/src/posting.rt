@@ -22,20 +22,12 @@ fn kind_fits(change: Change) -> bool
     ensures { λ r. ⌜ r ≡ kindFits change ⌝ }
 {
     match change {
-        Change::AddShared {
-            extent: _,
-            name,
-            amount: _,
-        } => backref::shared_kind(name.kind),
-        Change::DropShared { extent: _, name } => backref::shared_kind(name.kind),
-        Change::AddBlock { extent: _, name: _ } => true,
-        Change::AddData {
-            extent: _,
-            name: _,
-            amount: _,
-        } => true,
-        Change::DropBlock { extent: _, name: _ } => true,
-        Change::DropData { extent: _, name: _ } => true,
+        Change::AddShared { name, .. } => backref::shared_kind(name.kind),
+        Change::DropShared { name, .. } => backref::shared_kind(name.kind),
+        Change::AddBlock { .. } => true,
+        Change::AddData { .. } => true,
+        Change::DropBlock { .. } => true,
+        Change::DropData { .. } => true,
     }
 }
 
@@ -53,20 +45,12 @@ fn extent_of(change: Change) -> u64
     ensures { λ r. ⌜ r ≡ nameOf change .extent ⌝ }
 {
     match change {
-        Change::AddBlock { extent, name: _ } => extent,
-        Change::AddData {
-            extent,
-            name: _,
-            amount: _,
-        } => extent,
-        Change::AddShared {
-            extent,
-            name: _,
-            amount: _,
-        } => extent,
-        Change::DropBlock { extent, name: _ } => extent,
-        Change::DropData { extent, name: _ } => extent,
-        Change::DropShared { extent, name: _ } => extent,
+        Change::AddBlock { extent, .. } => extent,
+        Change::AddData { extent, .. } => extent,
+        Change::AddShared { extent, .. } => extent,
+        Change::DropBlock { extent, .. } => extent,
+        Change::DropData { extent, .. } => extent,
+        Change::DropShared { extent, .. } => extent,
     }
 }
 
@@ -111,13 +95,13 @@ fn change_at(
             let wanted = backref::shared_name(name);
             return adds::add(sheet, target, nodesize, extent, wanted, amount, out);
         }
-        Change::DropBlock { extent: _, name } => {
+        Change::DropBlock { name, .. } => {
             return transaction::drop_ref(sheet, target, RefName::Block(name), out);
         }
-        Change::DropData { extent: _, name } => {
+        Change::DropData { name, .. } => {
             return transaction::drop_ref(sheet, target, RefName::Data(name), out);
         }
-        Change::DropShared { extent: _, name } => {
+        Change::DropShared { name, .. } => {
             let wanted = backref::shared_name(name);
             return transaction::drop_ref(sheet, target, wanted, out);
         }
@@ -145,7 +129,7 @@ pub fn post(sheet: &[u8], nodesize: u32, change: Change, out: &mut [u8]) -> Edit
     match found {
         FoundRecord::Refused(refusal) => return Edited::Refused(refusal),
         FoundRecord::Missing => return Edited::Refused(unbalanced_or(sheet, 5)),
-        FoundRecord::At { index: _, target } => {
+        FoundRecord::At { target, .. } => {
             let refusal = unbalanced_or(sheet, 0);
             if refusal == 0 {
                 return change_at(sheet, target, nodesize, change, out);

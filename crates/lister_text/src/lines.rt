@@ -102,7 +102,7 @@ pub fn put_refs<'a>(
                 start: payload,
                 size,
                 count: count_at,
-                next: _,
+                ..
             } => {
                 next = put_ref(out, next, body, kind, payload, size, count_at);
                 cursor = stepped.at;

@@ -12,7 +12,7 @@ pub fn find_record(sheet: &[u8], extent: u64, three: bool) -> FoundRecord
     let listing = item_list::find(sheet, ItemQuery::Record(extent));
     match listing {
         Listing::Refused(refusal) => return FoundRecord::Refused(refusal),
-        Listing::Missing { count: _ } => {
+        Listing::Missing { .. } => {
             if three {
                 return FoundRecord::Missing;
             }

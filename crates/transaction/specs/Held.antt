@@ -8,7 +8,7 @@ use Prim.Native.Nat.{ℕ, zero, suc, _+_, _-_, _*_, _≤_, _<_}
 use lib.Dec.{T, eqb, leb}
 use lib.ListN.{length, drop, getD}
 use Rattle.fields.specs.Lists.{sum, all}
-use Rattle.format.specs.Questions.{Answer, refused, absent, remove, accepted}
+use Rattle.format.specs.Questions.{Answer, accepted, resultOr}
 use Rattle.format.specs.References.{Ref, refAt}
 use Rattle.format.specs.Bodies.{named, times, offsetOf}
 use Rattle.inline_refs.specs.Steps.{readFrom}
@@ -17,10 +17,7 @@ use Rattle.transaction.specs.declared.held_refs.FileRefs.{FileRefs}
 use Rattle.transaction.specs.declared.held_refs.FileRefs.the-variants.{All, NotAll}
 
 unfoldable pub allOf : (Ref → Bool) → Answer (List Ref) → Bool
-allOf p (refused refusal) = false
-allOf p absent = false
-allOf p remove = false
-allOf p (accepted refs) = all p refs
+allOf p read = resultOr false (all p) read
 
 -- a data reference of that root and inode
 unfoldable pub isOfFile : ℕ → ℕ → Ref → Bool
@@ -44,11 +41,8 @@ isCounted refs offsets offset = eqb (sum (addsAt (λ r. r .weight) offset) refs)
 
 -- what is asked of the references and the offsets, once total and flags are right
 unfoldable pub agrees : ℕ → ℕ → List ℕ → Answer (List Ref) → Bool
-agrees root ino offsets (refused refusal) = false
-agrees root ino offsets absent = false
-agrees root ino offsets remove = false
-agrees root ino offsets (accepted refs) =
-    all (isOurs root ino offsets) refs && (all (isOnce refs) refs && all (isCounted refs offsets) offsets)
+agrees root ino offsets read =
+    resultOr false (λ refs. all (isOurs root ino offsets) refs && (all (isOnce refs) refs && all (isCounted refs offsets) offsets)) read
 
 unfoldable pub heldIn : ℕ → ℕ → List ℕ → ℕ → ℕ → Answer (List Ref) → Bool
 heldIn root ino offsets total bits refs = eqb total (length offsets) && eqb bits 1 && agrees root ino offsets refs

@@ -75,7 +75,7 @@ pub fn apply_shared_add(
     match found {
         FoundRecord::Refused(refusal) => return Edited::Refused(refusal),
         FoundRecord::Missing => return Edited::Refused(5),
-        FoundRecord::At { index: _, target } => {
+        FoundRecord::At { target, .. } => {
             let start = target.start;
             let end = target.end;
             let plan = plan_shared(
@@ -137,7 +137,7 @@ pub fn apply_keyed_add(
     match found {
         FoundRecord::Refused(refusal) => return Edited::Refused(refusal),
         FoundRecord::Missing => return Edited::Refused(5),
-        FoundRecord::At { index: _, target } => {
+        FoundRecord::At { target, .. } => {
             if is_unread(keyed, count, as_item) {
                 return item_list::remove_item(sheet, 0, 0, target.item_count, out);
             }

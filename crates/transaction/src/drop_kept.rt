@@ -64,12 +64,12 @@ pub fn drop_kept_tree_ref(
     let listing = item_list::find(sheet, item_list::ItemQuery::AtOrPast(key));
     match listing {
         Listing::Refused(refusal) => return Edited::Refused(refusal),
-        Listing::Missing { count: _ } => return Edited::Refused(5),
+        Listing::Missing { .. } => return Edited::Refused(5),
         Listing::Found {
             count,
-            index: _,
             start,
             end,
+            ..
         } => {
             if item_list::is_past(sheet, start, key) {
                 return Edited::Refused(5);

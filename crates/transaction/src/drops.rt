@@ -40,7 +40,7 @@ pub fn apply_shared_drop(
     match found {
         FoundRecord::Refused(refusal) => return Edited::Refused(refusal),
         FoundRecord::Missing => return Edited::Refused(5),
-        FoundRecord::At { index: _, target } => {
+        FoundRecord::At { target, .. } => {
             let start = target.start;
             let end = target.end;
             let plan = plan_drop_shared(

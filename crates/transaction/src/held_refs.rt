@@ -44,9 +44,8 @@ pub fn file_refs(rows: &[[u8; 3]; 5], body: &[u8], start: usize, root: u64, ino:
             RefStep::Ref {
                 kind,
                 start: payload,
-                size: _,
-                count: _,
                 next,
+                ..
             } => {
                 if !is_of_file(body, kind, payload, root, ino) {
                     return FileRefs::NotAll;

@@ -13,6 +13,6 @@ pub fn record_of(sheet: &[u8], bytenr: u64) -> Told
     match found {
         FoundRecord::Refused(refusal) => return Told::Refused(refusal),
         FoundRecord::Missing => return Told::Refused(5),
-        FoundRecord::At { index, target: _ } => return Told::Value(index as u64),
+        FoundRecord::At { index, .. } => return Told::Value(index as u64),
     }
 }

@@ -33,7 +33,7 @@ returns-2 c =
     let p = s .pre .1 .0 in
     let e = sym (c .before .before .before .before .before .before .before .start .given .1) ∙ c .before .before .before .before .before .before .before .before .before .open-body .ensures in
     let w = c .before .before .before .before .before .weigh-refs .ensures in
-    mark-good (now (s .args .s)) (s .args .g) (s .args .at) (s .args .next) (s .args .key) (s .pre .1 .1) _ e (p .0) (p .1 .0) _ _ _ (c .marked .ensures) (c .before .before .before .before .before .before .before .before .before .before .before .if1 .left) (sym (c .before .before .before .weight .given .1) ∙ w .0) (light-of _ _ _ (c .before .before .before .weight .given .1) (w .1)) (c .before .get-u64-le .ensures)
+    mark-good (now (s .args .s)) (s .args .g) (s .args .at) (s .args .next) (s .args .key) (s .pre .1 .1) _ e (p .0) (p .1 .0) _ _ _ (c .opened .ensures) (c .before .before .before .before .before .before .before .before .before .before .before .if1 .left) (sym (c .before .before .before .weight .given .1) ∙ w .0) (light-of _ _ _ (c .before .before .before .weight .given .1) (w .1)) (c .before .get-u64-le .ensures)
 
 returns-3 : tie.Need-returns-3
 returns-3 c =

@@ -1,5 +1,4 @@
 use mathlib.Core.Path.{sym, _∙_}
-use denote.Ref.{now}
 use Rattle.inline_refs.proofs.Notes.{scan-opened, scan-shut}
 use borrow.Author.Needs.{needs}
 use Rattle.inline_refs.proofs.scan.scan_to_add.Statement.{statement}
@@ -8,22 +7,15 @@ use Rattle.inline_refs.proofs.scan.scan_to_add.Tie as tie
 returns : tie.Need-returns
 returns c =
     let start = c .before .before .before .before .before .before in
-    let call = start .before .before in
-    let a = call .before .before .args in
-    scan-opened (a .item-type) (now (a .body)) (a .wanted) _ _ (sym (start .start .given .1) ∙ call .open-body .ensures) (c .scan-first .ensures)
+    scan-opened _ _ _ _ _ (sym (start .start .given .1) ∙ start .before .before .open-body .ensures) (c .scan-first .ensures)
 
 returns-2 : tie.Need-returns-2
 returns-2 c =
     let start = c .before .before .before .before .before .before in
-    let call = start .before .before in
-    let a = call .before .before .args in
-    scan-opened (a .item-type) (now (a .body)) (a .wanted) _ _ (sym (start .start .given .1) ∙ call .open-body .ensures) (c .scan-ranked .ensures)
+    scan-opened _ _ _ _ _ (sym (start .start .given .1) ∙ start .before .before .open-body .ensures) (c .scan-ranked .ensures)
 
 returns-3 : tie.Need-returns-3
-returns-3 c =
-    let call = c .before .before .before in
-    let a = call .before .before .args in
-    scan-shut (a .item-type) (now (a .body)) _ _ _ (sym (c .before .refusal .given .1) ∙ call .open-body .ensures)
+returns-3 c = scan-shut _ _ _ _ _ (sym (c .before .refusal .given .1) ∙ c .before .before .before .open-body .ensures)
 
 pub scan-to-add-spec : {M : Type 1} → statement M
 scan-to-add-spec =
