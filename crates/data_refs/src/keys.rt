@@ -12,6 +12,9 @@ ghost use Rattle.format.specs.Bodies.{triple};
 ghost use Rattle.data_refs.specs.Triples.{tripleSize};
 ghost use Rattle.data_refs.specs.Keys.{productOf, seededKey, chainOf};
 
+// What a seed starts from: the fraction of pi, as a number without a pattern.
+const START: u64 = 0x243f6a8885a308d3;
+
 // A number's halves, with another number added to each, multiplied.
 fn product(x: u64, low: u64, high: u64) -> u64
     requires { ⌜ (low < 8589934592) × (high < 8589934592) ⌝ }
@@ -20,7 +23,8 @@ fn product(x: u64, low: u64, high: u64) -> u64
     ((x % 4294967296 + low) % 4294967296) * ((x / 4294967296 + high) % 4294967296)
 }
 
-// The numbers of a triple go in with the halves of the seed, each in another way.
+// The numbers of a triple go in with the halves of the seed, each in another way, so that numbers that trade places or are equal do
+// not cancel out. What is added for the offset is any two numbers without a pattern.
 fn key_of(seed: u64, t: DataRef) -> u64
     ensures { λ r. ⌜ r ≡ seededKey seed (triple t) ⌝ }
 {
@@ -70,6 +74,6 @@ pub fn seed_of(body: &[u8], from: usize, n: usize) -> u64
     if n <= FEW {
         return 0;
     }
-    let once = seed_after(2611923443488327891, body, from, n);
+    let once = seed_after(START, body, from, n);
     seed_after(once, body, from, n)
 }

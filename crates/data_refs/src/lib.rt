@@ -12,6 +12,4 @@ pub use chains::number_of;
 pub use keys::seed_of;
 pub use pairs::number_among;
 pub use triples::data_size;
-pub use triples::is_at;
 pub use triples::triple_at;
-pub use triples::triple_of;
