@@ -1,11 +1,11 @@
 -- Pieces written one after the other are the two splices, and questions 17 and 21 of them. Assumes nothing.
 use mathlib.Core.Path.{_≡_, refl, sym, ap, ap₂, _∙_, subst}
 use mathlib.Core.Bool.{Bool, true, false, _&&_}
-use mathlib.Core.List.{List, _++_, append-assoc}
+use mathlib.Core.List.{List, [], _++_, append-assoc, append-nil}
 use Prim.Native.Nat.{ℕ, _+_, _-_, _≤_, _<_}
 use native.Mathlib.Omega.{arith}
 use lib.ListN.{length, take, drop, length-append, length-drop}
-use lib.Seq.{length-take-le, take-add, take-append-le, take-take, drop-at, drop-append-le}
+use lib.Seq.{length-take-le, take-add, take-append-le, take-take, drop-at, drop-length, drop-append-le}
 use borrow.Author.Tests.{le-leb, lt-leb}
 use Rattle.fields.proofs.Lists.{and-false}
 use Rattle.fields.specs.Parts.{part, written, spliced}
@@ -91,6 +91,20 @@ module _ (b : SecondEdit) (end : ℕ) (s : List ℕ) (h : SecondIn b end s) wher
       let w₂ : o₂ ≡ written at (x ++ y) out =
       written-then x y out o₁ o₂ at r₁ n₁ h₁ (e₁ .1) (e₂ .1 ∙ ap (λ (l : List ℕ). written r₁ l o₁) (front-of (b .size) (b .new))) in
       written-then (x ++ y) z out o₂ o₃ at r₂ n₂ h₂ w₂ (e₃ ∙ ap (λ (l : List ℕ). written r₂ l o₂) (part-rest (b .to) s))
+
+  -- nothing changes behind the record
+  pub alone-writes : (out o : List ℕ) (at : ℕ) → b .size ≡ 0 → b .from ≡ length s
+      → o ≡ written at (part end (b .from - end) s) out
+      → o ≡ written at (restBytes b end s) out
+  alone-writes out o at none last e =
+      let order = h .order in
+      let high = h .high in
+      let x : List ℕ = part end (b .from - end) s in
+      let to-end : b .to ≡ length s = omega arith in
+      let y : take (b .size) (b .new) ≡ [] = ap (λ (n : ℕ). take n (b .new)) none in
+      let z : drop (b .to) s ≡ [] = ap (λ (n : ℕ). drop n s) to-end ∙ drop-length s in
+      e ∙ ap (λ (l : List ℕ). written at l out)
+      (sym (ap₂ (λ (f g : List ℕ). (x ++ f) ++ g) y z ∙ append-nil (x ++ []) ∙ append-nil x))
 
   abbrev inner : List ℕ
   inner = spliced (b .from) (b .to) (take (b .size) (b .new)) s

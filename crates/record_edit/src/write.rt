@@ -48,14 +48,19 @@ fn append_record(
     append_edit(body, plan, out, inside)
 }
 
-// All from the end of the record, with the second edit.
+// All from the end of the record, with the second edit. Where the record alone changes, what follows it is one piece.
 fn append_rest(sheet: &[u8], end: usize, second: SecondEdit, out: &mut [u8], at: usize)
     requires { ⌜ SecondIn second end (now sheet) ⌝ }
     requires { ⌜ (at + restLength second end (length (now sheet)) ≤ length (now out)) × (length (now sheet) ≤ mostSheet) ⌝ }
     ensures { λ _. ⌜ now (out .exit) ≡ written at (restBytes second end (now (sheet .entry))) (now (out .entry)) ⌝ }
 {
-    let new = second.new;
     let one = item_list::append(sheet, end, second.from, out, at);
+    if second.size == 0 {
+        if second.from == sheet.len() {
+            return;
+        }
+    }
+    let new = second.new;
     let two = item_list::append(&new, 0, second.size, out, one);
     item_list::append(sheet, second.to, sheet.len(), out, two);
 }
