@@ -135,7 +135,8 @@ fn drop_at_item(
     drop_count(sheet, target, from, to, data, out)
 }
 
-// One reference: a shared one with all its count, another with one.
+// One reference: a shared one with all its count, another with one. The plan goes on whole: to look at its outcome here would
+// copy it.
 pub fn drop_ref(sheet: &[u8], target: RecordAt, name: RefName, out: &mut [u8]) -> Edited
     requires { ⌜ StandsAt (now sheet) target ⌝ }
     requires { ⌜ SharedInForm name (listItems (now sheet)) ⌝ }
@@ -144,9 +145,9 @@ pub fn drop_ref(sheet: &[u8], target: RecordAt, name: RefName, out: &mut [u8]) -
     let start = target.start;
     let end = target.end;
     let plan = plan_inline(target.key.kind, &sheet[start + ITEM_HEAD..end], name);
-    let outcome = plan.outcome;
-    let Outcome::Absent = outcome else {
-        return record_edit::put_record(sheet, target, plan, crate::NO_LIMIT, out);
+    let edited = record_edit::put_record(sheet, target, plan, crate::NO_LIMIT, out);
+    let Edited::Absent = edited else {
+        return edited;
     };
     let item = Key {
         objectid: target.key.objectid,
