@@ -2,7 +2,7 @@
 use mathlib.Core.Path.{_≡_, refl, sym, ap, subst, _∙_}
 use mathlib.Core.Bool.{Bool, true, false}
 use mathlib.Core.List.{List, [], _++_, append-nil}
-use Prim.Native.Nat.{ℕ, _≤_, _<_}
+use Prim.Native.Nat.{ℕ, _+_, _≤_, _<_}
 use native.Mathlib.Omega.{arith}
 use lib.Bits.{bitOr}
 use lib.Dec.{T, leb}
@@ -11,7 +11,6 @@ use borrow.Author.Tests.{le-leb, lt-leb, leb-true}
 use Rattle.fields.specs.Numbers.{le, leBytes, areBytes}
 use Rattle.fields.specs.Parts.{part, written, spliced}
 use Rattle.fields.proofs.Numbers.{length-leBytes}
-use Rattle.format.specs.declared.Told.{Told}
 use Rattle.format.specs.declared.Told.the-variants.{Value, Refused as Untold}
 use Rattle.format.specs.Questions.{Answer, refused, accepted, ask, bind, toldOf}
 use Rattle.format.specs.References.{totalOf, flagsOf}
@@ -22,8 +21,8 @@ use Rattle.backref.specs.Plans.{edited, Planned}
 use Rattle.backref.specs.Reads.{headOf}
 use Rattle.backref.specs.declared.total_plans.TotalChange.{TotalChange}
 use Rattle.backref.specs.declared.total_plans.TotalChange.the-variants.{Raise, LowerByOne, Reduce}
-use Rattle.backref.specs.Totals.{changeTotal, totalBy, toldAnswer}
-use Rattle.backref.proofs.Outcomes.{plan-edit, plan-refused, plan-same}
+use Rattle.backref.specs.Totals.{changeTotal, totalBy}
+use Rattle.backref.proofs.Outcomes.{keeps-length, plan-edit, plan-refused, plan-same}
 use Rattle.backref.proofs.PlannedTotals.{rewritten, word-front}
 
 -- ---- questions 3 and 6
@@ -94,31 +93,39 @@ module _ (body : List ℕ) (n : ℕ) (q : n ≡ headOf body) (p : Plan) where
   pub head-refused : (next : Answer (List ℕ)) → (n ≡ 0 → ⊥) → p .outcome ≡ Refused n → Planned p body (onHead body next)
   head-refused next z e = plan-refused p body (onHead body next) n e (head body n q .refuses next z)
 
-  module _ (change : TotalChange) where
-    pub total-head : (n ≡ 0 → ⊥) → p .outcome ≡ Refused n → Planned p body (changeTotal body change)
-    unfolding onTotal
-    total-head z e = plan-same p body _ _ (change-is body change) (head-refused _ z e)
+  pub total-head : (change : TotalChange) → (n ≡ 0 → ⊥) → p .outcome ≡ Refused n → Planned p body (changeTotal body change)
+  unfolding onTotal
+  total-head change z e = plan-same p body _ _ (change-is body change) (head-refused _ z e)
 
-    -- behind questions 3 and 6, where the total with the change is told
-    module _ (z : n ≡ 0) (t : ℕ) (is : t ≡ le (part 0 8 body)) (told : Told) (says : toldAnswer told ≡ totalBy change t) where
-      becomes : (a : Answer ℕ) → toldAnswer told ≡ a → onTotal body (totalBy change) ≡ bind a (λ total. accepted (written 0 (leBytes 8 total) body))
-      unfolding onTotal totalOf
-      becomes a e =
-          head body n q .passes _ z
-          ∙ ap (λ (x : Answer ℕ). bind x (λ total. accepted (written 0 (leBytes 8 total) body))) (ap (totalBy change) (sym is) ∙ sym says ∙ e)
+-- behind questions 3 and 6: the plan, once it is known which change it is
+module _ (body : List ℕ) (change : TotalChange) (t : ℕ) where
+  pub record Behind : Type 0 where
+    pub refuses : (p : Plan) (that : TotalChange) (m : ℕ) → change ≡ that → totalBy that t ≡ refused m → (p .outcome ≡ Refused m) × (p .from + p .size ≡ p .to)
+        → Planned p body (changeTotal body change) × (p .from + p .size ≡ p .to)
+    pub plans : (p : Plan) (that : TotalChange) (new : ℕ) → change ≡ that → totalBy that t ≡ accepted new → p ≡ totalPlan new
+        → Planned p body (changeTotal body change) × (p .from + p .size ≡ p .to)
 
-      pub total-refused : (m : ℕ) → told ≡ Untold m → p .outcome ≡ Refused m → Planned p body (changeTotal body change)
-      unfolding bind
-      total-refused m e o = plan-same p body _ _ (change-is body change) (plan-refused p body _ m o (becomes (refused m) (ap toldAnswer e)))
+  module _ (n : ℕ) (q : n ≡ headOf body) (z : n ≡ 0) (is : t ≡ le (part 0 8 body)) where
+    becomes : (that : TotalChange) (a : Answer ℕ) → change ≡ that → totalBy that t ≡ a
+        → changeTotal body change ≡ bind a (λ total. accepted (written 0 (leBytes 8 total) body))
+    unfolding onTotal totalOf
+    becomes that a e h =
+        sym (change-is body change) ∙ head body n q .passes _ z
+        ∙ ap (λ (x : Answer ℕ). bind x (λ total. accepted (written 0 (leBytes 8 total) body)))
+        (ap (totalBy change) (sym is) ∙ ap (λ (x : TotalChange). totalBy x t) e ∙ h)
 
-      pub total-plan : (new : ℕ) → told ≡ Value new → p ≡ totalPlan new → Planned p body (changeTotal body change)
-      unfolding edited bind
-      total-plan new e o =
-          subst (λ (x : Plan). Planned x body (changeTotal body change)) (sym o)
-          (plan-same (totalPlan new) body _ _ (change-is body change)
-          (plan-edit (totalPlan new) body _ (written 0 (leBytes 8 new) body) refl
-          (record { low = omega arith; order = omega arith; high = omega (arith, head body n q .long z); fits = head body n q .fits z; small = omega arith; full = refl })
-          (becomes (accepted new) (ap toldAnswer e)) (total-only new body)))
+    pub behind : Behind
+    unfolding edited bind
+    behind = record {
+      refuses = λ p that m e h o. (plan-refused p body _ m (o .0) (becomes that (refused m) e h), o .1);
+      plans = λ p that new e h o. (
+        subst (λ (x : Plan). Planned x body (changeTotal body change)) (sym o)
+            (plan-edit (totalPlan new) body _ (written 0 (leBytes 8 new) body) refl
+            (record { low = omega arith; order = omega arith; high = omega (arith, head body n q .long z); fits = head body n q .fits z; small = omega arith; full = refl })
+            (becomes that (accepted new) e h) (total-only new body)),
+        keeps-length o refl,
+      );
+    }
 
 -- ---- flags
 

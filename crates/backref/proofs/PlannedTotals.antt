@@ -11,10 +11,8 @@ use Rattle.fields.specs.Numbers.{le, leBytes, areBytes}
 use Rattle.fields.specs.Parts.{part, written, spliced}
 use Rattle.fields.proofs.Numbers.{areBytes-take, leBytes-le-at, length-leBytes}
 use Rattle.fields.proofs.Parts.{length-written, written-front, spliced-written}
-use Rattle.format.specs.Questions.{Answer, refused, accepted, ask}
+use Rattle.format.specs.Questions.{refused, accepted, ask}
 use Rattle.format.specs.Bodies.{raisedBy, loweredByOne, reducedBy}
-use Rattle.backref.specs.declared.total_plans.TotalChange.{TotalChange}
-use Rattle.backref.specs.Totals.{totalBy}
 
 -- ---- a total that is moved
 
@@ -46,10 +44,6 @@ lowered-yes t h = simp (le-leb _ _ h)
 pub lowered-no : (t : ℕ) → t < 2 → loweredByOne t ≡ refused 13
 unfolding loweredByOne ask
 lowered-no t h = simp (lt-leb _ _ h)
-
--- what is told of a change that is that one
-pub by-change : (t : ℕ) {x y : TotalChange} {a : Answer ℕ} → x ≡ y → totalBy y t ≡ a → a ≡ totalBy x t
-by-change t e h = sym (ap (λ (z : TotalChange). totalBy z t) e ∙ h)
 
 -- ---- a body whose first eight bytes stay
 

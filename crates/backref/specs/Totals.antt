@@ -1,9 +1,7 @@
 -- The changes of a total, by cases. Assumes nothing.
 use mathlib.Core.List.{List}
 use Prim.Native.Nat.{ℕ}
-use Rattle.format.specs.declared.Told.{Told}
-use Rattle.format.specs.declared.Told.the-variants.{Value, Refused}
-use Rattle.format.specs.Questions.{Answer, refused, accepted}
+use Rattle.format.specs.Questions.{Answer}
 use Rattle.format.specs.Bodies.{raisedBy, loweredByOne, reducedBy, raiseTotal, lowerTotal, reduceTotal}
 use Rattle.backref.specs.declared.total_plans.TotalChange.{TotalChange}
 use Rattle.backref.specs.declared.total_plans.TotalChange.the-variants.{Raise, LowerByOne, Reduce}
@@ -19,8 +17,3 @@ abbrev pub totalBy : TotalChange → ℕ → Answer ℕ
 totalBy (Raise amount) total = raisedBy amount total
 totalBy LowerByOne total = loweredByOne total
 totalBy (Reduce amount) total = reducedBy amount total
-
--- what a number or a refusal says
-abbrev pub toldAnswer : Told → Answer ℕ
-toldAnswer (Value number) = accepted number
-toldAnswer (Refused refusal) = refused refusal

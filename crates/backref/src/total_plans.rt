@@ -3,7 +3,6 @@ use crate::Outcome;
 use crate::Plan;
 use format::BODY_HEAD;
 use format::MOST_DATA;
-use format::Told;
 ghost use mathlib.Core.Path.{_≡_};
 ghost use Prim.Native.Nat.{_+_};
 ghost use lib.ListN.{replicate};
@@ -12,7 +11,7 @@ ghost use Rattle.fields.specs.Parts.{written};
 ghost use Rattle.format.specs.Bodies.{withFlags};
 ghost use Rattle.backref.specs.Plans.{Planned};
 ghost use Rattle.backref.specs.Reads.{headOf};
-ghost use Rattle.backref.specs.Totals.{toldAnswer, totalBy, changeTotal};
+ghost use Rattle.backref.specs.Totals.{changeTotal};
 
 // What becomes of a total.
 pub enum TotalChange {
@@ -41,32 +40,7 @@ fn set_total(total: u64) -> Plan
     crate::edit(8, 8, [0; 32], 0, total, 0)
 }
 
-// The total with a change, or the question that is answered "no". Totals are compared first, so that none wraps.
-fn changed_total(change: TotalChange, total: u64) -> Told
-    ensures { λ r. ⌜ toldAnswer r ≡ totalBy change total ⌝ }
-{
-    match change {
-        TotalChange::Raise(amount) => {
-            if 18446744073709551615 - amount < total {
-                return Told::Refused(12);
-            }
-            Told::Value(total + amount)
-        }
-        TotalChange::LowerByOne => {
-            if total < 2 {
-                return Told::Refused(13);
-            }
-            Told::Value(total - 1)
-        }
-        TotalChange::Reduce(amount) => {
-            if total < amount {
-                return Told::Refused(14);
-            }
-            Told::Value(total - amount)
-        }
-    }
-}
-
+// Totals are compared first, so that none wraps.
 pub fn plan_total(body: &[u8], change: TotalChange) -> Plan
     ensures { λ r. ⌜ Planned r (now (body .entry)) (changeTotal (now (body .entry)) change) ⌝ }
     ensures { λ r. ⌜ r .from + r .size ≡ r .to ⌝ }
@@ -75,9 +49,26 @@ pub fn plan_total(body: &[u8], change: TotalChange) -> Plan
     if fault != 0 {
         return crate::refuse(fault);
     }
-    match changed_total(change, fields::get_u64_le(body, 0)) {
-        Told::Refused(refusal) => crate::refuse(refusal),
-        Told::Value(total) => set_total(total),
+    let total = fields::get_u64_le(body, 0);
+    match change {
+        TotalChange::Raise(amount) => {
+            if 18446744073709551615 - amount < total {
+                return crate::refuse(12);
+            }
+            set_total(total + amount)
+        }
+        TotalChange::LowerByOne => {
+            if total < 2 {
+                return crate::refuse(13);
+            }
+            set_total(total - 1)
+        }
+        TotalChange::Reduce(amount) => {
+            if total < amount {
+                return crate::refuse(14);
+            }
+            set_total(total - amount)
+        }
     }
 }
 
