@@ -5,7 +5,6 @@ use crate::say;
 use crate::shifts;
 use format::Edited;
 use format::Judged;
-use item_list::ItemStep;
 
 // Small, so that a leaf is soon full: the interpreter of `rt try` allows ten million steps.
 pub const NODESIZE: u32 = 4096;
@@ -51,18 +50,19 @@ fn maps_from(list: &[u8], first: u32) -> u32 {
     let mut at: usize = 1;
     let mut shift = first;
     while shift < 1000 {
-        match item_list::step_at(list, at) {
-            ItemStep::Whole { next } => {
-                let key = item_list::key_at(list, at);
-                if key.objectid != shifts::map(shift) {
-                    return 0;
-                }
-                at = next;
-                shift += 1;
-            }
-            ItemStep::Broken => return 0,
-            ItemStep::End => return shift,
+        if list.len() <= at {
+            return shift;
         }
+        let size = item_list::size_at(list, at);
+        if size == 0 {
+            return 0;
+        }
+        let key = item_list::key_at(list, at);
+        if key.objectid != shifts::map(shift) {
+            return 0;
+        }
+        at += size;
+        shift += 1;
     }
     0
 }

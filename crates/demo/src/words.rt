@@ -5,7 +5,6 @@ use format::Key;
 use inline_refs::Cursor;
 use inline_refs::RefStep;
 use inline_refs::Start;
-use item_list::ItemStep;
 ghost use Prim.Native.Nat.{_+_, _≤_};
 ghost use lib.ListN.{length};
 
@@ -123,14 +122,12 @@ fn item(list: &[u8], at: usize, next: usize)
 
 pub fn print(list: &[u8]) {
     let mut at: usize = 1;
-    loop {
-        match item_list::step_at(list, at) {
-            ItemStep::Whole { next } => {
-                item(list, at, next);
-                at = next;
-            }
-            ItemStep::Broken => return,
-            ItemStep::End => return,
+    while at < list.len() {
+        let size = item_list::size_at(list, at);
+        if size == 0 {
+            return;
         }
+        item(list, at, at + size);
+        at += size;
     }
 }

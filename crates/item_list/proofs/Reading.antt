@@ -2,13 +2,14 @@
 use mathlib.Core.Path.{_≡_, refl, sym, ap, _∙_, subst}
 use mathlib.Core.Bool.{Bool, true, false, _&&_, cond}
 use mathlib.Core.List.{List, [], _∷_}
+use mathlib.Core.Logic.{_⊎_, inl, inr}
 use Prim.Native.Nat.{ℕ, zero, suc, _+_, _-_, _≤_, _<_}
 use native.Mathlib.Numerals.{add-one}
 use native.Mathlib.Omega.{arith}
 use lib.Dec.{T, leb, eqb}
 use lib.ListN.{length, drop, getD}
 use borrow.Author.Tests.{le-leb, lt-leb}
-use Rattle.fields.proofs.Lists.{T-eq, and-true, and-false}
+use Rattle.fields.proofs.Lists.{T-eq, and-true, and-false, lt-or}
 use Rattle.fields.specs.Lists.{all}
 use Rattle.fields.specs.Numbers.{areBytes}
 use Rattle.format.specs.declared.Key.{Key}
@@ -16,8 +17,8 @@ use Rattle.format.specs.Questions.{Answer, refused, absent, remove, accepted, a
 use Rattle.format.specs.Apply.{isRecord}
 use Rattle.format.specs.Items.{Item, keyBelow, above, rising, readItems, readSheet, sheetBytes, nodesizeFits}
 use Rattle.format.proofs.Answers.{ask-ok}
-use Rattle.format.proofs.Items.{ReadsSheet, sheet, broken, unsorted, readSheet-decides, sane, sheet-sane, sheetBytes-read}
-use Rattle.item_list.specs.declared.ItemStep.the-variants.{Whole, Broken, End}
+use Rattle.format.proofs.Items.{readItems-decides, readItems-count, ReadsSheet, sheet, broken, unsorted, readSheet-decides, sane, sheet-sane, sheetBytes-read}
+use Rattle.item_list.specs.declared.Checked.{Checked}
 use Rattle.item_list.specs.declared.Checked.the-variants.{Count, Refused as NoList}
 use Rattle.item_list.specs.declared.ItemPosition.{ItemPosition}
 use Rattle.item_list.specs.declared.ItemPosition.the-variants.{At, Missing}
@@ -25,104 +26,188 @@ use Rattle.item_list.specs.declared.ItemQuery.{ItemQuery}
 use Rattle.item_list.specs.declared.ItemQuery.the-variants.{Index, Record, AtOrPast}
 use Rattle.item_list.specs.declared.Listing.{Listing}
 use Rattle.item_list.specs.declared.Listing.the-variants.{Refused, Found, Missing as Without}
-use Rattle.item_list.specs.Steps.{itemAt, itemStepAt, opensList, following, checkedOf, itemsIn, listItems, IsList}
-use Rattle.item_list.specs.Seeks.{itemSizeOf, positionIn, passing, listedAt, listingOf, itemCountOf, orElse, verdictOf}
-use Rattle.item_list.proofs.Steps.{whole-at, items-end, items-broken, items-over, items-item}
+use Rattle.item_list.specs.Steps.{itemAt, itemSizeAt, opensList, following, checkedOf, itemsIn, listItems, IsList}
+use Rattle.item_list.specs.Seeks.{itemSizeOf, positionIn, passing, listedAt, listingOf, risingBehind, verdictOf, checkedBehind, listedWith}
+use Rattle.item_list.proofs.Steps.{whole-size, items-end, items-broken, items-over, items-item}
 use Rattle.item_list.proofs.Walks.{ends}
 
 -- ---- the pass
 
--- the items that are left rise after n items, the last of which had the key
-abbrev after : ℕ → Key → List Item → Bool
-after zero key items = rising items
-after (suc n) key items = above (record { key = key; bytes = [] }) items && rising items
-
--- the answer where n items were read, in order or not, with this position among them, and the rest reads as given from `at` on
-unfoldable pub run : (ℕ → Item → Bool) → ItemPosition → ℕ → ℕ → Bool → Key → Answer (List Item) → Listing
-run test position at n ordered key (refused refusal) = Refused refusal
-run test position at n ordered key absent = Refused 100
-run test position at n ordered key remove = Refused 101
-run test position at n ordered key (accepted items) =
-    verdictOf (ordered && after n key items) (n + length items) (orElse position (positionIn test n at items))
-
-after-nil : (n : ℕ) (key : Key) → after n key [] ≡ true
-after-nil zero key = refl
-after-nil (suc n) key = refl
+behind-nil : (n : ℕ) (key : Key) → risingBehind n key [] ≡ true
+behind-nil zero key = refl
+behind-nil (suc n) key = refl
 
 above-key : (i : Item) (items : List Item) → above i items ≡ above (record { key = i .key; bytes = [] }) items
 above-key i [] = refl
 above-key i (j ∷ items) = refl
 
-after-cons : (n : ℕ) (key : Key) (i : Item) (items : List Item) → after n key (i ∷ items) ≡ (following n key (i .key) && after (suc n) (i .key) items)
+behind-cons : (n : ℕ) (key : Key) (i : Item) (items : List Item)
+    → risingBehind n key (i ∷ items) ≡ (following n key (i .key) && risingBehind (suc n) (i .key) items)
 unfolding following
-after-cons zero key i items = ap (λ (b : Bool). b && rising items) (above-key i items)
-after-cons (suc n) key i items = ap (λ (b : Bool). keyBelow key (i .key) && (b && rising items)) (above-key i items)
+behind-cons zero key i items = ap (λ (b : Bool). b && rising items) (above-key i items)
+behind-cons (suc n) key i items = ap (λ (b : Bool). keyBelow key (i .key) && (b && rising items)) (above-key i items)
 
 and-assoc : (a b c : Bool) → (a && (b && c)) ≡ ((a && b) && c)
 and-assoc true b c = refl
 and-assoc false b c = refl
 
-position-nil : (position : ItemPosition) → orElse position Missing ≡ position
-unfolding orElse
-position-nil Missing = refl
-position-nil (At index start end) = refl
+-- ---- the items from a position on, behind n others
 
-position-cons : (position other : ItemPosition) (b : Bool) (n at next : ℕ)
-    → orElse position (cond b (At n at next) other) ≡ orElse (orElse position (cond b (At n at next) Missing)) other
-unfolding orElse
-position-cons Missing other true n at next = refl
-position-cons Missing other false n at next = refl
-position-cons (At index start end) other b n at next = refl
+module _ (n : ℕ) (o : Bool) (key : Key) where
+  checked-many : (items : List Item) → 4096 < n → checkedBehind n o key (accepted items) ≡ NoList 1
+  unfolding checkedBehind verdictOf
+  checked-many items h = rw (lt-leb (n + length items) 4096 (omega arith))
 
-run-cons : (test : ℕ → Item → Bool) (position : ItemPosition) (at next n : ℕ) (o : Bool) (key : Key) (i : Item) (r : Answer (List Item)) → at + itemSizeOf i ≡ next
-    → run test position at n o key (bind r (λ items. accepted (i ∷ items)))
-    ≡ run test (orElse position (cond (test n i) (At n at next) Missing)) next (suc n) (o && following n key (i .key)) (i .key) r
-unfolding run bind positionIn
-run-cons test position at next n o key i (refused refusal) to = refl
-run-cons test position at next n o key i absent to = refl
-run-cons test position at next n o key i remove to = refl
-run-cons test position at next n o key i (accepted items) to =
-    let e : n + suc (length items) ≡ suc n + length items = omega arith in
-    rw (to, after-cons n key i items, and-assoc o (following n key (i .key)) (after (suc n) (i .key) items), e, add-one n, position-cons position (positionIn test (suc n) next items) (test n i) n at next)
+  checked-cons : (i : Item) (r : Answer (List Item))
+      → checkedBehind n o key (bind r (λ items. accepted (i ∷ items))) ≡ checkedBehind (n + 1) (o && following n key (i .key)) (i .key) r
+  unfolding checkedBehind bind
+  checked-cons i (refused refusal) = refl
+  checked-cons i absent = refl
+  checked-cons i remove = refl
+  checked-cons i (accepted items) =
+      let e : n + suc (length items) ≡ suc n + length items = omega arith in
+      rw (add-one n, behind-cons n key i items, and-assoc o (following n key (i .key)) (risingBehind (suc n) (i .key) items), e)
 
-pub run-first : (test : ℕ → Item → Bool) (key : Key) (r : Answer (List Item))
-    → listingOf test (bind r (λ items. ask (rising items) 2 (accepted items))) ≡ run test Missing 1 0 true key r
-unfolding run bind ask listingOf verdictOf orElse
-run-first test key (refused refusal) = refl
-run-first test key absent = refl
-run-first test key remove = refl
-run-first test key (accepted items) = go (rising items)
-  where
-    go : (b : Bool) → listingOf test (ask b 2 (accepted items)) ≡ cond b (listedAt (0 + length items) (positionIn test 0 1 items)) (Refused 2)
-    go true = ap (λ (n : ℕ). listedAt n (positionIn test 0 1 items)) (omega arith)
-    go false = refl
+  module _ (s : List ℕ) (at : ℕ) where
+    -- what questions 1 and 2 are answered with, from there on
+    abbrev pub behind : Checked
+    behind = checkedBehind n o key (readItems (4096 - n) (drop at s))
 
-module _ (test : ℕ → Item → Bool) (s : List ℕ) (position : ItemPosition) (at n : ℕ) (o : Bool) (key : Key) where
-  pub run-end : itemStepAt s at ≡ End → run test position at n o key (readItems (4096 - n) (drop at s)) ≡ verdictOf o n position
-  unfolding run positionIn
-  run-end e =
-      let z : n + 0 ≡ n = omega arith in
-      rw (items-end (4096 - n) s at e, after-nil n key, and-true o, z, position-nil position)
+    pub checked-end : length s ≤ at → behind ≡ verdictOf n o
+    unfolding checkedBehind
+    checked-end h =
+        let z : n + 0 ≡ n = omega arith in
+        rw (items-end (4096 - n) s at h, behind-nil n key, and-true o, z)
 
-  pub run-broken : itemStepAt s at ≡ Broken → run test position at n o key (readItems (4096 - n) (drop at s)) ≡ Refused 1
-  unfolding run
-  run-broken e = rw (items-broken (4096 - n) s at e)
+    pub checked-broken : at < length s → itemSizeAt s at ≡ 0 → behind ≡ NoList 1
+    unfolding checkedBehind
+    checked-broken h e = rw (items-broken (4096 - n) s at h e)
 
-  pub run-over : 4096 ≤ n → at < length s → run test position at n o key (readItems (4096 - n) (drop at s)) ≡ Refused 1
-  unfolding run
-  run-over h l =
-      let z : 4096 - n ≡ 0 = omega arith in
-      rw (z, items-over s at l)
+    -- one item more than 4,096
+    checked-over : 4096 ≤ n → at < length s → behind ≡ NoList 1
+    unfolding checkedBehind
+    checked-over h l =
+        let z : 4096 - n ≡ 0 = omega arith in
+        rw (z, items-over s at l)
 
-  -- the item at hand: its key, whether keys still rise, and what is found with it
-  pub run-step : (next : ℕ) (here : Key) (o₁ : Bool) (position₁ : ItemPosition) → n < 4096 → itemStepAt s at ≡ Whole next → here ≡ itemAt s at .key
-      → o₁ ≡ (o && following n key here) → position₁ ≡ orElse position (cond (test n (itemAt s at)) (At n at next) Missing)
-      → run test position at n o key (readItems (4096 - n) (drop at s))
-      ≡ run test position₁ next (n + 1) o₁ here (readItems (4096 - (n + 1)) (drop next s))
-  run-step next here o₁ position₁ h e k p q =
-      let z : 4096 - n ≡ suc (4096 - (n + 1)) = omega arith in
-      rw (p, q, k, z, items-item (4096 - (n + 1)) s at next e, add-one n)
-      (run-cons test position at next n o key (itemAt s at) (readItems (4096 - suc n) (drop next s)) (ends s at next (whole-at s at next e)))
+    checked-past : 4096 < n → behind ≡ NoList 1
+    unfolding checkedBehind
+    checked-past h = go (readItems-decides (4096 - n) (drop at s))
+      where
+        go : ((items : List Item) × (readItems (4096 - n) (drop at s) ≡ accepted items)) ⊎ (readItems (4096 - n) (drop at s) ≡ refused 1) → behind ≡ NoList 1
+        go (inl x) = ap (checkedBehind n o key) (x .1) ∙ checked-many (x .0) h
+        go (inr e) = ap (checkedBehind n o key) e
+
+-- the same with the first item that passes a test
+abbrev pub searched : (ℕ → Item → Bool) → ℕ → Bool → Key → List ℕ → ℕ → Listing
+searched test n o key s at = listedWith (behind n o key s at) (positionIn test n at (itemsIn (readItems (4096 - n) (drop at s))))
+
+both-refused : (x y : Checked) (a b : ItemPosition) → x ≡ NoList 1 → y ≡ NoList 1 → listedWith x a ≡ listedWith y b
+unfolding listedWith
+both-refused x y a b f g = rw (f, g)
+
+module _ (s : List ℕ) (at n : ℕ) (o : Bool) (key : Key) where
+  pub search-end : (test : ℕ → Item → Bool) → length s ≤ at → searched test n o key s at ≡ listedWith (verdictOf n o) Missing
+  unfolding itemsIn positionIn
+  search-end test h =
+      ap (λ (x : Checked). listedWith x (positionIn test n at (itemsIn (readItems (4096 - n) (drop at s))))) (checked-end n o key s at h)
+      ∙ ap (λ (r : Answer (List Item)). listedWith (verdictOf n o) (positionIn test n at (itemsIn r))) (items-end (4096 - n) s at h)
+
+  pub search-broken : (test : ℕ → Item → Bool) → at < length s → itemSizeAt s at ≡ 0 → searched test n o key s at ≡ Refused 1
+  unfolding listedWith
+  search-broken test h e = rw (checked-broken n o key s at h e)
+
+  -- the item at hand: its size, its key, and whether keys still rise
+  module _ (size : ℕ) (here : Key) (o₁ : Bool) (h : at < length s) (e : size ≡ itemSizeAt s at) (some : size ≡ 0 → ⊥) (k : here ≡ itemAt s at .key)
+      (p : o₁ ≡ (o && following n key here)) where
+    reads : (m : ℕ) → readItems (suc m) (drop at s) ≡ bind (readItems m (drop (at + size) s)) (λ items. accepted (itemAt s at ∷ items))
+    reads m =
+        items-item m s at h (λ z. some (e ∙ z))
+        ∙ ap (λ (j : ℕ). bind (readItems m (drop (at + j) s)) (λ items. accepted (itemAt s at ∷ items))) (sym e)
+
+    pub checked-step : behind n o key s at ≡ behind (n + 1) o₁ here s (at + size)
+    checked-step = go (lt-or n 4096)
+      where
+        go : (n < 4096) ⊎ (4096 ≤ n) → behind n o key s at ≡ behind (n + 1) o₁ here s (at + size)
+        go (inl l) =
+            let z : 4096 - n ≡ suc (4096 - (n + 1)) = omega arith in
+            ap (checkedBehind n o key) (ap (λ (m : ℕ). readItems m (drop at s)) z ∙ reads (4096 - (n + 1)))
+            ∙ rw (p, k) (checked-cons n o key (itemAt s at) (readItems (4096 - (n + 1)) (drop (at + size) s)))
+        go (inr l) = checked-over n o key s at l h ∙ sym (checked-past (n + 1) o₁ here s (at + size) (omega arith))
+
+    ended : at + itemSizeOf (itemAt s at) ≡ at + size
+    ended = ends s at (at + size) (whole-size s at size e some (omega arith))
+
+    position-step : (test : ℕ → Item → Bool) (r : Answer (List Item))
+        → listedWith (checkedBehind n o key (bind r (λ items. accepted (itemAt s at ∷ items)))) (positionIn test n at (itemsIn (bind r (λ items. accepted (itemAt s at ∷ items)))))
+        ≡ listedWith (checkedBehind n o key (bind r (λ items. accepted (itemAt s at ∷ items)))) (cond (test n (itemAt s at)) (At n at (at + size)) (positionIn test (n + 1) (at + size) (itemsIn r)))
+    unfolding bind itemsIn positionIn listedWith checkedBehind
+    position-step test (refused refusal) = refl
+    position-step test absent = refl
+    position-step test remove = refl
+    position-step test (accepted items) = rw ended
+
+    -- and whether it is wanted
+    pub search-step : (test : ℕ → Item → Bool) (b : Bool) → test n (itemAt s at) ≡ b
+        → searched test n o key s at
+        ≡ listedWith (behind (n + 1) o₁ here s (at + size)) (cond b (At n at (at + size)) (positionIn test (n + 1) (at + size) (itemsIn (readItems (4096 - (n + 1)) (drop (at + size) s)))))
+    search-step test b wanted = go (lt-or n 4096)
+      where
+        to : Bool → ItemPosition
+        to x = cond x (At n at (at + size)) (positionIn test (n + 1) (at + size) (itemsIn (readItems (4096 - (n + 1)) (drop (at + size) s))))
+
+        go : (n < 4096) ⊎ (4096 ≤ n) → searched test n o key s at ≡ listedWith (behind (n + 1) o₁ here s (at + size)) (to b)
+        go (inl l) =
+            let z : 4096 - n ≡ suc (4096 - (n + 1)) = omega arith in
+            let f : readItems (4096 - n) (drop at s) ≡ bind (readItems (4096 - (n + 1)) (drop (at + size) s)) (λ items. accepted (itemAt s at ∷ items)) = ap (λ (m : ℕ). readItems m (drop at s)) z ∙ reads (4096 - (n + 1)) in
+            ap (λ (r : Answer (List Item)). listedWith (checkedBehind n o key r) (positionIn test n at (itemsIn r))) f
+            ∙ position-step test (readItems (4096 - (n + 1)) (drop (at + size) s))
+            ∙ ap (λ (x : Checked). listedWith x (to (test n (itemAt s at)))) (ap (checkedBehind n o key) (sym f) ∙ checked-step)
+            ∙ ap (λ (x : Bool). listedWith (behind (n + 1) o₁ here s (at + size)) (to x)) wanted
+        go (inr l) =
+            both-refused (behind n o key s at) (behind (n + 1) o₁ here s (at + size)) _ (to b)
+            (checked-over n o key s at l h) (checked-past (n + 1) o₁ here s (at + size) (omega arith))
+
+-- ---- from the first item on
+
+module _ (s : List ℕ) (key : Key) where
+  abbrev whole : Answer (List Item)
+  whole = bind (readItems 4096 (drop 1 s)) (λ items. ask (rising items) 2 (accepted items))
+
+  verdict-first : (items : List Item) → length items ≤ 4096 → checkedOf (ask (rising items) 2 (accepted items)) ≡ checkedBehind 0 true key (accepted items)
+  unfolding checkedOf ask checkedBehind verdictOf
+  verdict-first items h = go (rising items)
+    where
+      go : (b : Bool) → checkedOf (ask b 2 (accepted items)) ≡ cond (leb (0 + length items) 4096) (cond b (Count (0 + length items)) (NoList 2)) (NoList 1)
+      go true = rw (le-leb (0 + length items) 4096 (omega arith)) (ap Count (omega arith))
+      go false = rw (le-leb (0 + length items) 4096 (omega arith))
+
+  pub check-first : checkedOf whole ≡ behind 0 true key s 1
+  unfolding bind checkedOf checkedBehind
+  check-first = go (readItems-decides 4096 (drop 1 s))
+    where
+      go : ((items : List Item) × (readItems 4096 (drop 1 s) ≡ accepted items)) ⊎ (readItems 4096 (drop 1 s) ≡ refused 1) → checkedOf whole ≡ behind 0 true key s 1
+      go (inl x) =
+          let items = x .0 in
+          rw (x .1) (verdict-first items (readItems-count 4096 (drop 1 s) items (x .1)))
+      go (inr e) = rw e
+
+  at-first : (test : ℕ → Item → Bool) (items : List Item) (b : Bool) → listingOf test (ask b 2 (accepted items)) ≡ listedWith (checkedOf (ask b 2 (accepted items))) (positionIn test 0 1 items)
+  unfolding listingOf ask checkedOf listedWith
+  at-first test items true = refl
+  at-first test items false = refl
+
+  pub search-first : (test : ℕ → Item → Bool) → listingOf test whole ≡ searched test 0 true key s 1
+  unfolding bind listingOf checkedBehind listedWith itemsIn
+  search-first test = go (readItems-decides 4096 (drop 1 s))
+    where
+      go : ((items : List Item) × (readItems 4096 (drop 1 s) ≡ accepted items)) ⊎ (readItems 4096 (drop 1 s) ≡ refused 1) → listingOf test whole ≡ searched test 0 true key s 1
+      go (inl x) =
+          let items = x .0 in
+          rw (x .1)
+          (at-first test items (rising items)
+          ∙ ap (λ (y : Checked). listedWith y (positionIn test 0 1 items)) (verdict-first items (readItems-count 4096 (drop 1 s) items (x .1))))
+      go (inr e) = rw e
 
 -- what is wanted is told by the key alone
 by-key : (query : ItemQuery) (n : ℕ) (i : Item) → passing query n (record { key = i .key; bytes = [] }) ≡ passing query n i
@@ -131,46 +216,13 @@ by-key (Index index) n i = refl
 by-key (Record extent) n i = refl
 by-key (AtOrPast key) n i = refl
 
-pub found-by-key : (query : ItemQuery) (position position₁ : ItemPosition) (n at next : ℕ) (here : Key) (i : Item) → here ≡ i .key
-    → position₁ ≡ orElse position (cond (passing query n (record { key = here; bytes = [] })) (At n at next) Missing)
-    → position₁ ≡ orElse position (cond (passing query n i) (At n at next) Missing)
-found-by-key query position position₁ n at next here i k e =
-    e
-    ∙ ap (λ (b : Bool). orElse position (cond b (At n at next) Missing))
-    (ap (λ (x : Key). passing query n (record { key = x; bytes = [] })) k ∙ by-key query n i)
+pub passes-by-key : (query : ItemQuery) (n : ℕ) (here : Key) (i : Item) → here ≡ i .key → passing query n (record { key = here; bytes = [] }) ≡ passing query n i
+passes-by-key query n here i k = ap (λ (x : Key). passing query n (record { key = x; bytes = [] })) k ∙ by-key query n i
 
 pub following-more : (n : ℕ) (last key : Key) → (n ≡ 0 → ⊥) → following n last key ≡ keyBelow last key
 unfolding following
 following-more zero last key h = absurd (h refl)
 following-more (suc n) last key h = refl
-
--- the same with no search
-count-position : (n : ℕ) (position : ItemPosition) → itemCountOf (listedAt n position) ≡ Count n
-unfolding itemCountOf listedAt
-count-position n Missing = refl
-count-position n (At index start end) = refl
-
-counts : (test : ℕ → Item → Bool) (r : Answer (List Item)) → checkedOf r ≡ itemCountOf (listingOf test r)
-unfolding itemCountOf listingOf checkedOf
-counts test (refused refusal) = refl
-counts test absent = refl
-counts test remove = refl
-counts test (accepted items) = sym (count-position (length items) (positionIn test 0 1 items))
-
-abbrev pub nothing : ℕ → Item → Bool
-nothing n i = false
-
-pub count-first : (key : Key) (r : Answer (List Item))
-    → checkedOf (bind r (λ items. ask (rising items) 2 (accepted items))) ≡ itemCountOf (run nothing Missing 1 0 true key r)
-count-first key r = counts nothing (bind r (λ items. ask (rising items) 2 (accepted items))) ∙ ap itemCountOf (run-first nothing key r)
-
-pub count-refused : (l : Listing) (k : ℕ) → l ≡ Refused k → itemCountOf l ≡ NoList k
-unfolding itemCountOf
-count-refused l k e = ap itemCountOf e
-
-pub none-found : Missing ≡ orElse Missing Missing
-unfolding orElse
-none-found = refl
 
 -- ---- question 1 before the items
 

@@ -1,4 +1,4 @@
--- What a step says of the items from a position on. Assumes nothing.
+-- What the size of the item at a position says of the items from there on. Assumes nothing.
 use mathlib.Core.Path.{_≡_, refl, sym, ap, _∙_, subst}
 use mathlib.Core.Bool.{Bool, true, false, _&&_, _||_, cond}
 use mathlib.Core.List.{List, [], _∷_}
@@ -7,7 +7,7 @@ use native.Mathlib.Omega.{arith}
 use lib.Dec.{T, leb, ltb}
 use lib.ListN.{length, take, drop, getD, length-drop, drop-of-length-le}
 use lib.Seq.{drop-drop, getD-drop, length-take-le}
-use borrow.Author.Tests.{le-leb, lt-leb, le-ltb, eq-eqb, ne-eqb, leb-true, leb-false}
+use borrow.Author.Tests.{le-leb, lt-leb, le-ltb, eq-eqb, ne-eqb}
 use Rattle.fields.proofs.Lists.{and-false}
 use Rattle.fields.specs.Numbers.{be}
 use Rattle.fields.specs.Parts.{part}
@@ -15,8 +15,7 @@ use Rattle.format.specs.Questions.{refused, accepted, ask, bind}
 use Rattle.format.specs.declared.Key.{Key}
 use Rattle.format.specs.Items.{keyOf, keyBelow, itemLength, wholeItem, firstItem, readItems}
 use Rattle.format.proofs.Items.{readItems-nil, readItems-full, readItems-more, wholeItem-out}
-use Rattle.item_list.specs.declared.ItemStep.the-variants.{Whole, Broken, End}
-use Rattle.item_list.specs.Steps.{itemAt, nextAt, itemStepAt}
+use Rattle.item_list.specs.Steps.{itemAt, itemSizeAt}
 
 or-false : (a : Bool) → (a || false) ≡ a
 or-false true = refl
@@ -59,41 +58,35 @@ module _ (l : List ℕ) where
   unfolding wholeItem
   is-whole a b c = rw (le-leb 17 (itemLength l) a, le-leb (itemLength l) 65552 b, le-leb (4 + itemLength l) (length l) c)
 
--- ---- from the tests that the code makes to the step
+-- ---- from the tests that the code makes to its size
 
 pub length-at : (s : List ℕ) (at : ℕ) → be (part at 4 s) ≡ itemLength (drop at s)
 unfolding itemLength
 length-at s at = refl
 
-pub step-end : (s : List ℕ) (at : ℕ) → length s ≤ at → itemStepAt s at ≡ End
-unfolding itemStepAt
-step-end s at h = rw (le-leb (length s) at h)
+module _ (s : List ℕ) (at : ℕ) where
+  no-item : wholeItem (drop at s) ≡ false → 0 ≡ itemSizeAt s at
+  unfolding itemSizeAt
+  no-item w = rw w
 
-module _ (s : List ℕ) (at : ℕ) (h : at < length s) where
-  broken : wholeItem (drop at s) ≡ false → itemStepAt s at ≡ Broken
-  unfolding itemStepAt
-  broken w = rw (lt-leb (length s) at h, w)
+  pub size-short : length s - at < 4 → 0 ≡ itemSizeAt s at
+  size-short k = no-item (not-long (drop at s) (simp length-drop (omega arith)))
 
-  pub broken-short : length s - at < 4 → itemStepAt s at ≡ Broken
-  broken-short k = broken (not-long (drop at s) (simp length-drop (omega arith)))
+  pub size-low : itemLength (drop at s) < 17 → 0 ≡ itemSizeAt s at
+  size-low k = no-item (not-low (drop at s) k)
 
-  pub broken-low : itemLength (drop at s) < 17 → itemStepAt s at ≡ Broken
-  broken-low k = broken (not-low (drop at s) k)
+  pub size-high : 65552 < itemLength (drop at s) → 0 ≡ itemSizeAt s at
+  size-high k = no-item (not-high (drop at s) k)
 
-  pub broken-high : 65552 < itemLength (drop at s) → itemStepAt s at ≡ Broken
-  broken-high k = broken (not-high (drop at s) k)
+  pub size-long : length s - at < 4 + itemLength (drop at s) → 0 ≡ itemSizeAt s at
+  size-long k = no-item (not-long (drop at s) (simp length-drop (omega arith)))
 
-  pub broken-long : length s - at < 4 + itemLength (drop at s) → itemStepAt s at ≡ Broken
-  broken-long k = broken (not-long (drop at s) (simp length-drop (omega arith)))
+  pub size-whole : 17 ≤ itemLength (drop at s) → itemLength (drop at s) ≤ 65552 → 4 + itemLength (drop at s) ≤ length s - at
+      → 4 + itemLength (drop at s) ≡ itemSizeAt s at
+  unfolding itemSizeAt
+  size-whole a b c = rw (is-whole (drop at s) a b (simp length-drop (omega arith)))
 
-  pub step-item : 17 ≤ itemLength (drop at s) → itemLength (drop at s) ≤ 65552 → 4 + itemLength (drop at s) ≤ length s - at
-      → itemStepAt s at ≡ Whole (at + 4 + itemLength (drop at s))
-  unfolding itemStepAt nextAt
-  step-item a b c =
-      let w : wholeItem (drop at s) ≡ true = is-whole (drop at s) a b (simp length-drop (omega arith)) in
-      rw (lt-leb (length s) at h, w)
-
--- ---- from a step to what stands there
+-- ---- from its size to what stands there
 
 pub record WholeAt (s : List ℕ) (at next : ℕ) : Type 0 where
   pub before : at < length s
@@ -102,32 +95,32 @@ pub record WholeAt (s : List ℕ) (at next : ℕ) : Type 0 where
   pub high : itemLength (drop at s) ≤ 65552
   pub within : next ≤ length s
 
-step-tests : (b w : Bool) (n m : ℕ) → cond b End (cond w (Whole n) Broken) ≡ Whole m → (b ≡ false) × (w ≡ true) × (n ≡ m)
-step-tests true w n m e = let z : _≡_ {A = ℕ} 0 1 = cc in absurd (omega arith)
-step-tests false true n m e = (refl, refl, cc)
-step-tests false false n m e = let z : _≡_ {A = ℕ} 0 1 = cc in absurd (omega arith)
+size-tests : (w : Bool) (n : ℕ) → (cond w n 0 ≡ 0 → ⊥) → (w ≡ true) × (cond w n 0 ≡ n)
+size-tests true n h = (refl, refl)
+size-tests false n h = absurd (h refl)
 
-end-tests : (b w : Bool) (n : ℕ) → cond b End (cond w (Whole n) Broken) ≡ End → b ≡ true
-end-tests true w n e = refl
-end-tests false true n e = let z : _≡_ {A = ℕ} 0 1 = cc in absurd (omega arith)
-end-tests false false n e = let z : _≡_ {A = ℕ} 0 1 = cc in absurd (omega arith)
+none-tests : (w : Bool) (n : ℕ) → 0 < n → cond w n 0 ≡ 0 → w ≡ false
+none-tests true n h e = absurd (omega arith)
+none-tests false n h e = refl
 
-broken-tests : (b w : Bool) (n : ℕ) → cond b End (cond w (Whole n) Broken) ≡ Broken → (b ≡ false) × (w ≡ false)
-broken-tests true w n e = let z : _≡_ {A = ℕ} 0 1 = cc in absurd (omega arith)
-broken-tests false true n e = let z : _≡_ {A = ℕ} 0 1 = cc in absurd (omega arith)
-broken-tests false false n e = (refl, refl)
+module _ (s : List ℕ) (at : ℕ) (h : itemSizeAt s at ≡ 0 → ⊥) where
+  is-item : (wholeItem (drop at s) ≡ true) × (itemSizeAt s at ≡ 4 + itemLength (drop at s))
+  unfolding itemSizeAt
+  is-item = size-tests (wholeItem (drop at s)) (4 + itemLength (drop at s)) h
 
-pub whole-at : (s : List ℕ) (at next : ℕ) → itemStepAt s at ≡ Whole next → WholeAt s at next
-unfolding itemStepAt nextAt
-whole-at s at next e =
-    let t = step-tests (leb (length s) at) (wholeItem (drop at s)) (nextAt s at) next e in
-    let w = wholeItem-out (drop at s) (subst T (sym (t .1)) tt) in
-    let low = w .0 in
-    let high = w .1 in
-    let before : at < length s = leb-false (length s) at (t .0) in
-    let room : 4 + itemLength (drop at s) ≤ length s - at = subst (λ (k : ℕ). 4 + itemLength (drop at s) ≤ k) (length-drop at s) (w .2) in
-    let size : next ≡ at + 4 + itemLength (drop at s) = sym (t .2) in
-    record { before = before; size = size; low = low; high = high; within = omega arith }
+  pub whole-at : at ≤ length s → WholeAt s at (at + itemSizeAt s at)
+  whole-at inside =
+      let t = is-item in
+      let w = wholeItem-out (drop at s) (subst T (sym (t .0)) tt) in
+      let low = w .0 in
+      let high = w .1 in
+      let is = t .1 in
+      let room : 4 + itemLength (drop at s) ≤ length s - at = subst (λ (k : ℕ). 4 + itemLength (drop at s) ≤ k) (length-drop at s) (w .2) in
+      record { before = omega arith; size = omega arith; low = low; high = high; within = omega arith }
+
+-- the size as code has it
+pub whole-size : (s : List ℕ) (at size : ℕ) → size ≡ itemSizeAt s at → (size ≡ 0 → ⊥) → at ≤ length s → WholeAt s at (at + size)
+whole-size s at size e some h = subst (λ (k : ℕ). WholeAt s at (at + k)) (sym e) (whole-at s at (λ z. some (e ∙ z)) h)
 
 -- a position behind an item of that length, or the first one and the least that an item takes
 pub record PastItem (s : List ℕ) (at long : ℕ) : Type 0 where
@@ -138,45 +131,37 @@ pub record PastItem (s : List ℕ) (at long : ℕ) : Type 0 where
 pub past-first : (s : List ℕ) → 1 ≤ length s → PastItem s 1 21
 past-first s h = record { inside = h; low = omega arith; high = omega arith }
 
-pub past-next : {s : List ℕ} {at next : ℕ} → WholeAt s at next → PastItem s next (next - at)
+pub past-next : {s : List ℕ} {at size : ℕ} → WholeAt s at (at + size) → PastItem s (at + size) size
 past-next w = record { inside = w .within; low = omega (arith, w .size, w .low); high = omega (arith, w .size, w .high) }
 
-pub ended : (s : List ℕ) (at : ℕ) → itemStepAt s at ≡ End → length s ≤ at
-unfolding itemStepAt
-ended s at e = leb-true (length s) at (end-tests (leb (length s) at) (wholeItem (drop at s)) (nextAt s at) e)
-
--- ---- from a step to the items
+-- ---- from its size to the items
 
 some-left : (s : List ℕ) (at : ℕ) → at < length s → 0 < length (drop at s)
 some-left s at h = simp length-drop (omega arith)
 
-pub items-end : (n : ℕ) (s : List ℕ) (at : ℕ) → itemStepAt s at ≡ End → readItems n (drop at s) ≡ accepted []
-items-end n s at e = ap (readItems n) (drop-of-length-le s (ended s at e)) ∙ readItems-nil n
+pub items-end : (n : ℕ) (s : List ℕ) (at : ℕ) → length s ≤ at → readItems n (drop at s) ≡ accepted []
+items-end n s at h = ap (readItems n) (drop-of-length-le s h) ∙ readItems-nil n
 
 pub items-over : (s : List ℕ) (at : ℕ) → at < length s → readItems zero (drop at s) ≡ refused 1
 items-over s at h = readItems-full (drop at s) (some-left s at h)
 
-pub items-broken : (n : ℕ) (s : List ℕ) (at : ℕ) → itemStepAt s at ≡ Broken → readItems n (drop at s) ≡ refused 1
-unfolding itemStepAt ask
-items-broken zero s at e =
-    let t = broken-tests (leb (length s) at) (wholeItem (drop at s)) (nextAt s at) e in
-    items-over s at (leb-false (length s) at (t .0))
-items-broken (suc n) s at e =
-    let t = broken-tests (leb (length s) at) (wholeItem (drop at s)) (nextAt s at) e in
-    readItems-more n (drop at s) (some-left s at (leb-false (length s) at (t .0)))
-    ∙ ap (λ (b : Bool). ask b 1 (bind (readItems n (drop (4 + itemLength (drop at s)) (drop at s))) (λ items. accepted (firstItem (drop at s) ∷ items)))) (t .1)
+pub items-broken : (n : ℕ) (s : List ℕ) (at : ℕ) → at < length s → itemSizeAt s at ≡ 0 → readItems n (drop at s) ≡ refused 1
+unfolding itemSizeAt ask
+items-broken zero s at h e = items-over s at h
+items-broken (suc n) s at h e =
+    readItems-more n (drop at s) (some-left s at h)
+    ∙ ap (λ (b : Bool). ask b 1 (bind (readItems n (drop (4 + itemLength (drop at s)) (drop at s))) (λ items. accepted (firstItem (drop at s) ∷ items)))) (none-tests (wholeItem (drop at s)) (4 + itemLength (drop at s)) (omega arith) e)
 
-pub items-item : (n : ℕ) (s : List ℕ) (at next : ℕ) → itemStepAt s at ≡ Whole next
-    → readItems (suc n) (drop at s) ≡ bind (readItems n (drop next s)) (λ items. accepted (itemAt s at ∷ items))
-unfolding itemStepAt ask itemAt
-items-item n s at next e =
-    let t = step-tests (leb (length s) at) (wholeItem (drop at s)) (nextAt s at) next e in
-    let w : WholeAt s at next = whole-at s at next e in
-    let k : at + (4 + itemLength (drop at s)) ≡ next = omega arith in
-    let d : drop (4 + itemLength (drop at s)) (drop at s) ≡ drop next s =
+pub items-item : (n : ℕ) (s : List ℕ) (at : ℕ) → at < length s → (itemSizeAt s at ≡ 0 → ⊥)
+    → readItems (suc n) (drop at s) ≡ bind (readItems n (drop (at + itemSizeAt s at) s)) (λ items. accepted (itemAt s at ∷ items))
+unfolding ask itemAt
+items-item n s at h e =
+    let t = is-item s at e in
+    let k : at + (4 + itemLength (drop at s)) ≡ at + itemSizeAt s at = ap (λ (i : ℕ). at + i) (sym (t .1)) in
+    let d : drop (4 + itemLength (drop at s)) (drop at s) ≡ drop (at + itemSizeAt s at) s =
     drop-drop (4 + itemLength (drop at s)) at s ∙ ap (λ (i : ℕ). drop i s) k in
-    readItems-more n (drop at s) (some-left s at (leb-false (length s) at (t .0)))
-    ∙ ap (λ (b : Bool). ask b 1 (bind (readItems n (drop (4 + itemLength (drop at s)) (drop at s))) (λ items. accepted (firstItem (drop at s) ∷ items)))) (t .1)
+    readItems-more n (drop at s) (some-left s at h)
+    ∙ ap (λ (b : Bool). ask b 1 (bind (readItems n (drop (4 + itemLength (drop at s)) (drop at s))) (λ items. accepted (firstItem (drop at s) ∷ items)))) (t .0)
     ∙ ap (λ (l : List ℕ). bind (readItems n l) (λ items. accepted (firstItem (drop at s) ∷ items))) d
 
 -- ---- the item at a position

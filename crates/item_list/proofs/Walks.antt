@@ -2,21 +2,21 @@
 use mathlib.Core.Path.{_≡_, refl, sym, ap, _∙_, subst}
 use mathlib.Core.Bool.{true, false}
 use mathlib.Core.List.{List, [], _∷_}
-use Prim.Native.Nat.{ℕ, zero, suc, _+_}
+use mathlib.Core.Logic.{_⊎_, inl, inr}
+use Prim.Native.Nat.{ℕ, zero, suc, _+_, _≤_, _<_}
 use native.Mathlib.Omega.{arith}
 use lib.Dec.{eqb}
 use lib.ListN.{length, drop}
 use borrow.Author.Tests.{eq-eqb, ne-eqb}
+use Rattle.fields.proofs.Lists.{lt-or}
 use Rattle.format.specs.declared.Key.{Key}
 use Rattle.format.specs.Questions.{accepted}
 use Rattle.format.specs.Items.{Item, keyBelow, readItems}
 use Rattle.format.specs.Apply.{isRecord, recordOf}
 use Rattle.format.proofs.Answers.{refused-not, accepted-inj, bind-ok}
 use Rattle.format.proofs.Items.{sheet-out}
-use Rattle.item_list.specs.declared.ItemStep.{ItemStep}
-use Rattle.item_list.specs.declared.ItemStep.the-variants.{Whole, Broken, End}
 use Rattle.item_list.specs.declared.Sought.the-variants.{Present, Absent}
-use Rattle.item_list.specs.Steps.{itemAt, itemStepAt, listItems, IsList}
+use Rattle.item_list.specs.Steps.{itemAt, itemSizeAt, listItems, IsList}
 use Rattle.item_list.specs.Seeks.{itemSizeOf, seekIn}
 use Rattle.item_list.proofs.Steps.{WholeAt, whole-at, data-long, items-end, items-broken, items-over, items-item}
 
@@ -30,11 +30,8 @@ rest-all s l =
     let h = sheet-out s (listItems s) (l .reads) in
     record { most = 4096; reads = ap (λ (x : List ℕ). readItems 4096 (drop 1 x)) (h .1) ∙ h .2 }
 
-pub rest-end : (s : List ℕ) (at : ℕ) (items : List Item) → Rest s at items → itemStepAt s at ≡ End → items ≡ []
-rest-end s at items r e = accepted-inj (sym (r .reads) ∙ items-end (r .most) s at e)
-
-pub rest-broken : (s : List ℕ) (at : ℕ) (items : List Item) → Rest s at items → itemStepAt s at ≡ Broken → ⊥
-rest-broken s at items r e = refused-not (sym (items-broken (r .most) s at e) ∙ r .reads)
+pub rest-end : (s : List ℕ) (at : ℕ) (items : List Item) → Rest s at items → length s ≤ at → items ≡ []
+rest-end s at items r h = accepted-inj (sym (r .reads) ∙ items-end (r .most) s at h)
 
 -- an item at the position: it is the first, and the others follow at its end
 pub record More (s : List ℕ) (at next : ℕ) (items : List Item) : Type 0 where
@@ -43,38 +40,40 @@ pub record More (s : List ℕ) (at next : ℕ) (items : List Item) : Type 0 wher
   pub rest : Rest s next others
   pub whole : WholeAt s at next
 
-pub rest-item : (s : List ℕ) (at next : ℕ) (items : List Item) → Rest s at items → itemStepAt s at ≡ Whole next → More s at next items
-rest-item s at next items r e = go (r .most) (r .reads)
+pub rest-item : (s : List ℕ) (at : ℕ) (items : List Item) → Rest s at items → at < length s → More s at (at + itemSizeAt s at) items
+rest-item s at items r h = go (r .most) (r .reads)
   where
-    w : WholeAt s at next
-    w = whole-at s at next e
+    some : itemSizeAt s at ≡ 0 → ⊥
+    some e = refused-not (sym (items-broken (r .most) s at h e) ∙ r .reads)
 
-    go : (n : ℕ) → readItems n (drop at s) ≡ accepted items → More s at next items
-    go zero h = refused-not (sym (items-over s at (w .before)) ∙ h)
-    go (suc n) h =
-        let t = bind-ok (readItems n (drop next s)) (λ others. accepted (itemAt s at ∷ others)) (sym (items-item n s at next e) ∙ h) in
-        record { others = t .0; is = sym (accepted-inj (t .2)); rest = record { most = n; reads = t .1 }; whole = w }
+    go : (n : ℕ) → readItems n (drop at s) ≡ accepted items → More s at (at + itemSizeAt s at) items
+    go zero e = refused-not (sym (items-over s at h) ∙ e)
+    go (suc n) e =
+        let t = bind-ok (readItems n (drop (at + itemSizeAt s at) s)) (λ others. accepted (itemAt s at ∷ others)) (sym (items-item n s at h some) ∙ e) in
+        record { others = t .0; is = sym (accepted-inj (t .2)); rest = record { most = n; reads = t .1 }; whole = whole-at s at some (omega arith) }
 
 -- where an item ends
 pub ends : (s : List ℕ) (at next : ℕ) → WholeAt s at next → at + itemSizeOf (itemAt s at) ≡ next
 unfolding itemSizeOf
 ends s at next w = data-long s at next w
 
+some-left : (s : List ℕ) (at : ℕ) (i : Item) (items : List Item) → Rest s at (i ∷ items) → at < length s
+some-left s at i items r = go (lt-or at (length s))
+  where
+    go : (at < length s) ⊎ (length s ≤ at) → at < length s
+    go (inl h) = h
+    go (inr h) = let z : _≡_ {A = ℕ} 1 0 = let e = ap length (rest-end s at (i ∷ items) r h) in omega (arith, e) in absurd (omega arith)
+
 -- an item that was read stands at the position
 pub rest-cons : (s : List ℕ) (at : ℕ) (i : Item) (items : List Item) → Rest s at (i ∷ items)
     → (i ≡ itemAt s at) × WholeAt s at (at + itemSizeOf i) × Rest s (at + itemSizeOf i) items
-rest-cons s at i items r = go (itemStepAt s at) refl
-  where
-    go : (step : ItemStep) → itemStepAt s at ≡ step → (i ≡ itemAt s at) × WholeAt s at (at + itemSizeOf i) × Rest s (at + itemSizeOf i) items
-    go End e = let z : _≡_ {A = ℕ} 1 0 = let h = ap length (rest-end s at (i ∷ items) r e) in omega (arith, h) in absurd (omega arith)
-    go Broken e = absurd (rest-broken s at (i ∷ items) r e)
-    go (Whole next) e =
-        let m = rest-item s at next (i ∷ items) r e in
-        let same : i ∷ items ≡ itemAt s at ∷ m .others = m .is in
-        let first : i ≡ itemAt s at = cc in
-        let others : items ≡ m .others = cc in
-        let to : next ≡ at + itemSizeOf i = sym (ends s at next (m .whole)) ∙ ap (λ (j : Item). at + itemSizeOf j) (sym first) in
-        (first, subst (λ (k : ℕ). WholeAt s at k) to (m .whole), subst (λ (k : ℕ). Rest s k items) to (subst (λ (l : List Item). Rest s next l) (sym others) (m .rest)))
+rest-cons s at i items r =
+    let m = rest-item s at (i ∷ items) r (some-left s at i items r) in
+    let same : i ∷ items ≡ itemAt s at ∷ m .others = m .is in
+    let first : i ≡ itemAt s at = cc in
+    let others : items ≡ m .others = cc in
+    let to : at + itemSizeAt s at ≡ at + itemSizeOf i = sym (ends s at (at + itemSizeAt s at) (m .whole)) ∙ ap (λ (j : Item). at + itemSizeOf j) (sym first) in
+    (first, subst (λ (k : ℕ). WholeAt s at k) to (m .whole), subst (λ (k : ℕ). Rest s k items) to (subst (λ (l : List Item). Rest s (at + itemSizeAt s at) l) (sym others) (m .rest)))
 
 -- the state of a walk: what is left, and what holds of it
 pub record Walked (s : List ℕ) (at : ℕ) (P : List Item → Type 0) : Type 0 where

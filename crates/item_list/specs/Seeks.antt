@@ -1,13 +1,14 @@
 -- Where items stand in an item list (document 01's sheet): the first that passes a test, and the position of a key; and what the
 -- one pass answers: whether the bytes are an item list, and that first item. Assumes nothing.
-use mathlib.Core.Bool.{Bool, not, cond}
+use mathlib.Core.Bool.{Bool, _&&_, not, cond}
 use mathlib.Core.List.{List, [], _∷_}
-use Prim.Native.Nat.{ℕ, _+_}
-use lib.Dec.{eqb}
+use Prim.Native.Nat.{ℕ, zero, suc, _+_}
+use lib.Dec.{eqb, leb}
 use lib.ListN.{length}
 use Rattle.format.specs.declared.Key.{Key}
 use Rattle.format.specs.Questions.{Answer, resultOrCode}
-use Rattle.format.specs.Items.{Item, keyBelow}
+use Rattle.format.specs.Constants.{mostItems}
+use Rattle.format.specs.Items.{Item, keyBelow, above, rising}
 use Rattle.format.specs.Apply.{recordOf}
 use Rattle.item_list.specs.declared.ItemPosition.{ItemPosition}
 use Rattle.item_list.specs.declared.ItemPosition.the-variants.{At, Missing}
@@ -63,17 +64,22 @@ listedAt count (At index start end) = Found count index start end
 unfoldable pub listingOf : (ℕ → Item → Bool) → Answer (List Item) → Listing
 listingOf test answer = resultOrCode Refused (λ items. listedAt (length items) (positionIn test 0 1 items)) answer
 
--- the first of two positions that is one
-unfoldable pub orElse : ItemPosition → ItemPosition → ItemPosition
-orElse Missing other = other
-orElse (At index start end) other = At index start end
+-- ---- the pass, from any item on
 
--- question 2 at the end of the items
-unfoldable pub verdictOf : Bool → ℕ → ItemPosition → Listing
-verdictOf ordered n position = cond ordered (listedAt n position) (Refused 2)
+-- keys rise from `n` items on, the last of which has the key
+abbrev pub risingBehind : ℕ → Key → List Item → Bool
+risingBehind zero last items = rising items
+risingBehind (suc n) last items = above (record { key = last; bytes = [] }) items && rising items
 
--- the answer with no word of the search
-unfoldable pub itemCountOf : Listing → Checked
-itemCountOf (Refused refusal) = NoList refusal
-itemCountOf (Without count) = Count count
-itemCountOf (Found count index start end) = Count count
+-- after all items: at most 4,096, and then question 2
+unfoldable pub verdictOf : ℕ → Bool → Checked
+verdictOf count ordered = cond (leb count mostItems) (cond ordered (Count count) (NoList 2)) (NoList 1)
+
+-- questions 1 and 2 where `n` items were read, in order or not, and those behind them read as given
+unfoldable pub checkedBehind : ℕ → Bool → Key → Answer (List Item) → Checked
+checkedBehind n ordered last answer = resultOrCode NoList (λ items. verdictOf (n + length items) (ordered && risingBehind n last items)) answer
+
+-- the same with a position
+unfoldable pub listedWith : Checked → ItemPosition → Listing
+listedWith (NoList refusal) position = Refused refusal
+listedWith (Count count) position = listedAt count position

@@ -9,8 +9,6 @@ use Rattle.format.specs.declared.Key.{Key}
 use Rattle.format.specs.Questions.{Answer, accepted, resultOrCode}
 use Rattle.format.specs.Items.{Item, keyBelow, itemLength, wholeItem, firstItem, readItems, readSheet}
 unfoldable pub use Rattle.format.specs.History.{itemsIn}
-use Rattle.item_list.specs.declared.ItemStep.{ItemStep}
-use Rattle.item_list.specs.declared.ItemStep.the-variants.{Whole, Broken, End}
 use Rattle.item_list.specs.declared.Checked.{Checked}
 use Rattle.item_list.specs.declared.Checked.the-variants.{Count, Refused}
 
@@ -20,12 +18,9 @@ use Rattle.item_list.specs.declared.Checked.the-variants.{Count, Refused
 unfoldable pub itemAt : List ℕ → ℕ → Item
 itemAt s at = firstItem (drop at s)
 
--- where it ends
-unfoldable pub nextAt : List ℕ → ℕ → ℕ
-nextAt s at = at + 4 + itemLength (drop at s)
-
-unfoldable pub itemStepAt : List ℕ → ℕ → ItemStep
-itemStepAt s at = cond (leb (length s) at) End (cond (wholeItem (drop at s)) (Whole (nextAt s at)) Broken)
+-- how many bytes it takes, or 0 if it is not whole
+unfoldable pub itemSizeAt : List ℕ → ℕ → ℕ
+itemSizeAt s at = cond (wholeItem (drop at s)) (4 + itemLength (drop at s)) 0
 
 -- ---- questions 1 and 2
 

@@ -1,6 +1,6 @@
 // Questions 1 and 2 and a search, in one pass.
 ghost use mathlib.Core.Path.{_≡_};
-ghost use mathlib.Core.Bool.{_&&_, cond};
+ghost use mathlib.Core.Bool.{_&&_};
 ghost use mathlib.Core.List.{[]};
 ghost use Prim.Native.Nat.{_≤_};
 ghost use lib.ListN.{length, drop};
@@ -8,13 +8,13 @@ ghost use Rattle.format.specs.Constants.{mostItems};
 ghost use Rattle.format.specs.Questions.{bind, ask, accepted};
 ghost use Rattle.format.specs.Items.{readItems, readSheet, rising};
 ghost use Rattle.format.specs.Apply.{recordOf};
-ghost use Rattle.item_list.specs.declared.ItemPosition.the-variants.{At, Missing};
 ghost use Rattle.item_list.specs.Steps.{opensList, following};
-ghost use Rattle.item_list.specs.Seeks.{passing, orElse, verdictOf, listingOf};
-use super::ItemPosition;
+ghost use Rattle.item_list.specs.declared.ItemPosition.the-variants.{At, Missing};
+ghost use Rattle.item_list.specs.Seeks.{passing, verdictOf, listedWith, listingOf};
+use super::Checked;
 use super::ItemQuery;
-use super::ItemStep;
 use super::Listing;
+use super::checking;
 use super::stepping;
 use format::EXTENT_ITEM;
 use format::ITEM_HEAD;
@@ -60,89 +60,62 @@ fn passes(query: ItemQuery, n: usize, key: Key) -> bool
     }
 }
 
-// What was found so far; or else the item at hand, if it is wanted. What was found is put together anew: a copy of the enum would
-// copy the unused bytes between its fields too, and the next turn would wait for them.
-fn first_of(
-    position: ItemPosition,
-    query: ItemQuery,
-    n: usize,
-    key: Key,
-    at: usize,
-    next: usize,
-) -> ItemPosition
-    ensures { λ r. ⌜ r ≡ orElse position (cond (passing query n (record { key = key; bytes = [] })) (At n at next) Missing) ⌝ }
+// What questions 1 and 2 are answered with, and where the wanted item stands.
+fn found(checked: Checked, index: usize, start: usize, end: usize) -> Listing
+    ensures { λ r. ⌜ r ≡ listedWith checked (At index start end) ⌝ }
 {
-    match position {
-        ItemPosition::At { index, start, end } => ItemPosition::At { index, start, end },
-        ItemPosition::Missing => {
-            if passes(query, n, key) {
-                return ItemPosition::At {
-                    index: n,
-                    start: at,
-                    end: next,
-                };
-            }
-            ItemPosition::Missing
-        }
+    match checked {
+        Checked::Refused(refusal) => Listing::Refused(refusal),
+        Checked::Count(count) => Listing::Found {
+            count,
+            index,
+            start,
+            end,
+        },
     }
 }
 
-// The answer after `n` items.
-fn listing(ordered: bool, n: usize, position: ItemPosition) -> Listing
-    ensures { λ r. ⌜ r ≡ verdictOf ordered n position ⌝ }
+// The answer after all items, none of which is wanted. It asks what `checking::verdict` asks: handed on from there, the loop before
+// it has no register for the query.
+fn missing(count: usize, ordered: bool) -> Listing
+    ensures { λ r. ⌜ r ≡ listedWith (verdictOf count ordered) Missing ⌝ }
 {
+    if MOST_ITEMS < count {
+        return Listing::Refused(1);
+    }
     if ordered {
-        match position {
-            ItemPosition::At { index, start, end } => {
-                return Listing::Found {
-                    count: n,
-                    index,
-                    start,
-                    end,
-                };
-            }
-            ItemPosition::Missing => return Listing::Missing { count: n },
-        }
+        return Listing::Missing { count };
     }
     Listing::Refused(2)
 }
 
-// The items after the version byte. A fault in a later item is refusal 1 even where keys fell before it or the wanted item stands
-// before it.
+// The items after the version byte, up to the wanted one; those behind it are only checked.
 fn walk(s: &[u8], query: ItemQuery) -> Listing
     requires { ⌜ 1 ≤ length (now s) ⌝ }
     ensures { λ r. ⌜ r ≡ listingOf (passing query) (bind (readItems mostItems (drop 1 (now (s .entry)))) (λ items. ask (rising items) 2 (accepted items))) ⌝ }
 {
     let mut at: usize = 1;
-    let mut long = ITEM_HEAD;
     let mut n: usize = 0;
+    let mut size = ITEM_HEAD;
+    let mut key = stepping::no_key();
     let mut ordered = true;
-    let mut position = ItemPosition::Missing;
-    let mut last = Key {
-        objectid: 0,
-        kind: 0,
-        offset: 0,
-    };
-    while n < MOST_ITEMS {
-        let step = stepping::step_after(s, at, long);
-        match step {
-            ItemStep::End => return listing(ordered, n, position),
-            ItemStep::Broken => return Listing::Refused(1),
-            ItemStep::Whole { next } => {
-                let key = stepping::key_at(s, at);
-                ordered = follows(ordered, n, last, key);
-                position = first_of(position, query, n, key, at, next);
-                last = key;
-                long = next - at;
-                at = next;
-                n += 1;
-            }
+    while at < s.len() {
+        size = stepping::size_after(s, at, size);
+        if size == 0 {
+            return Listing::Refused(1);
         }
+        let here = stepping::key_at(s, at);
+        ordered = follows(ordered, n, key, here);
+        key = here;
+        if passes(query, n, key) {
+            let end = at + size;
+            let checked = checking::check_behind(s, end, n + 1, size, key, ordered);
+            return found(checked, n, at, end);
+        }
+        at += size;
+        n += 1;
     }
-    if at < s.len() {
-        return Listing::Refused(1);
-    }
-    listing(ordered, n, position)
+    missing(n, ordered)
 }
 
 // Question 1 before the items: version and length.

@@ -18,18 +18,8 @@ pub use splicing::remove_item;
 pub use splicing::room_for;
 pub use stepping::is_past;
 pub use stepping::key_at;
-pub use stepping::step_after;
-pub use stepping::step_at;
-
-// What stands at a position.
-pub enum ItemStep {
-    // A whole item, and the position past it.
-    Whole { next: usize },
-    // Something that is no whole item.
-    Broken,
-    // Nothing.
-    End,
-}
+pub use stepping::size_after;
+pub use stepping::size_at;
 
 // Whether the bytes are an item list: the number of items, or the refusal.
 pub enum Checked {

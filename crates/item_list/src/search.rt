@@ -2,7 +2,6 @@
 ghost use mathlib.Core.Path.{_≡_};
 ghost use Rattle.item_list.specs.Steps.{ListedFrom, listItemsFrom};
 ghost use Rattle.item_list.specs.Seeks.{seekIn};
-use super::ItemStep;
 use super::Sought;
 use super::stepping;
 use format::Key;
@@ -13,25 +12,20 @@ pub fn seek(s: &[u8], from: usize, key: Key) -> Sought
     ensures { λ r. ⌜ r ≡ seekIn key from (listItemsFrom (now (s .entry)) from) ⌝ }
 {
     let mut at = from;
-    loop {
-        let step = stepping::step_at(s, at);
-        match step {
-            ItemStep::End => return Sought::Absent { at },
-            ItemStep::Broken => return Sought::Absent { at },
-            ItemStep::Whole { next } => {
-                let here = stepping::key_at(s, at);
-                if stepping::below(here, key) {
-                    at = next;
-                } else {
-                    if stepping::below(key, here) {
-                        return Sought::Absent { at };
-                    }
-                    return Sought::Present {
-                        start: at,
-                        end: next,
-                    };
-                }
+    while at < s.len() {
+        let size = stepping::size_at(s, at);
+        let here = stepping::key_at(s, at);
+        if stepping::below(here, key) {
+            at += size;
+        } else {
+            if stepping::below(key, here) {
+                return Sought::Absent { at };
             }
+            return Sought::Present {
+                start: at,
+                end: at + size,
+            };
         }
     }
+    Sought::Absent { at }
 }

@@ -3,47 +3,44 @@ ghost use mathlib.Core.Path.{_≡_};
 ghost use Prim.Native.Nat.{_+_, _≤_};
 ghost use lib.ListN.{length};
 ghost use Rattle.format.specs.Constants.{itemHead};
-ghost use Rattle.format.specs.Items.{keyBelow};
-ghost use Rattle.item_list.specs.Steps.{itemAt, itemStepAt};
-use super::ItemStep;
+ghost use Rattle.format.specs.Items.{keyBelow, keyOf};
+ghost use Rattle.item_list.specs.Steps.{itemAt, itemSizeAt};
 use format::Key;
 
-pub fn step_at(s: &[u8], at: usize) -> ItemStep
-    ensures { λ r. ⌜ r ≡ itemStepAt (now (s .entry)) at ⌝ }
+// How many bytes the item at a position takes, or 0 if no whole item stands there.
+pub fn size_at(s: &[u8], at: usize) -> usize
+    requires { ⌜ at ≤ length (now s) ⌝ }
+    ensures { λ r. ⌜ r ≡ itemSizeAt (now (s .entry)) at ⌝ }
 {
-    if s.len() <= at {
-        return ItemStep::End;
+    let left = s.len() - at;
+    if left < 4 {
+        return 0;
     }
-    if s.len() - at < 4 {
-        return ItemStep::Broken;
+    let length = fields::get_u32_be(s, at) as usize;
+    if length < 17 {
+        return 0;
     }
-    let size = fields::get_u32_be(s, at) as usize;
-    if size < 17 {
-        return ItemStep::Broken;
+    if 65552 < length {
+        return 0;
     }
-    if 65552 < size {
-        return ItemStep::Broken;
+    if left < 4 + length {
+        return 0;
     }
-    if s.len() - at < 4 + size {
-        return ItemStep::Broken;
-    }
-    ItemStep::Whole {
-        next: at + 4 + size,
-    }
+    4 + length
 }
 
-// The same behind an item of `long` bytes. Most items are as long as the one before: with its length at hand the processor goes
+// The same behind an item of `last` bytes. Most items are as long as the one before: with its length at hand the processor goes
 // on to the next while it still reads this one's.
-pub fn step_after(s: &[u8], at: usize, long: usize) -> ItemStep
-    requires { ⌜ (at ≤ length (now s)) × (itemHead ≤ long) × (long ≤ 65556) ⌝ }
-    ensures { λ r. ⌜ r ≡ itemStepAt (now (s .entry)) at ⌝ }
+pub fn size_after(s: &[u8], at: usize, last: usize) -> usize
+    requires { ⌜ (at ≤ length (now s)) × (itemHead ≤ last) × (last ≤ 65556) ⌝ }
+    ensures { λ r. ⌜ r ≡ itemSizeAt (now (s .entry)) at ⌝ }
 {
-    if long <= s.len() - at {
-        if fields::get_u32_be(s, at) as usize + 4 == long {
-            return ItemStep::Whole { next: at + long };
+    if last <= s.len() - at {
+        if fields::get_u32_be(s, at) as usize + 4 == last {
+            return last;
         }
     }
-    step_at(s, at)
+    size_at(s, at)
 }
 
 // The key of the item that starts at `at`.
@@ -55,6 +52,17 @@ pub fn key_at(s: &[u8], at: usize) -> Key
         objectid: fields::get_u64_be(s, at + 4),
         kind: s[at + 12],
         offset: fields::get_u64_be(s, at + 13),
+    }
+}
+
+// A key where there is none yet.
+pub fn no_key() -> Key
+    ensures { λ r. ⌜ r ≡ keyOf 0 0 0 ⌝ }
+{
+    Key {
+        objectid: 0,
+        kind: 0,
+        offset: 0,
     }
 }
 

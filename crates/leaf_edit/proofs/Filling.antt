@@ -2,7 +2,7 @@
 use mathlib.Core.Path.{_≡_, refl, sym, ap, _∙_}
 use mathlib.Core.Bool.{cond}
 use mathlib.Core.List.{List, [], _∷_, _++_, append-assoc, append-nil}
-use Prim.Native.Nat.{ℕ, _+_, _-_, _≤_, _<_}
+use Prim.Native.Nat.{ℕ, _+_, _≤_, _<_}
 use native.Mathlib.Omega.{arith}
 use native.Mathlib.Nat.{zero-add}
 use lib.Dec.{leb}
@@ -21,18 +21,18 @@ fill-end : (n i used : ℕ) (items : List Item) → items ≡ [] → filled n i 
 unfolding filled
 fill-end n i used items e = rw e
 
-module _ (s : List ℕ) (at next : ℕ) (items : List Item) (r : More s at next items) (n i used : ℕ) where
+module _ (s : List ℕ) (at size : ℕ) (items : List Item) (r : More s at (at + size) items) (n i used : ℕ) where
   fill-cons : filled n i used items
-      ≡ cond (leb (used + (next - at + 4)) n) (filled n (i + 1) (used + (next - at + 4)) (r .others))
-      (i ∷ filled n (i + 1) (101 + (next - at + 4)) (r .others))
+      ≡ cond (leb (used + (size + 4)) n) (filled n (i + 1) (used + (size + 4)) (r .others))
+      (i ∷ filled n (i + 1) (101 + (size + 4)) (r .others))
   unfolding filled
-  fill-cons = rw (r .is, space-at s at next (r .whole))
+  fill-cons = rw (r .is, space-at s at size (r .whole))
 
-  fill-over : n < used + (next - at + 4) → filled n i used items ≡ i ∷ filled n (i + 1) (101 + (next - at + 4)) (r .others)
-  fill-over h = fill-cons ∙ rw (lt-leb (used + (next - at + 4)) n h)
+  fill-over : n < used + (size + 4) → filled n i used items ≡ i ∷ filled n (i + 1) (101 + (size + 4)) (r .others)
+  fill-over h = fill-cons ∙ rw (lt-leb (used + (size + 4)) n h)
 
-  fill-within : used + (next - at + 4) ≤ n → filled n i used items ≡ filled n (i + 1) (used + (next - at + 4)) (r .others)
-  fill-within h = fill-cons ∙ rw (le-leb (used + (next - at + 4)) n h)
+  fill-within : used + (size + 4) ≤ n → filled n i used items ≡ filled n (i + 1) (used + (size + 4)) (r .others)
+  fill-within h = fill-cons ∙ rw (le-leb (used + (size + 4)) n h)
 
 -- ---- counted
 
@@ -52,20 +52,20 @@ counting-all n items i used leaves rest k e =
     let z = ap length (fill-end n i used rest e) in
     omega (arith, t, z)
 
-module _ (n : ℕ) (items : List Item) (i used leaves : ℕ) (s : List ℕ) (at next : ℕ) (rest : List Item)
-    (k : Counting n items i used leaves rest) (m : More s at next rest) (l : n ≤ 65536) where
-  pub counting-stays : used + (next - at + 4) ≤ n → Counting n items (i + 1) (used + (next - at + 4)) leaves (m .others)
+module _ (n : ℕ) (items : List Item) (i used leaves : ℕ) (s : List ℕ) (at size : ℕ) (rest : List Item)
+    (k : Counting n items i used leaves rest) (m : More s at (at + size) rest) (l : n ≤ 65536) where
+  pub counting-stays : used + (size + 4) ≤ n → Counting n items (i + 1) (used + (size + 4)) leaves (m .others)
   counting-stays h =
       let t = k .total in
-      let e = ap length (fill-within s at next rest m n i used h) in
+      let e = ap length (fill-within s at size rest m n i used h) in
       let f = k .few in
       record { total = omega (arith, t, e); small = omega arith; few = omega (arith, f) }
 
-  pub counting-starts : 101 + (next - at + 4) ≤ n → n < used + (next - at + 4)
-      → Counting n items (i + 1) (101 + (next - at + 4)) (leaves + 1) (m .others)
+  pub counting-starts : 101 + (size + 4) ≤ n → n < used + (size + 4)
+      → Counting n items (i + 1) (101 + (size + 4)) (leaves + 1) (m .others)
   counting-starts a h =
       let t = k .total in
-      let e = ap length (fill-over s at next rest m n i used h) in
+      let e = ap length (fill-over s at size rest m n i used h) in
       let f = k .few in
       record { total = omega (arith, t, e); small = omega arith; few = omega (arith, f) }
 
@@ -101,31 +101,31 @@ writing-all n items old cuts used leaves i rest k e =
     sym (append-nil (k .before)) ∙ ap (λ (l : List ℕ). k .before ++ l) (sym (fill-end n i used rest e)) ∙ k .total in
     k .cuts-are ∙ ap (λ (l : List ℕ). written 0 l old) h
 
-module _ (n : ℕ) (items : List Item) (old cuts : List ℕ) (used leaves i : ℕ) (s : List ℕ) (at next : ℕ) (rest : List Item)
-    (k : Writing n items old cuts used leaves i rest) (m : More s at next rest) where
+module _ (n : ℕ) (items : List Item) (old cuts : List ℕ) (used leaves i : ℕ) (s : List ℕ) (at size : ℕ) (rest : List Item)
+    (k : Writing n items old cuts used leaves i rest) (m : More s at (at + size) rest) where
   passed-one : i + 1 + length (m .others) ≡ length items
   passed-one = let e = ap length (m .is) in let p = k .passed in omega (arith, e, p)
 
   pub passed-fewer : i < length items
   passed-fewer = let e = passed-one in omega arith
 
-  pub writing-stays : n ≤ 65536 → used + (next - at + 4) ≤ n → Writing n items old cuts (used + (next - at + 4)) leaves (i + 1) (m .others)
+  pub writing-stays : n ≤ 65536 → used + (size + 4) ≤ n → Writing n items old cuts (used + (size + 4)) leaves (i + 1) (m .others)
   writing-stays l h =
       let f = k .few in
       record {
         before = k .before;
         cuts-are = k .cuts-are;
         count = k .count;
-        total = ap (λ (t : List ℕ). k .before ++ t) (sym (fill-within s at next rest m n i used h)) ∙ k .total;
+        total = ap (λ (t : List ℕ). k .before ++ t) (sym (fill-within s at size rest m n i used h)) ∙ k .total;
         small = omega arith;
         passed = passed-one;
         few = omega (arith, f);
         long = k .long;
       }
 
-  module _ (h : n < used + (next - at + 4)) (room : length (filled n 0 101 items) ≤ length old) where
-    over : filled n i used rest ≡ i ∷ filled n (i + 1) (101 + (next - at + 4)) (m .others)
-    over = fill-over s at next rest m n i used h
+  module _ (h : n < used + (size + 4)) (room : length (filled n 0 101 items) ≤ length old) where
+    over : filled n i used rest ≡ i ∷ filled n (i + 1) (101 + (size + 4)) (m .others)
+    over = fill-over s at size rest m n i used h
 
     -- there is a place for one number more
     pub room-left : leaves < length cuts
@@ -137,7 +137,7 @@ module _ (n : ℕ) (items : List Item) (old cuts : List ℕ) (used leaves i : �
         omega (arith, e, a, room, c, g)
 
     pub writing-starts : (index : ℕ) → index ≡ i → length s ≤ 262144
-        → Writing n items old (set cuts leaves index) (101 + (next - at + 4)) (leaves + 1) (i + 1) (m .others)
+        → Writing n items old (set cuts leaves index) (101 + (size + 4)) (leaves + 1) (i + 1) (m .others)
     writing-starts index is l =
         let f = k .few in
         let w = m .whole in
@@ -153,7 +153,7 @@ module _ (n : ℕ) (items : List Item) (old cuts : List ℕ) (used leaves i : �
               ∙ ap (written leaves (i ∷ [])) (k .cuts-are)
               ∙ written-next (k .before) (i ∷ []) old leaves c r;
           count = length-append (k .before) (i ∷ []) ∙ ap (λ (t : ℕ). t + 1) c;
-          total = append-assoc (k .before) (i ∷ []) (filled n (i + 1) (101 + (next - at + 4)) (m .others))
+          total = append-assoc (k .before) (i ∷ []) (filled n (i + 1) (101 + (size + 4)) (m .others))
               ∙ ap (λ (t : List ℕ). k .before ++ t) (sym over) ∙ k .total;
           small = omega (arith, w, l);
           passed = passed-one;

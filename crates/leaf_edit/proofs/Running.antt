@@ -22,9 +22,9 @@ use Rattle.leaf_edit.specs.declared.division_measure.Cutting.the-variant
 use Rattle.leaf_edit.specs.Division.{Sized, fitsAlone, cuttingOf, closest, improved}
 
 -- the space of the item at a position
-pub space-at : (s : List ℕ) (at next : ℕ) → WholeAt s at next → itemSpace (itemAt s at) ≡ next - at + 4
+pub space-at : (s : List ℕ) (at size : ℕ) → WholeAt s at (at + size) → itemSpace (itemAt s at) ≡ size + 4
 unfolding itemSpace
-space-at s at next w = omega (arith, data-long s at next w)
+space-at s at size w = omega (arith, data-long s at (at + size) w)
 
 space-none : spaceOf [] ≡ 101
 unfolding spaceOf
@@ -35,15 +35,15 @@ space-none = refl
 pub each-end : (n : ℕ) (items : List Item) → items ≡ [] → all (fitsAlone n) items ≡ true
 each-end n items e = rw e
 
-module _ (s : List ℕ) (at next : ℕ) (items : List Item) (r : More s at next items) (n : ℕ) where
-  each-cons : all (fitsAlone n) items ≡ (leb (101 + (next - at + 4)) n && all (fitsAlone n) (r .others))
-  each-cons = ap (all (fitsAlone n)) (r .is) ∙ ap (λ (k : ℕ). leb (101 + k) n && all (fitsAlone n) (r .others)) (space-at s at next (r .whole))
+module _ (s : List ℕ) (at size : ℕ) (items : List Item) (r : More s at (at + size) items) (n : ℕ) where
+  each-cons : all (fitsAlone n) items ≡ (leb (101 + (size + 4)) n && all (fitsAlone n) (r .others))
+  each-cons = ap (all (fitsAlone n)) (r .is) ∙ ap (λ (k : ℕ). leb (101 + k) n && all (fitsAlone n) (r .others)) (space-at s at size (r .whole))
 
-  pub each-over : n < 101 + (next - at + 4) → all (fitsAlone n) items ≡ false
-  each-over h = each-cons ∙ rw (lt-leb (101 + (next - at + 4)) n h)
+  pub each-over : n < 101 + (size + 4) → all (fitsAlone n) items ≡ false
+  each-over h = each-cons ∙ rw (lt-leb (101 + (size + 4)) n h)
 
-  pub each-more : 101 + (next - at + 4) ≤ n → all (fitsAlone n) items ≡ all (fitsAlone n) (r .others)
-  each-more h = each-cons ∙ rw (le-leb (101 + (next - at + 4)) n h)
+  pub each-more : 101 + (size + 4) ≤ n → all (fitsAlone n) items ≡ all (fitsAlone n) (r .others)
+  each-more h = each-cons ∙ rw (le-leb (101 + (size + 4)) n h)
 
 -- ---- the better cut, as code tests it
 
@@ -126,12 +126,12 @@ passed-all n items i left right best rest p e =
     let all-of : length items ≡ i = ap length (p .same ∙ ap (λ (l : List Item). p .front ++ l) e ∙ append-nil (p .front)) ∙ p .count in
     p .best-is ∙ ap (λ (k : ℕ). cuttingOf items (bestCut n items (k - 1))) (sym all-of)
 
-module _ (n : ℕ) (items : List Item) (i left right : ℕ) (best : Cutting) (s : List ℕ) (at next : ℕ) (rest : List Item)
-    (p : Passed n items i left right best rest) (m : More s at next rest) where
-  pub space-here : right ≡ (next - at + 4) + spaceOf (m .others)
+module _ (n : ℕ) (items : List Item) (i left right : ℕ) (best : Cutting) (s : List ℕ) (at size : ℕ) (rest : List Item)
+    (p : Passed n items i left right best rest) (m : More s at (at + size) rest) where
+  pub space-here : right ≡ (size + 4) + spaceOf (m .others)
   space-here =
       p .right-is ∙ ap spaceOf (m .is) ∙ space-cons (itemAt s at) (m .others)
-      ∙ ap (λ (k : ℕ). k + spaceOf (m .others)) (space-at s at next (m .whole))
+      ∙ ap (λ (k : ℕ). k + spaceOf (m .others)) (space-at s at size (m .whole))
 
   pub passed-bound : left + right ≡ spaceOf items + 101
   passed-bound =
@@ -149,13 +149,13 @@ module _ (n : ℕ) (items : List Item) (i left right : ℕ) (best : Cutting) (s 
       omega (arith, e, f, k)
 
   pub passed-next : (better : Cutting) → better ≡ improved n left right i best
-      → Passed n items (i + 1) (left + (next - at + 4)) (right - (next - at + 4)) better (m .others)
+      → Passed n items (i + 1) (left + (size + 4)) (right - (size + 4)) better (m .others)
   passed-next better e =
       let x : Item = itemAt s at in
       let same : items ≡ p .front ++ rest = p .same in
       let before : take i items ≡ p .front = ap (take i) same ∙ take-at (p .front) rest i (p .count) in
       let after : drop i items ≡ rest = ap (drop i) same ∙ drop-at (p .front) rest i (p .count) in
-      let w = space-at s at next (m .whole) in
+      let w = space-at s at size (m .whole) in
       let a = space-append (p .front) (x ∷ []) in
       let b = space-cons x [] in
       let z = space-none in

@@ -41,24 +41,24 @@ module _ (n : ℕ) (items : List Item) (i left right : ℕ) (best : Cutting) (us
       go none f = (fits, f, counting-all n items i used leaves rest (k .counting) e)
       go (some at) f = (fits, f)
 
-  module _ (s : List ℕ) (at next : ℕ) (m : More s at next rest) where
-    pub measuring-over : n < 101 + (next - at + 4) → all (fitsAlone n) items ≡ false
-    measuring-over h = k .each ∙ each-over s at next rest m n h
+  module _ (s : List ℕ) (at size : ℕ) (m : More s at (at + size) rest) where
+    pub measuring-over : n < 101 + (size + 4) → all (fitsAlone n) items ≡ false
+    measuring-over h = k .each ∙ each-over s at size rest m n h
 
-    module _ (l : n ≤ 65536) (a : 101 + (next - at + 4) ≤ n) (better : Cutting) (b : better ≡ improved n left right i best) where
+    module _ (l : n ≤ 65536) (a : 101 + (size + 4) ≤ n) (better : Cutting) (b : better ≡ improved n left right i best) where
       next-with : (u v : ℕ) → Counting n items (i + 1) u v (m .others)
-          → Measuring n items (i + 1) (left + (next - at + 4)) (right - (next - at + 4)) better u v (m .others)
+          → Measuring n items (i + 1) (left + (size + 4)) (right - (size + 4)) better u v (m .others)
       next-with u v c =
           record {
-            each = k .each ∙ each-more s at next rest m n a;
-            passed = passed-next n items i left right best s at next rest (k .passed) m better b;
+            each = k .each ∙ each-more s at size rest m n a;
+            passed = passed-next n items i left right best s at size rest (k .passed) m better b;
             counting = c;
           }
 
-      pub measuring-stays : used + (next - at + 4) ≤ n
-          → Measuring n items (i + 1) (left + (next - at + 4)) (right - (next - at + 4)) better (used + (next - at + 4)) leaves (m .others)
-      measuring-stays h = next-with _ _ (counting-stays n items i used leaves s at next rest (k .counting) m l h)
+      pub measuring-stays : used + (size + 4) ≤ n
+          → Measuring n items (i + 1) (left + (size + 4)) (right - (size + 4)) better (used + (size + 4)) leaves (m .others)
+      measuring-stays h = next-with _ _ (counting-stays n items i used leaves s at size rest (k .counting) m l h)
 
-      pub measuring-starts : n < used + (next - at + 4)
-          → Measuring n items (i + 1) (left + (next - at + 4)) (right - (next - at + 4)) better (101 + (next - at + 4)) (leaves + 1) (m .others)
-      measuring-starts h = next-with _ _ (counting-starts n items i used leaves s at next rest (k .counting) m l a h)
+      pub measuring-starts : n < used + (size + 4)
+          → Measuring n items (i + 1) (left + (size + 4)) (right - (size + 4)) better (101 + (size + 4)) (leaves + 1) (m .others)
+      measuring-starts h = next-with _ _ (counting-starts n items i used leaves s at size rest (k .counting) m l a h)

@@ -5,7 +5,6 @@ ghost use Rattle.item_list.specs.Steps.{listItems};
 ghost use Rattle.leaf_edit.specs.Division.{Sized, Divided, improved, chosen};
 use crate::Division;
 use format::ITEM_HEAD;
-use item_list::ItemStep;
 
 // The best two-way cut so far: the number of the item that it stands before, and its gap.
 enum Cutting {
@@ -59,36 +58,30 @@ pub fn measure(s: &[u8], nodesize: usize, count: usize) -> Division
     ensures { λ r. ⌜ Divided nodesize (listItems (now (s .entry))) r ⌝ }
 {
     let mut at: usize = 1;
-    let mut long = ITEM_HEAD;
+    let mut size = ITEM_HEAD;
     let mut i: usize = 0;
     let mut left: usize = 101;
     let mut right = 100 + s.len() + 4 * count;
     let mut best = Cutting::Nowhere;
     let mut used: usize = 101;
     let mut leaves: usize = 0;
-    loop {
-        let step = item_list::step_after(s, at, long);
-        match step {
-            ItemStep::End => return choose(best, leaves),
-            ItemStep::Broken => return Division::TooLarge,
-            ItemStep::Whole { next } => {
-                long = next - at;
-                let space = long + 4;
-                if nodesize < 101 + space {
-                    return Division::TooLarge;
-                }
-                best = improve(nodesize, left, right, i, best);
-                left += space;
-                right -= space;
-                i += 1;
-                at = next;
-                if used + space <= nodesize {
-                    used += space;
-                    continue;
-                }
-                leaves += 1;
-                used = 101 + space;
-            }
+    while at < s.len() {
+        size = item_list::size_after(s, at, size);
+        let space = size + 4;
+        if nodesize < 101 + space {
+            return Division::TooLarge;
         }
+        best = improve(nodesize, left, right, i, best);
+        left += space;
+        right -= space;
+        i += 1;
+        at += size;
+        if used + space <= nodesize {
+            used += space;
+            continue;
+        }
+        leaves += 1;
+        used = 101 + space;
     }
+    choose(best, leaves)
 }

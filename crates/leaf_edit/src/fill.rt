@@ -7,7 +7,6 @@ ghost use Rattle.format.specs.Sheets.{filled};
 ghost use Rattle.item_list.specs.Steps.{listItems};
 ghost use Rattle.leaf_edit.specs.Division.{Sized};
 use format::ITEM_HEAD;
-use item_list::ItemStep;
 
 // The number of the first item of each later leaf.
 pub fn fill_write(s: &[u8], nodesize: usize, count: usize, cuts: &mut [u16])
@@ -15,28 +14,21 @@ pub fn fill_write(s: &[u8], nodesize: usize, count: usize, cuts: &mut [u16])
     ensures { λ _. ⌜ now (cuts .exit) ≡ written 0 (filled nodesize 0 101 (listItems (now (s .entry)))) (now (cuts .entry)) ⌝ }
 {
     let mut at: usize = 1;
-    let mut long = ITEM_HEAD;
+    let mut size = ITEM_HEAD;
     let mut used: usize = 101;
     let mut leaves: usize = 0;
     let mut i: usize = 0;
-    loop {
-        let step = item_list::step_after(s, at, long);
-        match step {
-            ItemStep::End => return,
-            ItemStep::Broken => return,
-            ItemStep::Whole { next } => {
-                long = next - at;
-                let space = long + 4;
-                at = next;
-                i += 1;
-                if used + space <= nodesize {
-                    used += space;
-                    continue;
-                }
-                cuts[leaves] = (i - 1) as u16;
-                leaves += 1;
-                used = 101 + space;
-            }
+    while at < s.len() {
+        size = item_list::size_after(s, at, size);
+        let space = size + 4;
+        at += size;
+        i += 1;
+        if used + space <= nodesize {
+            used += space;
+            continue;
         }
+        cuts[leaves] = (i - 1) as u16;
+        leaves += 1;
+        used = 101 + space;
     }
 }

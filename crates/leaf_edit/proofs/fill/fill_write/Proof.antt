@@ -1,6 +1,6 @@
-use mathlib.Core.Path.{sym, _∙_}
+use mathlib.Core.Path.{sym, subst}
 use mathlib.Core.List.{List}
-use Prim.Native.Nat.{_-_, _<_}
+use Prim.Native.Nat.{ℕ, _+_, _-_, _<_}
 use native.Mathlib.Omega.{arith}
 use lib.ListN.{length}
 use denote.Ref.{now}
@@ -8,72 +8,51 @@ use Rattle.format.specs.Items.{Item}
 use Rattle.item_list.specs.Steps.{listItems}
 use Rattle.item_list.proofs.Steps.{PastItem, past-first, past-next}
 use Rattle.item_list.proofs.Reading.{list-some}
-use Rattle.item_list.proofs.Walks.{Walked, More, rest-all, rest-end, rest-broken, rest-item}
+use Rattle.item_list.proofs.Walks.{Walked, More, rest-all, rest-end, rest-item}
 use Rattle.leaf_edit.proofs.Filling.{Writing, writing-none, writing-all, writing-stays, writing-starts, room-left, passed-fewer}
 use Rattle.leaf_edit.proofs.fill.fill_write.Statement.{statement}
 use Rattle.leaf_edit.proofs.fill.fill_write.Tie as tie
 
 abbrev Inv-loop : tie.InvT-loop
-Inv-loop s nodesize count cuts₀ at₀ long₀ used₀ leaves₀ i₀ cuts at long used leaves i =
-    PastItem s at long × Walked s at (λ (rest : List Item). Writing nodesize (listItems s) cuts₀ cuts used leaves i rest)
+Inv-loop s nodesize count cuts₀ at₀ size₀ used₀ leaves₀ i₀ cuts at size used leaves i =
+    PastItem s at size × Walked s at (λ (rest : List Item). Writing nodesize (listItems s) cuts₀ cuts used leaves i rest)
 
 abbrev μ-loop : tie.MeasureT-loop
-μ-loop s nodesize count cuts₀ at₀ long₀ used₀ leaves₀ i₀ cuts at long used leaves i = length s - at
+μ-loop s nodesize count cuts₀ at₀ size₀ used₀ leaves₀ i₀ cuts at size used leaves i = length s - at
 
 loop-holds : tie.Need-loop-holds Inv-loop μ-loop
 loop-holds c = (past-first _ (list-some _ (c .before .before .pre .0 .listed)), record { items = _; rest = rest-all _ (c .before .before .pre .0 .listed); so = writing-none _ _ _ })
 
-step-after-requires : tie.Need-step-after-requires Inv-loop μ-loop
-step-after-requires c κs = let b = c .loop .inv .0 in (b .inside, b .low, b .high)
-
-enum-told : tie.Need-enum-told Inv-loop μ-loop
-enum-told c = c .match .keys1
-
-same-length : tie.Need-same-length Inv-loop μ-loop
-same-length c = c .before .before .before .loop .inv .1 .so .long
-
-returns : tie.Need-returns Inv-loop μ-loop
-returns c =
-    let i = c .before .before .before .loop .inv .1 in
-    writing-all _ _ _ _ _ _ _ _ (i .so) (rest-end _ _ _ (i .rest) (sym (c .before .before .step-after .ensures) ∙ c .enum-told .given .1))
-
-enum-told-2 : tie.Need-enum-told-2 Inv-loop μ-loop
-enum-told-2 c = c .match .keys2
-
-same-length-2 : tie.Need-same-length-2 Inv-loop μ-loop
-same-length-2 c = c .before .before .before .loop .inv .1 .so .long
-
-returns-2 : tie.Need-returns-2 Inv-loop μ-loop
-returns-2 c = absurd (rest-broken _ _ _ (c .before .before .before .loop .inv .1 .rest) (sym (c .before .before .step-after .ensures) ∙ c .enum-told2 .given .1))
-
-enum-known-step : tie.Need-enum-known-step Inv-loop μ-loop
-enum-known-step c = c .match .keys3
+size-after-requires : tie.Need-size-after-requires Inv-loop μ-loop
+size-after-requires c κs = let b = c .before .loop .inv .0 in (b .inside, b .low, b .high)
 
 -- an item is at hand
-more : (c : tie.After-known-told Inv-loop μ-loop) → More (now (c .before .before .before .before .before .before .before .args .s)) (c .before .before .before .before .loop .at) (c .before .step .given .0 .0) (c .before .before .before .before .loop .inv .1 .items)
-more c = rest-item _ _ _ _ (c .before .before .before .before .loop .inv .1 .rest) (sym (c .before .before .before .step-after .ensures) ∙ c .before .step .given .1)
+more : (c : tie.After-size-after Inv-loop μ-loop) → More (now (c .before .before .before .before .before .args .s)) (c .before .before .loop .at) (c .before .before .loop .at + c .size-after .result) (c .before .before .loop .inv .1 .items)
+more c =
+    subst (λ (k : ℕ). More (now (c .before .before .before .before .before .args .s)) (c .before .before .loop .at) (c .before .before .loop .at + k) (c .before .before .loop .inv .1 .items))
+    (sym (c .size-after .ensures)) (rest-item _ _ _ (c .before .before .loop .inv .1 .rest) (c .before .loop-test .taken))
 
 -- an item is at hand, so that not all were passed
-fewer : (c : tie.After-known-told Inv-loop μ-loop) → c .before .before .before .before .loop .i < 4096
+fewer : (c : tie.After-size-after Inv-loop μ-loop) → c .before .before .loop .i < 4096
 fewer c =
-    let z = c .before .before .before .before .before .before .before .pre .0 in
-    let e = passed-fewer _ _ _ _ _ _ _ _ _ _ _ (c .before .before .before .before .loop .inv .1 .so) (more c) in
+    let z = c .before .before .before .before .before .pre .0 in
+    let e = passed-fewer _ _ _ _ _ _ _ _ _ _ _ (c .before .before .loop .inv .1 .so) (more c) in
     omega (arith, e, z .count-is, z .few)
-
-sub-long : tie.Need-sub-long Inv-loop μ-loop
-sub-long c = let w = more c .whole in omega arith
 
 add-space : tie.Need-add-space Inv-loop μ-loop
 add-space c = let w = more c .whole in omega arith
+
+add-at : tie.Need-add-at Inv-loop μ-loop
+add-at c = let w = more c .whole in let z = c .before .before .before .before .before .pre .0 .small in omega arith
 
 add-i : tie.Need-add-i Inv-loop μ-loop
 add-i c = let e = fewer c in omega arith
 
 add-if1 : tie.Need-add-if1 Inv-loop μ-loop
-add-if1 c = let w = more c .whole in let l = c .before .before .before .before .loop .inv .1 .so .small in omega (arith, w, l)
+add-if1 c = let w = more c .whole in let l = c .before .before .loop .inv .1 .so .small in omega (arith, w, l)
 
 add-used : tie.Need-add-used Inv-loop μ-loop
-add-used c = let w = more (c .before) .whole in let l = c .before .before .before .before .before .loop .inv .1 .so .small in omega (arith, w, l)
+add-used c = let w = more (c .before) .whole in let l = c .before .before .before .loop .inv .1 .so .small in omega (arith, w, l)
 
 loop-less : tie.Need-loop-less Inv-loop μ-loop
 loop-less c = let w = more (c .before) .whole in omega arith
@@ -81,8 +60,8 @@ loop-less c = let w = more (c .before) .whole in omega arith
 loop-again : tie.Need-loop-again Inv-loop μ-loop
 loop-again c =
     let m = more (c .before) in
-    let i = c .before .before .before .before .before .loop .inv .1 in
-    (past-next (m .whole), record { items = m .others; rest = m .rest; so = writing-stays _ _ _ _ _ _ _ _ _ _ _ (i .so) m (c .before .before .before .before .before .before .before .before .pre .1) (c .if1 .taken) })
+    let i = c .before .before .before .loop .inv .1 in
+    (past-next (m .whole), record { items = m .others; rest = m .rest; so = writing-stays _ _ _ _ _ _ _ _ _ _ _ (i .so) m (c .before .before .before .before .before .before .pre .1) (c .if1 .taken) })
 
 sub-cuts : tie.Need-sub-cuts Inv-loop μ-loop
 sub-cuts c = omega arith
@@ -93,16 +72,16 @@ cast-cuts c = let e = fewer (c .before) in omega arith
 mul-cuts : tie.Need-mul-cuts Inv-loop μ-loop
 mul-cuts c =
     let e = fewer (c .before) in
-    let f = c .before .before .before .before .before .loop .inv .1 .so .few in
+    let f = c .before .before .before .loop .inv .1 .so .few in
     omega (arith, e, f)
 
 slice-write-cuts : tie.Need-slice-write-cuts Inv-loop μ-loop
-slice-write-cuts c = room-left _ _ _ _ _ _ _ _ _ _ _ (c .before .before .before .before .before .loop .inv .1 .so) (more (c .before)) (c .if1 .left) (c .before .before .before .before .before .before .before .before .pre .2)
+slice-write-cuts c = room-left _ _ _ _ _ _ _ _ _ _ _ (c .before .before .before .loop .inv .1 .so) (more (c .before)) (c .if1 .left) (c .before .before .before .before .before .before .pre .2)
 
 add-leaves : tie.Need-add-leaves Inv-loop μ-loop
 add-leaves c =
     let e = fewer (c .before) in
-    let f = c .before .before .before .before .before .loop .inv .1 .so .few in
+    let f = c .before .before .before .loop .inv .1 .so .few in
     omega (arith, e, f)
 
 add-used-2 : tie.Need-add-used-2 Inv-loop μ-loop
@@ -114,10 +93,18 @@ loop-less-2 c = let w = more (c .before) .whole in omega arith
 loop-again-2 : tie.Need-loop-again-2 Inv-loop μ-loop
 loop-again-2 c =
     let m = more (c .before) in
-    let i = c .before .before .before .before .before .loop .inv .1 in
-    (past-next (m .whole), record { items = m .others; rest = m .rest; so = writing-starts _ _ _ _ _ _ _ _ _ _ _ (i .so) m (c .if1 .left) (c .before .before .before .before .before .before .before .before .pre .2) _ (omega arith) (c .before .before .before .before .before .before .before .before .pre .0 .small) })
+    let i = c .before .before .before .loop .inv .1 in
+    (past-next (m .whole), record { items = m .others; rest = m .rest; so = writing-starts _ _ _ _ _ _ _ _ _ _ _ (i .so) m (c .if1 .left) (c .before .before .before .before .before .before .pre .2) _ (omega arith) (c .before .before .before .before .before .before .pre .0 .small) })
+
+same-length : tie.Need-same-length Inv-loop μ-loop
+same-length c = c .before .loop .inv .1 .so .long
+
+returns : tie.Need-returns Inv-loop μ-loop
+returns c =
+    let i = c .before .loop .inv .1 in
+    writing-all _ _ _ _ _ _ _ _ (i .so) (rest-end _ _ _ (i .rest) (c .loop-test .left))
 
 pub fill-write-spec : {M : Type 1} → statement M
 fill-write-spec =
     tie.close
-    (tie.spec Inv-loop μ-loop loop-holds step-after-requires enum-told same-length returns enum-told-2 same-length-2 returns-2 enum-known-step sub-long add-space add-i add-if1 add-used loop-less loop-again sub-cuts cast-cuts mul-cuts slice-write-cuts add-leaves add-used-2 loop-less-2 loop-again-2)
+    (tie.spec Inv-loop μ-loop loop-holds size-after-requires add-space add-at add-i add-if1 add-used loop-less loop-again sub-cuts cast-cuts mul-cuts slice-write-cuts add-leaves add-used-2 loop-less-2 loop-again-2 same-length returns)
