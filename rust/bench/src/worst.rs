@@ -119,6 +119,11 @@ fn by_turns() -> Vec<OwnedItem> {
     items
 }
 
+/// As many items as there is room for, three times as many as a list may have.
+fn too_many() -> Vec<OwnedItem> {
+    (0..(BYTES - 1) / 21).map(|n| item(4096, 176, n, vec![])).collect()
+}
+
 /// Its last byte cut off.
 fn cut(items: &[OwnedItem]) -> Vec<u8> {
     let mut sheet = sheet(items);
@@ -139,6 +144,7 @@ pub fn table(bench: &mut Bench) {
         ("four such records, each shuffled", 5, sheet(&one_hash(4, true, 0..))),
         ("the same of references made for one chain", 5, sheet(&one_hash(4, true, crowded))),
         ("four such records, the last byte cut off", 1, cut(&one_hash(4, true, 0..))),
+        ("12,483 items without data", 1, sheet(&too_many())),
     ];
     let mut usual = None;
     for (name, refusal, sheet) in lists {
