@@ -429,10 +429,12 @@ uint32_t leaf_edit_item(
 
 /* Asks change=1: 1 2 3 4 5 9 (12) 17* 21+; else change=2: 1 2 3 4 5 9 10 11 (12) 17* 21+; else
  * change=3: 1 2 3 4 5 9 10 11 (12) 17 21+; else change=4: 1 2 3 4 5 5n 13 21; else change=5: 1 2
- * 3 4 5 5n 13 15 21; else change=6: 1 2 3 4 5 5n 21; else 1 2 3!.
+ * 3 4 5 5n 13 15 21; else change=6: 1 2 3 4 5 5n 10 22 21; else 1 2 3!.
  * Gives the sheet after the change: 1 add block (a tree), 2 add data (a tree, b objectid, c
- * offset; amount), 3 add shared (a kind, b parent; amount), 4 drop block, 5 drop data, 6 drop
- * shared; another number is refused 3. */
+ * offset; amount), 3 add shared (a kind, b parent; amount), 4 drop block (a tree), 5 drop data
+ * (a tree, b objectid, c offset), 6 drop shared (a kind, b parent; amount: all that stands
+ * removes the reference); a field that a change does not use plays no part; another number is
+ * refused 3. */
 uint32_t ledger_post(
     uint32_t nodesize,
     const uint8_t *sheet, size_t sheet_len,

@@ -13,7 +13,7 @@ use Rattle.fields.specs.Numbers.{le, leBytes, areBytes}
 use Rattle.fields.specs.Parts.{part, written, spliced}
 use Rattle.fields.proofs.Lists.{by-test, all-left, all-right, same-yes}
 use Rattle.format.specs.Questions.{Answer, refused, accepted, ask, bind}
-use Rattle.format.specs.References.{Ref, makeRef, refBytes, refsBytes, startOf, Body, bodyWith, readBody, bodyBytes, totalOf}
+use Rattle.format.specs.References.{payloadLength, Ref, makeRef, refBytes, refsBytes, startOf, Body, bodyWith, readBody, bodyBytes, totalOf}
 use Rattle.format.specs.Bodies.{bodyFits, onBody, named}
 use Rattle.format.proofs.Refs.{whole, length-refBytes, refsBytes-append}
 use Rattle.format.proofs.Bodies.{on-body, read-start, read-total, read-sound, bodyBytes-read, length-bodyBytes, start-least, ReadsBody, body, short, strange, cutOff, readBody-decides}
@@ -28,6 +28,7 @@ use Rattle.inline_refs.proofs.Views.{Between, View, viewed}
 use Rattle.backref.specs.declared.plan.Outcome.the-variants.{Edit}
 use Rattle.backref.specs.declared.plan.Plan.{Plan}
 use Rattle.backref.specs.Plans.{edited, Planned}
+use Rattle.backref.proofs.NewBytes.{Holds}
 use Rattle.backref.proofs.Outcomes.{plan-edit}
 
 -- ---- a body is read, or a question is answered "no"
@@ -145,6 +146,13 @@ module _ (type : ℕ) (d : List ℕ) (b : Body) (bytes : T (areBytes d)) (e : re
 
 abbrev pub planOf : ℕ → ℕ → List ℕ → ℕ → ℕ → ℕ → Plan
 planOf p q new size t count = record { outcome = Edit; from = p; to = q; new = new; size = size; total = t; count = count }
+
+-- a plan that puts a reference there, by its own bytes
+pub own-bytes : (w : RefName) (count from to t size : ℕ) (new : List ℕ) (plan : Plan) → size ≡ 1 + payloadLength (kindOf w) → Holds w count new
+    → plan ≡ planOf from to new size t 0 → (plan ≡ planOf from to (plan .new) (1 + payloadLength (kindOf w)) t 0) × Holds w count (plan .new)
+own-bytes w count from to t size new plan s n e =
+    let is-new : new ≡ plan .new = ap (λ (q : Plan). q .new) (sym e) in
+    (e ∙ (λ j. planOf from to (is-new j) (s j) t 0), subst (Holds w count) is-new n)
 
 pub adding-plan : (plan : Plan) (d : List ℕ) (b : Body) (front old back : List Ref) (p q : ℕ) (bytes : List ℕ) (size t count : ℕ) (new : List Ref)
     (answer : Answer (List ℕ)) → Place d b front old back p q → length d ≤ 65535

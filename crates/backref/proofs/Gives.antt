@@ -34,7 +34,7 @@ use Rattle.backref.specs.ByName.{newRef, ownRank, byScan, positionOf, ad
 use Rattle.backref.proofs.NewBytes.{Holds, wanted-small}
 use Rattle.backref.proofs.Outcomes.{plan-refused}
 use Rattle.backref.proofs.PlannedTotals.{raised-yes, raised-no}
-use Rattle.backref.proofs.AddedAt.{ReadIn, total-read, scan-faults, ends, placed, planOf, adding-plan, wanted-is}
+use Rattle.backref.proofs.AddedAt.{ReadIn, total-read, scan-faults, ends, placed, planOf, adding-plan, own-bytes, wanted-is}
 
 or-true : (b : Bool) → b || true ≡ true
 or-true true = refl
@@ -219,13 +219,8 @@ module _ {from to : ℕ} {w : RefName} {count total amount : ℕ} {p : Plan} whe
   pub raise-edit : (size : ℕ) (new : List ℕ) → total ≤ 18446744073709551615 - amount → size ≡ 1 + payloadLength (kindOf w) → Holds w count new
       → p ≡ planOf from to new size (total + amount) 0 → Raised from to w count total amount p
   raise-edit size new h s n e =
-      let is-new : new ≡ p .new = ap (λ (q : Plan). q .new) (sym e) in
-      record {
-        full = λ k. absurd (omega arith);
-        is = λ _. e ∙ (λ j. planOf from to (is-new j) (s j) (total + amount) 0);
-        front = λ _. ap (take (1 + payloadLength (kindOf w))) (sym is-new) ∙ n .front;
-        long = λ _. ap length (sym is-new) ∙ n .long;
-      }
+      let own = own-bytes w count from to (total + amount) size new p s n e in
+      record { full = λ k. absurd (omega arith); is = λ _. own .0; front = λ _. own .1 .front; long = λ _. own .1 .long }
 
 pub give-fault : (type : ℕ) (d : List ℕ) (w : RefName) (rank amount n : ℕ) (plan : Plan)
     → Fault n ≡ scanOf w rank (startOf type d) (Open false) (refsIn type d) → plan .outcome ≡ Refused n → Planned plan d (addInline type d w amount)

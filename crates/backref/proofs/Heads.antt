@@ -83,49 +83,53 @@ total-only t body =
 abbrev pub totalPlan : ℕ → Plan
 totalPlan t = record { outcome = Edit; from = 8; to = 8; new = replicate 32 0; size = 0; total = t; count = 0 }
 
-change-is : (body : List ℕ) (change : TotalChange) → onTotal body (totalBy change) ≡ changeTotal body change
+pub change-is : (body : List ℕ) (change : TotalChange) → changeTotal body change ≡ onTotal body (totalBy change)
 unfolding raiseTotal lowerTotal reduceTotal
 change-is body (Raise amount) = refl
 change-is body LowerByOne = refl
 change-is body (Reduce amount) = refl
 
-module _ (body : List ℕ) (n : ℕ) (q : n ≡ headOf body) (p : Plan) where
-  pub head-refused : (next : Answer (List ℕ)) → (n ≡ 0 → ⊥) → p .outcome ≡ Refused n → Planned p body (onHead body next)
-  head-refused next z e = plan-refused p body (onHead body next) n e (head body n q .refuses next z)
+-- what becomes of a total, once it is known which change it is
+pub change-told : {change that : TotalChange} {a : Answer ℕ} (t : ℕ) → change ≡ that → totalBy that t ≡ a → totalBy change t ≡ a
+change-told t e h = ap (λ (x : TotalChange). totalBy x t) e ∙ h
 
-  pub total-head : (change : TotalChange) → (n ≡ 0 → ⊥) → p .outcome ≡ Refused n → Planned p body (changeTotal body change)
-  unfolding onTotal
-  total-head change z e = plan-same p body _ _ (change-is body change) (head-refused _ z e)
+pub head-refused : (body : List ℕ) (n : ℕ) → n ≡ headOf body → (p : Plan) (next : Answer (List ℕ)) → (n ≡ 0 → ⊥) → p .outcome ≡ Refused n
+    → Planned p body (onHead body next)
+head-refused body n q p next z e = plan-refused p body (onHead body next) n e (head body n q .refuses next z)
 
--- behind questions 3 and 6: the plan, once it is known which change it is
-module _ (body : List ℕ) (change : TotalChange) (t : ℕ) where
-  pub record Behind : Type 0 where
-    pub refuses : (p : Plan) (that : TotalChange) (m : ℕ) → change ≡ that → totalBy that t ≡ refused m → (p .outcome ≡ Refused m) × (p .from + p .size ≡ p .to)
-        → Planned p body (changeTotal body change) × (p .from + p .size ≡ p .to)
-    pub plans : (p : Plan) (that : TotalChange) (new : ℕ) → change ≡ that → totalBy that t ≡ accepted new → p ≡ totalPlan new
-        → Planned p body (changeTotal body change) × (p .from + p .size ≡ p .to)
+-- a call that moves the total
+module _ (body : List ℕ) (moved : ℕ → Answer ℕ) (answer : Answer (List ℕ)) where
+  -- behind questions 3 and 6: the plan, once it is known what the total becomes
+  pub record Behind (t : ℕ) : Type 0 where
+    pub refuses : (p : Plan) (m : ℕ) → moved t ≡ refused m → (p .outcome ≡ Refused m) × (p .from + p .size ≡ p .to)
+        → Planned p body answer × (p .from + p .size ≡ p .to)
+    pub plans : (p : Plan) (new : ℕ) → moved t ≡ accepted new → p ≡ totalPlan new
+        → Planned p body answer × (p .from + p .size ≡ p .to)
 
-  module _ (n : ℕ) (q : n ≡ headOf body) (z : n ≡ 0) (is : t ≡ le (part 0 8 body)) where
-    becomes : (that : TotalChange) (a : Answer ℕ) → change ≡ that → totalBy that t ≡ a
-        → changeTotal body change ≡ bind a (λ total. accepted (written 0 (leBytes 8 total) body))
-    unfolding onTotal totalOf
-    becomes that a e h =
-        sym (change-is body change) ∙ head body n q .passes _ z
-        ∙ ap (λ (x : Answer ℕ). bind x (λ total. accepted (written 0 (leBytes 8 total) body)))
-        (ap (totalBy change) (sym is) ∙ ap (λ (x : TotalChange). totalBy x t) e ∙ h)
+  module _ (whole : answer ≡ onTotal body moved) (n : ℕ) (q : n ≡ headOf body) where
+    pub total-head : (p : Plan) → (n ≡ 0 → ⊥) → p .outcome ≡ Refused n → Planned p body answer
+    unfolding onTotal
+    total-head p z e = plan-same p body _ answer (sym whole) (head-refused body n q p _ z e)
 
-    pub behind : Behind
-    unfolding edited bind
-    behind = record {
-      refuses = λ p that m e h o. (plan-refused p body _ m (o .0) (becomes that (refused m) e h), o .1);
-      plans = λ p that new e h o. (
-        subst (λ (x : Plan). Planned x body (changeTotal body change)) (sym o)
-            (plan-edit (totalPlan new) body _ (written 0 (leBytes 8 new) body) refl
-            (record { low = omega arith; order = omega arith; high = omega (arith, head body n q .long z); fits = head body n q .fits z; small = omega arith; full = refl })
-            (becomes that (accepted new) e h) (total-only new body)),
-        keeps-length o refl,
-      );
-    }
+    module _ (t : ℕ) (z : n ≡ 0) (is : t ≡ le (part 0 8 body)) where
+      becomes : (a : Answer ℕ) → moved t ≡ a → answer ≡ bind a (λ total. accepted (written 0 (leBytes 8 total) body))
+      unfolding onTotal totalOf
+      becomes a h =
+          whole ∙ head body n q .passes _ z
+          ∙ ap (λ (x : Answer ℕ). bind x (λ total. accepted (written 0 (leBytes 8 total) body))) (ap moved (sym is) ∙ h)
+
+      pub behind : Behind t
+      unfolding edited bind
+      behind = record {
+        refuses = λ p m h o. (plan-refused p body answer m (o .0) (becomes (refused m) h), o .1);
+        plans = λ p new h o. (
+          subst (λ (x : Plan). Planned x body answer) (sym o)
+              (plan-edit (totalPlan new) body answer (written 0 (leBytes 8 new) body) refl
+              (record { low = omega arith; order = omega arith; high = omega (arith, head body n q .long z); fits = head body n q .fits z; small = omega arith; full = refl })
+              (becomes (accepted new) h) (total-only new body)),
+          keeps-length o refl,
+        );
+      }
 
 -- ---- flags
 

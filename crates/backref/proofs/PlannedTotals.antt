@@ -1,9 +1,10 @@
 -- Laws of a total that is moved, and of one that stays. Assumes nothing.
-use mathlib.Core.Path.{_≡_, sym, ap, _∙_}
+use mathlib.Core.Path.{_≡_, refl, sym, ap, subst, _∙_}
+use mathlib.Core.Bool.{Bool, true, false, cond}
 use mathlib.Core.List.{List, _++_}
 use Prim.Native.Nat.{ℕ, _+_, _-_, _^_, _≤_, _<_}
 use native.Mathlib.Omega.{arith}
-use lib.Dec.{T}
+use lib.Dec.{T, leb}
 use lib.ListN.{length, take, drop, replicate, take-append-drop, length-append}
 use lib.Seq.{length-take-le, take-at, take-take, take-append-le}
 use borrow.Author.Tests.{le-leb, lt-leb, lt-ltb, le-ltb}
@@ -11,8 +12,9 @@ use Rattle.fields.specs.Numbers.{le, leBytes, areBytes}
 use Rattle.fields.specs.Parts.{part, written, spliced}
 use Rattle.fields.proofs.Numbers.{areBytes-take, leBytes-le-at, length-leBytes}
 use Rattle.fields.proofs.Parts.{length-written, written-front, spliced-written}
-use Rattle.format.specs.Questions.{refused, accepted, ask}
-use Rattle.format.specs.Bodies.{raisedBy, loweredByOne, reducedBy}
+use Rattle.format.specs.Questions.{Answer, refused, accepted, ask}
+use Rattle.format.specs.Bodies.{raisedBy, loweredByOne, loweredByPart, reducedBy}
+use Rattle.backref.specs.Totals.{oneFault, partFault}
 
 -- ---- a total that is moved
 
@@ -44,6 +46,64 @@ lowered-yes t h = simp (le-leb _ _ h)
 pub lowered-no : (t : ℕ) → t < 2 → loweredByOne t ≡ refused 13
 unfolding loweredByOne ask
 lowered-no t h = simp (lt-leb _ _ h)
+
+-- the questions of what goes off a total, as one number: 0, or the one that is answered "no"
+pub record Asked (n : ℕ) (answer : Answer ℕ) (result : ℕ) : Type 0 where
+  pub refuses : (n ≡ 0 → ⊥) → answer ≡ refused n
+  pub passes : n ≡ 0 → answer ≡ accepted result
+
+pub one-low : (t : ℕ) → t < 2 → 13 ≡ oneFault t
+unfolding oneFault
+one-low t h = simp (lt-leb _ _ h)
+
+pub one-right : (t : ℕ) → 2 ≤ t → 0 ≡ oneFault t
+unfolding oneFault
+one-right t h = simp (le-leb _ _ h)
+
+pub one-asked : (amount n t : ℕ) → n ≡ oneFault t → amount ≡ 1 → Asked n (loweredByOne t) (t - amount)
+unfolding oneFault loweredByOne ask
+one-asked amount n t q e =
+    subst (λ (m : ℕ). Asked m (loweredByOne t) (t - amount)) (sym q) (subst (λ (k : ℕ). Asked (oneFault t) (loweredByOne t) (t - k)) (sym e) (go (leb 2 t)))
+  where
+    go : (x : Bool) → Asked (cond x 0 13) (ask x 13 (accepted (t - 1))) (t - 1)
+    go true = record { refuses = λ h. absurd (h refl); passes = λ h. refl }
+    go false = record { refuses = λ h. refl; passes = λ h. absurd (omega arith) }
+
+two-asked : (x y : Bool) (result : ℕ) → Asked (cond x (cond y 0 22) 10) (ask x 10 (ask y 22 (accepted result))) result
+unfolding ask
+two-asked true true result = record { refuses = λ h. absurd (h refl); passes = λ h. refl }
+two-asked true false result = record { refuses = λ h. refl; passes = λ h. absurd (omega arith) }
+two-asked false y result = record { refuses = λ h. refl; passes = λ h. absurd (omega arith) }
+
+module _ (amount standing : ℕ) where
+  pub part-none : amount ≡ 0 → 10 ≡ partFault amount standing
+  unfolding partFault
+  part-none h =
+      let z : amount < 1 = omega arith in
+      simp (lt-leb _ _ z)
+
+  pub part-much : (amount ≡ 0 → ⊥) → standing < amount → 22 ≡ partFault amount standing
+  unfolding partFault
+  part-much h k =
+      let z : 1 ≤ amount = omega arith in
+      simp (le-leb _ _ z, lt-leb _ _ k)
+
+  pub part-right : (amount ≡ 0 → ⊥) → amount ≤ standing → 0 ≡ partFault amount standing
+  unfolding partFault
+  part-right h k =
+      let z : 1 ≤ amount = omega arith in
+      simp (le-leb _ _ z, le-leb _ _ k)
+
+  module _ (n t : ℕ) (q : n ≡ partFault amount standing) where
+    pub part-asked : Asked n (loweredByPart amount standing t) (t - amount)
+    unfolding partFault loweredByPart
+    part-asked = subst (λ (m : ℕ). Asked m (loweredByPart amount standing t) (t - amount)) (sym q) (two-asked (leb 1 amount) (leb amount standing) (t - amount))
+
+    pub part-refused : (n ≡ 0 → ⊥) → loweredByPart amount standing t ≡ refused n
+    part-refused z = part-asked .refuses z
+
+    pub part-passed : (u : ℕ) → n ≡ 0 → u ≡ t - amount → loweredByPart amount standing t ≡ accepted u
+    part-passed u z e = part-asked .passes z ∙ ap accepted (sym e)
 
 -- ---- a body whose first eight bytes stay
 

@@ -1,4 +1,4 @@
--- Calls on a body by the wanted name: where an added reference goes; one that loses one count or is taken out whole.
+-- Calls on a body by the wanted name: where an added reference goes; one that loses one count or an amount or is taken out whole.
 -- Assumes nothing.
 use mathlib.Core.Path.{_≡_}
 use mathlib.Core.Bool.{Bool, true, false, cond}
@@ -12,7 +12,7 @@ use Rattle.fields.specs.Parts.{written}
 use Rattle.format.specs.declared.SharedRef.{SharedRef}
 use Rattle.format.specs.Questions.{Answer, accepted, bind, found, TakenOut}
 use Rattle.format.specs.References.{payloadLength, Ref, makeRef, refBytes, bodyWith, bodyBytes, rankOf}
-use Rattle.format.specs.Bodies.{onBody, named, one, dropInline, dropInlineTreeRef, dropInlineDataRef, RefPosition, positionAnywhere, positionByScan, addAt, addInlineData, addInlineShared, keyedAt}
+use Rattle.format.specs.Bodies.{onBody, named, one, loweredByPart, dropInline, dropInlineTreeRef, dropInlineDataRef, RefPosition, positionAnywhere, positionByScan, addAt, addInlineData, addInlineShared, keyedAt}
 use Rattle.inline_refs.specs.declared.ref_name.RefName.{RefName}
 use Rattle.inline_refs.specs.declared.ref_name.RefName.the-variants.{Block, Data, SharedBlock, SharedData}
 use Rattle.inline_refs.specs.declared.scan.Seen.{Seen}
@@ -20,6 +20,7 @@ use Rattle.inline_refs.specs.declared.noted.AddAt.{AddAt}
 use Rattle.inline_refs.specs.Scans.{kindOf, fieldsOf, addAnywhere, addByScan}
 use Rattle.backref.specs.declared.plan.Outcome.the-variants.{Edit, Refused}
 use Rattle.backref.specs.declared.plan.Plan.{Plan}
+use Rattle.backref.specs.Totals.{oneFault, partFault}
 
 -- bytes in front of which a reference stands, with its count at a position of its payload, 0 where it has none
 unfoldable pub withCount : ℕ → ℕ → List ℕ → List ℕ
@@ -80,12 +81,26 @@ pub record Raised (from to : ℕ) (wanted : RefName) (count total amount : ℕ) 
 
 -- ---- drops
 
--- drop_inline_tree_ref and drop_inline_data_ref in one. A shared reference is dropped by the same rule, which no call asks for
-abbrev pub dropNamed : ℕ → List ℕ → RefName → Answer (List ℕ)
-dropNamed type body (Block name) = dropInlineTreeRef type body name
-dropNamed type body (Data name) = dropInlineDataRef type body name
-dropNamed type body (SharedBlock parent) = dropInline type body 182 (one parent)
-dropNamed type body (SharedData parent) = dropInline type body 184 (one parent)
+-- one goes off a block or data reference
+abbrev pub OneOff : RefName → ℕ → Type 0
+OneOff (Block name) amount = amount ≡ 1
+OneOff (Data name) amount = amount ≡ 1
+OneOff (SharedBlock parent) amount = Unit {0}
+OneOff (SharedData parent) amount = Unit {0}
+
+-- drop_inline_tree_ref and drop_inline_data_ref, and an amount off a shared reference, in one
+abbrev pub dropNamed : ℕ → List ℕ → RefName → ℕ → Answer (List ℕ)
+dropNamed type body (Block name) amount = dropInlineTreeRef type body name
+dropNamed type body (Data name) amount = dropInlineDataRef type body name
+dropNamed type body (SharedBlock parent) amount = dropInline type body 182 (one parent) amount (loweredByPart amount)
+dropNamed type body (SharedData parent) amount = dropInline type body 184 (one parent) amount (loweredByPart amount)
+
+-- the question of it that is answered "no", or 0
+unfoldable pub dropFault : RefName → ℕ → ℕ → ℕ → ℕ
+dropFault (Block name) amount standing total = oneFault total
+dropFault (Data name) amount standing total = oneFault total
+dropFault (SharedBlock parent) amount standing total = partFault amount standing
+dropFault (SharedData parent) amount standing total = partFault amount standing
 
 -- take_inline_shared behind its question 3
 unfoldable pub takeInline : ℕ → List ℕ → RefName → Answer TakenOut

@@ -15,14 +15,14 @@ ghost use Rattle.backref.specs.ByName.{addKeyed};
 pub fn drop_inline_tree_ref(item_type: u8, body: &[u8], tree: u64, out: &mut [u8]) -> Edited
     ensures { λ r. ⌜ Answered (heldBody (length (now (out .entry))) (dropInlineTreeRef «item_type» (now (body .entry)) (record { tree = tree }))) r (now (out .entry)) (now (out .exit)) ⌝ }
 {
-    let plan = crate::plan_drop(item_type, body, RefName::Block(BlockRef { tree }));
+    let plan = crate::plan_drop(item_type, body, RefName::Block(BlockRef { tree }), 1);
     crate::write_plan(body, plan, out)
 }
 
 pub fn drop_inline_data_ref(item_type: u8, body: &[u8], name: DataRef, out: &mut [u8]) -> Edited
     ensures { λ r. ⌜ Answered (heldBody (length (now (out .entry))) (dropInlineDataRef «item_type» (now (body .entry)) name)) r (now (out .entry)) (now (out .exit)) ⌝ }
 {
-    let plan = crate::plan_drop(item_type, body, RefName::Data(name));
+    let plan = crate::plan_drop(item_type, body, RefName::Data(name), 1);
     crate::write_plan(body, plan, out)
 }
 

@@ -50,6 +50,7 @@ pub use total_calls::reduce_total;
 pub use total_calls::with_flags;
 pub use total_plans::TotalChange;
 pub use total_plans::plan_total;
+pub use total_plans::plan_total_part;
 pub use write::plan_length;
 pub use write::put_edit;
 pub use write::write_plan;

@@ -4,14 +4,14 @@ use crate::Plan;
 use format::BODY_HEAD;
 use format::MOST_DATA;
 ghost use mathlib.Core.Path.{_≡_};
-ghost use Prim.Native.Nat.{_+_};
+ghost use Prim.Native.Nat.{_+_, _-_};
 ghost use lib.ListN.{replicate};
 ghost use Rattle.fields.specs.Numbers.{leBytes};
 ghost use Rattle.fields.specs.Parts.{written};
-ghost use Rattle.format.specs.Bodies.{withFlags};
+ghost use Rattle.format.specs.Bodies.{loweredByPart, onTotal, withFlags};
 ghost use Rattle.backref.specs.Plans.{Planned};
 ghost use Rattle.backref.specs.Reads.{headOf};
-ghost use Rattle.backref.specs.Totals.{changeTotal};
+ghost use Rattle.backref.specs.Totals.{changeTotal, oneFault, partFault};
 
 // What becomes of a total.
 pub enum TotalChange {
@@ -70,6 +70,56 @@ pub fn plan_total(body: &[u8], change: TotalChange) -> Plan
             set_total(total - amount)
         }
     }
+}
+
+// Question 13 of a total that one goes off: 0, or 13 where it is answered "no".
+pub fn one_fault(total: u64) -> u32
+    ensures { λ r. ⌜ r ≡ oneFault total ⌝ }
+{
+    if total < 2 {
+        return 13;
+    }
+    0
+}
+
+// Questions 10 and 22 of an amount that is taken where so much stands: 0, or the one that is answered "no".
+pub fn part_fault(amount: u32, standing: u32) -> u32
+    ensures { λ r. ⌜ r ≡ partFault amount standing ⌝ }
+{
+    if amount == 0 {
+        return 10;
+    }
+    if standing < amount {
+        return 22;
+    }
+    0
+}
+
+// The total with an amount off. In a balanced list no total is below what stands; elsewhere it ends at 0.
+pub fn total_less(total: u64, amount: u32) -> u64
+    ensures { λ r. ⌜ r ≡ total - amount ⌝ }
+{
+    let off = amount as u64;
+    if total < off {
+        return 0;
+    }
+    total - off
+}
+
+// An amount off the total, where so much stands.
+pub fn plan_total_part(body: &[u8], amount: u32, standing: u32) -> Plan
+    ensures { λ r. ⌜ Planned r (now (body .entry)) (onTotal (now (body .entry)) (loweredByPart amount standing)) ⌝ }
+    ensures { λ r. ⌜ r .from + r .size ≡ r .to ⌝ }
+{
+    let short = head_fault(body);
+    if short != 0 {
+        return crate::refuse(short);
+    }
+    let fault = part_fault(amount, standing);
+    if fault != 0 {
+        return crate::refuse(fault);
+    }
+    set_total(total_less(fields::get_u64_le(body, 0), amount))
 }
 
 // A number of eight bytes in front of zeros.

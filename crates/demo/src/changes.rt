@@ -129,6 +129,20 @@ fn take_data(card: Card, name: DataRef, what: &[u8]) -> Card {
     post(card, MAP, what, Change::DropData { extent: MAP, name })
 }
 
+fn take_shared(card: Card, amount: u32, what: &[u8]) -> Card {
+    let name = leaf();
+    post(
+        card,
+        MAP,
+        what,
+        Change::DropShared {
+            extent: MAP,
+            name,
+            amount,
+        },
+    )
+}
+
 fn gives(card: Card) -> Card {
     let a = give_block(card, 300, b"give the block to tree 300");
     let b = give_block(a, 300, b"give the block to tree 300 again");
@@ -171,14 +185,8 @@ fn takes(card: Card) -> Card {
         file(5, 999),
         b"take the map from file 999 of tree 5, which never had it",
     );
-    let name = leaf();
-    let change = Change::DropShared { extent: MAP, name };
-    post(
-        d,
-        MAP,
-        b"take the map from the shared leaf, all three",
-        change,
-    )
+    let e = take_shared(d, 2, b"take the map from the shared leaf, two of three");
+    take_shared(e, 1, b"take the map from the shared leaf, the last one")
 }
 
 pub fn show() {
@@ -186,7 +194,7 @@ pub fn show() {
     let before = with_block(with_map(card::empty()));
     words::print(card::list(&before.bytes, before.size));
     say::text(
-        b"\nTen changes, posted one after the other, each with the answer and the total that its record then has:\n\n",
+        b"\nEleven changes, posted one after the other, each with the answer and the total that its record then has:\n\n",
     );
     let after = takes(gives(before));
     say::text(b"\nThe card afterwards:\n\n");

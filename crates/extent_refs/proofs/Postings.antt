@@ -66,9 +66,9 @@ stands-in nodesize sheet (some (AddShared extent name amount)) room =
     (λ y. posted-no nodesize sheet _ _ room (no-narrow (name .kind) (ltb-false _ _ y)) (no-kind (name .kind) (ltb-false _ _ y)))
 stands-in nodesize sheet (some (DropBlock extent name)) room = refl
 stands-in nodesize sheet (some (DropData extent name)) room = refl
-stands-in nodesize sheet (some (DropShared extent name)) room =
+stands-in nodesize sheet (some (DropShared extent name amount)) room =
     by-test (ltb (name .kind) 256)
-    (λ y. ap (λ (k : ℕ). posted nodesize sheet (DropShared extent (record { kind = k; parent = name .parent })) room) (narrow (name .kind) (ltb-true _ _ y)))
+    (λ y. ap (λ (k : ℕ). posted nodesize sheet (DropShared extent (record { kind = k; parent = name .parent }) amount) room) (narrow (name .kind) (ltb-true _ _ y)))
     (λ y. posted-no nodesize sheet _ _ room (no-narrow (name .kind) (ltb-false _ _ y)) (no-kind (name .kind) (ltb-false _ _ y)))
 
 pub answered-in : (nodesize : ℕ) (sheet : List ℕ) (o : Option Change) (room : ℕ) {change : Change} {r : Edited} {old new : List ℕ} → change ≡ standIn o
@@ -106,10 +106,10 @@ module _ (number extent a b c amount : ℕ) where
   from-5 e = sym (ap (λ (n : ℕ). standIn (changeOf n extent a b c amount)) e)
 
   pub from-6 : {kind : ℕ} → number ≡ 6 → kind ≡ narrowed a
-      → DropShared extent (record { kind = kind; parent = b }) ≡ standIn (changeOf number extent a b c amount)
+      → DropShared extent (record { kind = kind; parent = b }) amount ≡ standIn (changeOf number extent a b c amount)
   unfolding standIn changeOf
   from-6 e k =
-      ap (λ (n : ℕ). DropShared extent (record { kind = n; parent = b })) k
+      ap (λ (n : ℕ). DropShared extent (record { kind = n; parent = b }) amount) k
       ∙ sym (ap (λ (n : ℕ). standIn (changeOf n extent a b c amount)) e)
 
   from-other : {change : Change} → change ≡ standIn none
@@ -125,13 +125,3 @@ module _ (number extent a b c amount : ℕ) where
   pub other-high : {change : Change} → 4 ≤ number → change ≡ standIn none → (number ≡ 4 → ⊥) → (number ≡ 5 → ⊥) → (number ≡ 6 → ⊥)
       → change ≡ standIn (changeOf number extent a b c amount)
   other-high h e e₄ e₅ e₆ = from-other e (λ z. omega arith) (λ z. omega arith) (λ z. omega arith) e₄ e₅ e₆
-
-  -- the amount of a drop plays no part
-  pub from-drop : {change : Change} → 4 ≤ number → change ≡ standIn (changeOf number extent a b c 0)
-      → change ≡ standIn (changeOf number extent a b c amount)
-  unfolding changeOf
-  from-drop h e =
-      let e₁ : number ≡ 1 → ⊥ = λ z. omega arith in
-      let e₂ : number ≡ 2 → ⊥ = λ z. omega arith in
-      let e₃ : number ≡ 3 → ⊥ = λ z. omega arith in
-      e ∙ simp (ne-eqb _ _ e₁, ne-eqb _ _ e₂, ne-eqb _ _ e₃)

@@ -78,7 +78,7 @@ wide p t = go (eqb (p .number) 1) (eqb (p .number) 2) (eqb (p .number) 3) (eqb (
         (cond is3 (some (AddShared (p .extent) (record { kind = p .a; parent = p .b }) (p .amount)))
         (cond is4 (some (DropBlock (p .extent) (record { tree = p .a })))
         (cond is5 (some (DropData (p .extent) (record { tree = p .a; objectid = p .b; offset = p .c })))
-        (cond is6 (some (DropShared (p .extent) (record { kind = p .a; parent = p .b })))
+        (cond is6 (some (DropShared (p .extent) (record { kind = p .a; parent = p .b }) (p .amount)))
         none)))))))
     go true is2 is3 is4 is5 is6 = record { fields = one-field (p .a) h₁ }
     go false true is3 is4 is5 is6 = record { fields = three-fields }

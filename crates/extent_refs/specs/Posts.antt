@@ -25,7 +25,7 @@ changeOf number extent a b c amount =
     (cond (eqb number 3) (some (AddShared extent (record { kind = a; parent = b }) amount))
     (cond (eqb number 4) (some (DropBlock extent (record { tree = a })))
     (cond (eqb number 5) (some (DropData extent (record { tree = a; objectid = b; offset = c })))
-    (cond (eqb number 6) (some (DropShared extent (record { kind = a; parent = b })))
+    (cond (eqb number 6) (some (DropShared extent (record { kind = a; parent = b }) amount))
     none)))))
 
 -- another number is refusal 3, put where 3 stands
@@ -39,13 +39,13 @@ unfoldable pub narrowed : ℕ → ℕ
 narrowed kind = cond (ltb kind 256) kind 0
 
 unfoldable pub standIn : Option Change → Change
-standIn none = DropShared 0 (record { kind = 0; parent = 0 })
+standIn none = DropShared 0 (record { kind = 0; parent = 0 }) 0
 standIn (some (AddBlock extent name)) = AddBlock extent name
 standIn (some (AddData extent name amount)) = AddData extent name amount
 standIn (some (AddShared extent name amount)) = AddShared extent (record { kind = narrowed (name .kind); parent = name .parent }) amount
 standIn (some (DropBlock extent name)) = DropBlock extent name
 standIn (some (DropData extent name)) = DropData extent name
-standIn (some (DropShared extent name)) = DropShared extent (record { kind = narrowed (name .kind); parent = name .parent })
+standIn (some (DropShared extent name amount)) = DropShared extent (record { kind = narrowed (name .kind); parent = name .parent }) amount
 
 -- ---- one call: the numbers that it was given, what the lent output held before and after, the code and the lent length
 

@@ -23,7 +23,11 @@ fn unknown() -> Change
     ensures { λ r. ⌜ r ≡ standIn none ⌝ }
 {
     let name = SharedRef { kind: 0, parent: 0 };
-    Change::DropShared { extent: 0, name }
+    Change::DropShared {
+        extent: 0,
+        name,
+        amount: 0,
+    }
 }
 
 fn add_of(number: u8, extent: u64, a: u64, b: u64, c: u64, amount: u32) -> Change
@@ -58,10 +62,9 @@ fn add_of(number: u8, extent: u64, a: u64, b: u64, c: u64, amount: u32) -> Chang
     unknown()
 }
 
-// The amount of a drop plays no part.
-fn drop_of(number: u8, extent: u64, a: u64, b: u64, c: u64) -> Change
+fn drop_of(number: u8, extent: u64, a: u64, b: u64, c: u64, amount: u32) -> Change
     requires { ⌜ 4 ≤ number ⌝ }
-    ensures { λ r. ⌜ r ≡ standIn (changeOf number extent a b c 0) ⌝ }
+    ensures { λ r. ⌜ r ≡ standIn (changeOf number extent a b c amount) ⌝ }
 {
     if number == 4 {
         let name = BlockRef { tree: a };
@@ -78,7 +81,11 @@ fn drop_of(number: u8, extent: u64, a: u64, b: u64, c: u64) -> Change
     if number == 6 {
         let kind = narrow(a);
         let name = SharedRef { kind, parent: b };
-        return Change::DropShared { extent, name };
+        return Change::DropShared {
+            extent,
+            name,
+            amount,
+        };
     }
     unknown()
 }
@@ -89,5 +96,5 @@ pub fn change_of(number: u8, extent: u64, a: u64, b: u64, c: u64, amount: u32) -
     if number < 4 {
         return add_of(number, extent, a, b, c, amount);
     }
-    drop_of(number, extent, a, b, c)
+    drop_of(number, extent, a, b, c, amount)
 }

@@ -13,17 +13,17 @@ use Rattle.format.specs.declared.Change.{Change}
 use Rattle.format.specs.Questions.{ask, bind, needed, found, ifAbsent, also, held, codeOf}
 use Rattle.format.specs.Hash.{dataRefHash}
 use Rattle.format.specs.References.{rowIn, known, payloadLength, countPosition, counted, fieldCount, Ref, makeRef, weightOf, refAt, readRefs, refBytes, refsBytes, totalOf, flagsOf, startOf, readBody, bodyBytes, rankOf, rank, falls, follows}
-use Rattle.format.specs.Bodies.{triple, bodyFits, sharedKind, onBody, onHead, named, raisedBy, loweredByOne, reducedBy, onTotal, raiseTotal, lowerTotal, reduceTotal, less, dropInline, dropInlineTreeRef, dropInlineDataRef, takeInlineShared, keyedCount, dropKeyedDataRef, stops, gapAt, insertPosition, standingOr, positionAnywhere, scanned, positionByScan, isGap, standingWeight, addAt, addInlineTreeRef, addInlineData, addInlineShared, keyedDataRefBody}
+use Rattle.format.specs.Bodies.{triple, bodyFits, sharedKind, onBody, onHead, named, raisedBy, loweredByOne, loweredByPart, onTotal, raiseTotal, lowerTotal, less, dropInline, dropInlineTreeRef, dropInlineDataRef, keyedCount, dropKeyedDataRef, stops, gapAt, insertPosition, standingOr, positionAnywhere, scanned, positionByScan, isGap, standingWeight, addAt, addInlineTreeRef, addInlineData, addInlineShared, keyedDataRefBody}
 use Rattle.format.specs.Items.{Item, keyOf, sameKey, keyBelow, itemLength, wholeItem, firstItem, readItems, readSheet, keyBytes, itemBytes, itemsBytes, sheetBytes, nodesizeFits, dataFits, onSheet, sheetHolds, heldSheet}
 use Rattle.format.specs.Sheets.{deleted}
 use Rattle.format.specs.Apply.{inlineLimit, isRecord, onRecord, replaced, keyedBody, applyKeyedAdd, sharedBody, applySharedAdd, flagged, dropTreeRef}
 use Rattle.format.specs.Names.{sameName, isRefItem, viewRecord, inForm, viewRefItem, viewOf, refEntry, refEntries, viewEntries, itemEntries, entries, wellFormed, viewTotal, balanced}
-use Rattle.format.specs.Ledger.{added, droppedAt, dropDataRef, sharedCount, dropSharedRef, changed, post, posted}
+use Rattle.format.specs.Ledger.{added, droppedAt, dropDataRef, sharedCount, lessItem, dropSharedRef, changed, post, posted}
 use Rattle.format.specs.History.{Posting, answerTo, enter, itemsIn}
 
 -- what a posting to a sheet answers, as a code. An `unfolding` line with `computed` on it opens each definition on the line below
 unfoldable pub computed : List ℕ → Posting → ℕ
-unfolding same le leBytes be beBytes words wordBytes step steps byteStep crcRun ask bind needed found ifAbsent also held codeOf dataRefHash rowIn known payloadLength countPosition counted fieldCount weightOf refAt readRefs refBytes refsBytes totalOf flagsOf startOf readBody bodyBytes rankOf rank falls follows bodyFits sharedKind onBody onHead named raisedBy loweredByOne reducedBy onTotal raiseTotal lowerTotal reduceTotal less dropInline dropInlineTreeRef dropInlineDataRef takeInlineShared keyedCount dropKeyedDataRef stops gapAt insertPosition standingOr positionAnywhere scanned positionByScan isGap standingWeight addAt addInlineTreeRef addInlineData addInlineShared keyedDataRefBody sameKey keyBelow itemLength wholeItem firstItem readItems readSheet keyBytes itemBytes itemsBytes sheetBytes nodesizeFits dataFits onSheet sheetHolds heldSheet deleted inlineLimit isRecord onRecord replaced keyedBody applyKeyedAdd sharedBody applySharedAdd flagged dropTreeRef sameName isRefItem viewRecord inForm viewRefItem viewOf refEntry refEntries viewEntries itemEntries entries wellFormed viewTotal balanced added droppedAt dropDataRef sharedCount dropSharedRef changed post posted answerTo itemsIn enter
+unfolding same le leBytes be beBytes words wordBytes step steps byteStep crcRun ask bind needed found ifAbsent also held codeOf dataRefHash rowIn known payloadLength countPosition counted fieldCount weightOf refAt readRefs refBytes refsBytes totalOf flagsOf startOf readBody bodyBytes rankOf rank falls follows bodyFits sharedKind onBody onHead named raisedBy loweredByOne loweredByPart onTotal raiseTotal lowerTotal less dropInline dropInlineTreeRef dropInlineDataRef keyedCount dropKeyedDataRef stops gapAt insertPosition standingOr positionAnywhere scanned positionByScan isGap standingWeight addAt addInlineTreeRef addInlineData addInlineShared keyedDataRefBody sameKey keyBelow itemLength wholeItem firstItem readItems readSheet keyBytes itemBytes itemsBytes sheetBytes nodesizeFits dataFits onSheet sheetHolds heldSheet deleted inlineLimit isRecord onRecord replaced keyedBody applyKeyedAdd sharedBody applySharedAdd flagged dropTreeRef sameName isRefItem viewRecord inForm viewRefItem viewOf refEntry refEntries viewEntries itemEntries entries wellFormed viewTotal balanced added droppedAt dropDataRef sharedCount lessItem dropSharedRef changed post posted answerTo itemsIn enter
 computed sheet p = codeOf (answerTo sheet p)
 
 -- ---- names

@@ -1,6 +1,6 @@
 -- A list of postings computed: from a balanced sheet to the sheet that document 01 says, with what each posting answers, what the
 -- history says of names and what they count in the end. Each of the six changes is accepted in each of its forms, inline and at
--- an item, and refused with 3, 5, 9, 10, 11, 13, 15, 17 and 21; `Singles` has 1, 2 and 4. Assumes nothing.
+-- an item, and refused with 3, 5, 9, 10, 11, 13, 15, 17, 21 and 22; `Singles` has 1, 2 and 4. Assumes nothing.
 use mathlib.Core.Path.{_≡_, refl, ap, _∙_}
 use mathlib.Core.Bool.{Bool, true, false}
 use mathlib.Core.List.{List, [], _∷_}
@@ -29,9 +29,10 @@ opening =
     (blockRecord 8192 4 (makeRef 176 (5 ∷ []) 1 ∷ makeRef 182 (100 ∷ []) 1 ∷ [])
     ∷ item 8192 176 9 []
     ∷ item 8192 182 400 []
-    ∷ dataRecord 12288 9 (makeRef 172 (5 ∷ []) 0 ∷ dataRef 64 2 ∷ makeRef 184 (50 ∷ []) 3 ∷ [])
+    ∷ dataRecord 12288 14 (makeRef 172 (5 ∷ []) 0 ∷ dataRef 64 2 ∷ makeRef 184 (50 ∷ []) 3 ∷ [])
     ∷ item 12288 178 0x417b1dbc82f63b78 (keyedDataRefBody (byEntry 128) 2)
     ∷ item 12288 184 300 (leBytes 4 2)
+    ∷ item 12288 184 301 (leBytes 4 5)
     ∷ blockInfoRecord 16384 1 (makeRef 176 (5 ∷ []) 1 ∷ [])
     ∷ blockRecord 20480 1 (makeRef 182 (100 ∷ []) 1 ∷ [])
     ∷ others)
@@ -44,7 +45,8 @@ unfoldable pub closing : List ℕ
 closing =
     sheetBytes
     (kept
-    ∷ dataRecord 12288 12 (makeRef 172 (5 ∷ []) 0 ∷ dataRef 128 6 ∷ dataRef 64 4 ∷ makeRef 184 (60 ∷ []) 2 ∷ [])
+    ∷ dataRecord 12288 14 (makeRef 172 (5 ∷ []) 0 ∷ dataRef 128 6 ∷ dataRef 64 4 ∷ makeRef 184 (60 ∷ []) 1 ∷ [])
+    ∷ item 12288 184 301 (leBytes 4 3)
     ∷ blockInfoRecord 16384 1 (makeRef 176 (4 ∷ []) 1 ∷ [])
     ∷ blockRecord 20480 0 []
     ∷ others)
@@ -64,8 +66,16 @@ expected =
     ∷ expect (DropBlock 8192 (tree 9)) 0
     ∷ expect (DropBlock 8192 (tree 9)) 5
     ∷ expect (AddShared 12288 (parent 184 300) 1) 9
-    ∷ expect (DropShared 12288 (parent 184 300)) 0
-    ∷ expect (DropShared 8192 (parent 182 400)) 0
+    ∷ expect (DropShared 12288 (parent 184 300) 0) 10
+    ∷ expect (DropShared 12288 (parent 184 300) 3) 22
+    ∷ expect (DropShared 12288 (parent 184 300) 1) 0
+    ∷ expect (DropShared 12288 (parent 184 300) 2) 22
+    ∷ expect (DropShared 12288 (parent 184 300) 1) 0
+    ∷ expect (DropShared 12288 (parent 184 300) 1) 5
+    ∷ expect (DropShared 12288 (parent 184 301) 2) 0
+    ∷ expect (DropShared 8192 (parent 182 400) 0) 10
+    ∷ expect (DropShared 8192 (parent 182 400) 2) 22
+    ∷ expect (DropShared 8192 (parent 182 400) 1) 0
     -- data references inline. A body that does not grow is not held to the inline limit, which is 0 here
     ∷ expectWithin 501 1000 (AddData 12288 (byEntry 64) 3) 0
     ∷ expectWithin 501 1000 (AddData 12288 (byEntry 32) 1) 17
@@ -95,18 +105,26 @@ expected =
     ∷ expect (AddShared 12288 (parent 183 60) 1) 3
     -- this one is held to the limit, though the body does not grow
     ∷ expectWithin 501 1000 (AddShared 12288 (parent 184 50) 1) 17
-    ∷ expect (DropShared 12288 (parent 184 50)) 0
-    ∷ expect (DropShared 8192 (parent 182 100)) 0
+    -- a part of what stands, all of it, and more, which is 22 though the total is higher
+    ∷ expect (DropShared 12288 (parent 184 50) 0) 10
+    ∷ expect (DropShared 12288 (parent 184 50) 9) 22
+    ∷ expect (DropShared 12288 (parent 184 50) 3) 0
+    ∷ expect (DropShared 12288 (parent 184 50) 6) 22
+    ∷ expect (DropShared 12288 (parent 184 50) 5) 0
+    ∷ expect (DropShared 12288 (parent 184 60) 1) 0
+    ∷ expect (DropShared 8192 (parent 182 100) 2) 22
+    ∷ expect (DropShared 8192 (parent 182 100) 1) 0
     ∷ expect (AddShared 8192 (parent 182 100) 1) 0
-    ∷ expect (DropShared 8192 (parent 182 100)) 0
-    -- the total may reach 0
-    ∷ expect (DropShared 20480 (parent 182 100)) 0
-    ∷ expect (DropShared 20480 (parent 182 100)) 5
-    ∷ expect (DropShared 12288 (parent 185 60)) 3
-    ∷ expectWithin 500 1000 (DropShared 8192 (parent 182 200)) 3
+    ∷ expect (DropShared 8192 (parent 182 100) 1) 0
+    -- the total may reach 0; an amount above it is 22, not 14
+    ∷ expect (DropShared 20480 (parent 182 100) 2) 22
+    ∷ expect (DropShared 20480 (parent 182 100) 1) 0
+    ∷ expect (DropShared 20480 (parent 182 100) 0) 5
+    ∷ expect (DropShared 12288 (parent 185 60) 0) 3
+    ∷ expectWithin 500 1000 (DropShared 8192 (parent 182 200) 1) 3
     -- a lent output one byte short, and one that just holds the result
-    ∷ expectWithin 4096 417 (AddBlock 8192 (tree 2)) 21
-    ∷ expectWithin 4096 418 (AddBlock 8192 (tree 2)) 0
+    ∷ expectWithin 4096 442 (AddBlock 8192 (tree 2)) 21
+    ∷ expectWithin 4096 443 (AddBlock 8192 (tree 2)) 0
     -- it goes before the triple of a lower hash
     ∷ expect (AddData 12288 (byEntry 128) 6) 0
     ∷ []
@@ -203,9 +221,12 @@ nameTallies =
     ∷ nameTally 8192 176 (7 ∷ []) 0 1 0 1
     ∷ nameTally 8192 176 (5 ∷ []) 1 0 1 0
     ∷ nameTally 8192 176 (9 ∷ []) 1 0 1 0
-    -- given twice, and all of it taken; all of an item taken
+    -- given twice, and all of it taken in two parts; all of an item taken so
     ∷ nameTally 12288 184 (50 ∷ []) 3 5 8 0
     ∷ nameTally 12288 184 (300 ∷ []) 2 0 2 0
+    -- a part taken, inline and of an item
+    ∷ nameTally 12288 184 (60 ∷ []) 0 2 1 1
+    ∷ nameTally 12288 184 (301 ∷ []) 5 0 2 3
     -- taken, given and taken again
     ∷ nameTally 8192 182 (100 ∷ []) 1 1 2 0
     -- an item in an extent that no posting names; refused, beside tree 7; an owner reference names nothing

@@ -43,6 +43,13 @@ hash = 0x417b1dbc82f63b78
 abbrev byItem : ℕ → ℕ → List ℕ → Expected → Single
 byItem total offset bytes expected = on (dataRecord 12288 total [] ∷ item 12288 178 offset bytes ∷ []) expected
 
+-- a data extent with a shared data reference that counts 5, inline or as an item
+abbrev inline5 : Expected → Single
+inline5 expected = on (dataRecord 12288 5 (makeRef 184 (9 ∷ []) 5 ∷ []) ∷ []) expected
+
+abbrev item5 : Expected → Single
+item5 expected = on (dataRecord 12288 5 [] ∷ item 12288 184 9 (leBytes 4 5) ∷ []) expected
+
 -- the fields of a data reference are all three of its numbers, in payload order: the postings compute with triples whose hashes
 -- take few steps, and no two of those differ in the objectid alone
 pub triple-is : triple (record { tree = 1; objectid = 2; offset = 3 }) ≡ 1 ∷ 2 ∷ 3 ∷ []
@@ -103,8 +110,9 @@ singles =
     ∷ on (blockRecord 8192 2 [] ∷ []) (expectWithin 500 1000 (AddBlock 8192 (tree 7)) 3)
     ∷ on (blockRecord 8192 2 [] ∷ []) (expectWithin 65537 1000 (DropBlock 8192 (tree 7)) 3)
     ∷ on (blockRecord 8192 2 [] ∷ []) (expect (AddShared 8192 (parent 178 7) 1) 3)
-    ∷ on (blockRecord 8192 2 [] ∷ []) (expect (DropShared 8192 (parent 178 7)) 3)
+    ∷ on (blockRecord 8192 2 [] ∷ []) (expect (DropShared 8192 (parent 178 7) 0) 3)
     ∷ on (blockRecord 8192 2 [] ∷ []) (expect (AddBlock 9000 (tree 7)) 4)
+    ∷ on (blockRecord 8192 2 [] ∷ []) (expect (DropShared 8192 (parent 184 7) 0) 4)
     -- 17: the new body of 42 bytes is within the limit of a nodesize of 1,173, which is 42
     ∷ on (blockRecord 8192 1 (makeRef 176 (5 ∷ []) 1 ∷ []) ∷ []) (expectWithin 1173 1000 (AddBlock 8192 (tree 7)) 0)
     ∷ on (blockRecord 8192 1 (makeRef 176 (5 ∷ []) 1 ∷ []) ∷ []) (expectWithin 1172 1000 (AddBlock 8192 (tree 7)) 17)
@@ -118,6 +126,25 @@ singles =
     ∷ byItem 1 hash (keyedDataRefBody (byEntry 128) 1) (expect (DropData 12288 (sameHash 128)) 13)
     ∷ byItem 1 hash (keyedDataRefBody (byEntry 128) 1) (expect (DropData 12288 (byEntry 128)) 13)
     ∷ on (dataRecord 12288 1 (dataRef 64 1 ∷ []) ∷ []) (expect (DropData 12288 (byEntry 64)) 13)
+    -- document 02, ticket 1: a part of what stands, inline and as an item, in a lent output that just holds the result and in one
+    -- a byte short; 5 before 10, and 22 before 21
+    ∷ inline5 (expectWithin 4096 59 (DropShared 12288 (parent 184 9) 2) 0)
+    ∷ inline5 (expectWithin 4096 58 (DropShared 12288 (parent 184 9) 2) 21)
+    ∷ inline5 (expectWithin 4096 46 (DropShared 12288 (parent 184 9) 5) 0)
+    ∷ inline5 (expectWithin 4096 45 (DropShared 12288 (parent 184 9) 5) 21)
+    ∷ inline5 (expectWithin 4096 0 (DropShared 12288 (parent 184 9) 6) 22)
+    ∷ inline5 (expectWithin 4096 0 (DropShared 12288 (parent 184 9) 0) 10)
+    ∷ inline5 (expectWithin 4096 0 (DropShared 12288 (parent 184 8) 0) 5)
+    ∷ item5 (expectWithin 4096 71 (DropShared 12288 (parent 184 9) 2) 0)
+    ∷ item5 (expectWithin 4096 70 (DropShared 12288 (parent 184 9) 2) 21)
+    ∷ item5 (expectWithin 4096 46 (DropShared 12288 (parent 184 9) 5) 0)
+    ∷ item5 (expectWithin 4096 45 (DropShared 12288 (parent 184 9) 5) 21)
+    ∷ item5 (expectWithin 4096 0 (DropShared 12288 (parent 184 9) 6) 22)
+    -- what another name counts plays no part, nor how high the total is
+    ∷ on (dataRecord 12288 15 (makeRef 184 (9 ∷ []) 5 ∷ makeRef 184 (8 ∷ []) 10 ∷ []) ∷ []) (expect (DropShared 12288 (parent 184 9) 6) 22)
+    -- the largest count
+    ∷ on (dataRecord 12288 4294967295 (makeRef 184 (9 ∷ []) 4294967295 ∷ []) ∷ []) (expect (DropShared 12288 (parent 184 9) 4294967295) 0)
+    ∷ on (dataRecord 12288 4294967295 (makeRef 184 (9 ∷ []) 4294967295 ∷ []) ∷ []) (expect (DropShared 12288 (parent 184 9) 1) 0)
     ∷ []
 
 abbrev computedOf : List Single → List ℕ

@@ -70,6 +70,10 @@ raisedBy amount total = ask (ltb (total + amount) (2 ^ 64)) 12 (accepted (total 
 unfoldable pub loweredByOne : ℕ → Answer ℕ
 loweredByOne total = ask (leb 2 total) 13 (accepted (total - 1))
 
+-- questions 10 and 22 of an amount that is taken where so much stands (document 02, ticket 1): neither 13 nor 14 is put
+unfoldable pub loweredByPart : ℕ → ℕ → ℕ → Answer ℕ
+loweredByPart amount standing total = ask (leb 1 amount) 10 (ask (leb amount standing) 22 (accepted (total - amount)))
+
 -- question 14
 unfoldable pub reducedBy : ℕ → ℕ → Answer ℕ
 reducedBy amount total = ask (leb amount total) 14 (accepted (total - amount))
@@ -131,19 +135,21 @@ holdsInlineDataRef type body d = onBody type body (λ b. accepted (isFound (firs
 unfoldable pub less : Ref → ℕ → List Ref
 less r amount = cond (ltb amount (r .weight)) (weighed r (r .weight - amount) ∷ []) []
 
--- one count off the first match and off the total
-unfoldable pub dropInline : ℕ → List ℕ → ℕ → List ℕ → Answer (List ℕ)
-dropInline type body kind fields =
+-- so much off the first match; `lowered` puts the questions of it, to what the match counts and to the total, and gives the new
+-- total
+unfoldable pub dropInline : ℕ → List ℕ → ℕ → List ℕ → ℕ → (ℕ → ℕ → Answer ℕ) → Answer (List ℕ)
+dropInline type body kind fields amount lowered =
     onBody type body (λ b.
     bind (found (firstCut (named kind fields) (b .refs))) (λ c.
-    bind (loweredByOne (b .total)) (λ total.
-    accepted (bodyBytes (bodyWith b total (c .front ++ (less (c .hit) 1 ++ c .back)))))))
+    bind (lowered (c .hit .weight) (b .total)) (λ total.
+    accepted (bodyBytes (bodyWith b total (c .front ++ (less (c .hit) amount ++ c .back)))))))
 
+-- one count off the first match and off the total
 unfoldable pub dropInlineTreeRef : ℕ → List ℕ → BlockRef → Answer (List ℕ)
-dropInlineTreeRef type body block = dropInline type body 176 (one (block .tree))
+dropInlineTreeRef type body block = dropInline type body 176 (one (block .tree)) 1 (λ standing. loweredByOne)
 
 unfoldable pub dropInlineDataRef : ℕ → List ℕ → DataRef → Answer (List ℕ)
-dropInlineDataRef type body d = dropInline type body 178 (triple d)
+dropInlineDataRef type body d = dropInline type body 178 (triple d) 1 (λ standing. loweredByOne)
 
 -- the first match goes whole, the total stays, the count (1 for 182) is handed back
 unfoldable pub takeInlineShared : ℕ → List ℕ → SharedRef → Answer TakenOut

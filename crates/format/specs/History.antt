@@ -1,4 +1,4 @@
--- Document 01, "The entry": a list of postings, and the history, "a plain tally". Assumes nothing.
+-- Document 01, "The entry", with document 02's ticket 1: a list of postings, and the history, "a plain tally". Assumes nothing.
 use mathlib.Core.Bool.{Bool, true, false, _&&_, _||_, cond}
 use mathlib.Core.List.{List, [], _∷_}
 use Prim.Native.Nat.{ℕ, _+_}
@@ -53,17 +53,14 @@ gave t amount = record { opening = t .opening; given = t .given + amount; taken 
 abbrev pub took : Tally → ℕ → Tally
 took t amount = record { opening = t .opening; given = t .given; taken = t .taken + amount }
 
--- "take shared adds opening plus given minus taken" to taken, which then is opening plus given
-abbrev pub tookAll : Tally → Tally
-tookAll t = record { opening = t .opening; given = t .given; taken = t .opening + t .given }
-
+-- "The books' history subtracts the amount instead of the whole"
 unfoldable pub enter : Change → Tally → Tally
 enter (AddBlock extent name) t = gave t 1
 enter (AddData extent name amount) t = gave t amount
 enter (AddShared extent name amount) t = gave t amount
 enter (DropBlock extent name) t = took t 1
 enter (DropData extent name) t = took t 1
-enter (DropShared extent name) t = tookAll t
+enter (DropShared extent name amount) t = took t amount
 
 -- "A refused one moves nothing. Accepted, under the change's name"
 abbrev pub tallyFrom : Name → Tally → List Seen → Tally

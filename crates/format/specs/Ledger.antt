@@ -1,11 +1,11 @@
--- Document 01, "The entry: posting a change to the books": the six changes and posting one. To add a reference is document
--- 01's "give", to drop one its "take". Assumes nothing.
+-- Document 01, "The entry: posting a change to the books", with document 02's ticket 1: the six changes and posting one. To add
+-- a reference is the documents' "give", to drop one their "take". Assumes nothing.
 use mathlib.Core.Bool.{Bool, true, false, _&&_, _||_, cond}
 use mathlib.Core.List.{List}
-use Prim.Native.Nat.{ℕ}
-use lib.Dec.{leb, eqb}
+use Prim.Native.Nat.{ℕ, _-_}
+use lib.Dec.{leb, ltb, eqb}
 use Rattle.fields.specs.Lists.{sum, all, Cut, firstCut}
-use Rattle.fields.specs.Numbers.{le}
+use Rattle.fields.specs.Numbers.{le, leBytes}
 use Rattle.format.specs.declared.DataRef.{DataRef}
 use Rattle.format.specs.declared.SharedRef.{SharedRef}
 use Rattle.format.specs.declared.Keyed.the-variants.{Block, Data}
@@ -13,7 +13,7 @@ use Rattle.format.specs.declared.Change.{Change}
 use Rattle.format.specs.declared.Change.the-variants.{AddBlock, AddData, AddShared, DropBlock, DropData, DropShared}
 use Rattle.format.specs.Questions.{Answer, refused, absent, remove, accepted, ask, bind, needed, ifAbsent, also}
 use Rattle.format.specs.References.{rankOf}
-use Rattle.format.specs.Bodies.{one, triple, sharedKind, lowerTotal, reduceTotal, dropInlineDataRef, dropKeyedDataRef, takeInlineShared}
+use Rattle.format.specs.Bodies.{one, triple, sharedKind, loweredByPart, onTotal, lowerTotal, dropInline, dropInlineDataRef, dropKeyedDataRef}
 use Rattle.format.specs.Items.{Item, keyOf, onSheet, nodesizeFits, putBack, without, heldSheet}
 use Rattle.format.specs.Sheets.{hasKey}
 use Rattle.format.specs.Apply.{isRecord, onRecord, replaced, applyKeyedAdd, applySharedAdd, dropTreeRef}
@@ -27,7 +27,7 @@ nameOf (AddData extent name amount) = record { extent = extent; kind = 178; fiel
 nameOf (AddShared extent name amount) = record { extent = extent; kind = name .kind; fields = one (name .parent) }
 nameOf (DropBlock extent name) = record { extent = extent; kind = 176; fields = one (name .tree) }
 nameOf (DropData extent name) = record { extent = extent; kind = 178; fields = triple name }
-nameOf (DropShared extent name) = record { extent = extent; kind = name .kind; fields = one (name .parent) }
+nameOf (DropShared extent name amount) = record { extent = extent; kind = name .kind; fields = one (name .parent) }
 
 -- question 3 of a change
 abbrev pub kindFits : Change → Bool
@@ -36,7 +36,7 @@ kindFits (AddData extent name amount) = true
 kindFits (AddShared extent name amount) = sharedKind (name .kind)
 kindFits (DropBlock extent name) = true
 kindFits (DropData extent name) = true
-kindFits (DropShared extent name) = sharedKind (name .kind)
+kindFits (DropShared extent name amount) = sharedKind (name .kind)
 
 -- ---- adds
 
@@ -71,14 +71,20 @@ dropDataRef d items c =
 unfoldable pub sharedCount : Item → ℕ
 sharedCount i = cond (eqb (i .key .kind) 184) (le (i .bytes)) 1
 
--- "all of it, inline or else the item (extent, kind, parent); the total falls by its count (1 for 182)"
-unfoldable pub dropSharedRef : SharedRef → List Item → Cut Item → Answer (List Item)
-dropSharedRef s items c =
+-- what is left of its data with that much off: "Taking everything removes the reference"
+unfoldable pub lessItem : ℕ → ℕ → Answer (List ℕ)
+lessItem standing amount = cond (ltb amount standing) (accepted (leBytes 4 (standing - amount))) remove
+
+-- "an amount, from 1 up to what stands, inline or as an item", (extent, kind, parent); "the total falls by the amount". "A shared
+-- block (182) has 1 to take"
+unfoldable pub dropSharedRef : SharedRef → ℕ → List Item → Cut Item → Answer (List Item)
+dropSharedRef s amount items c =
     ifAbsent
-    (bind (takeInlineShared (c .hit .key .kind) (c .hit .bytes) s) (λ out.
-    bind (reduceTotal (out .bytes) (out .count)) (λ body. accepted (putBack c body))))
+    (bind (dropInline (c .hit .key .kind) (c .hit .bytes) (s .kind) (one (s .parent)) amount (loweredByPart amount)) (λ body.
+    accepted (putBack c body)))
     (bind (needed 5 (firstCut (hasKey (keyOf (c .hit .key .objectid) (s .kind) (s .parent))) items)) (λ k.
-    bind (reduceTotal (c .hit .bytes) (sharedCount (k .hit))) (λ body. replaced (c .hit .key) body (without k))))
+    bind (onTotal (c .hit .bytes) (loweredByPart amount (sharedCount (k .hit)))) (λ body.
+    bind (droppedAt k (lessItem (sharedCount (k .hit)) amount)) (λ others. replaced (c .hit .key) body others))))
 
 -- ---- the six changes
 
@@ -91,7 +97,7 @@ changed nodesize (AddShared extent name amount) items =
     added (nameOf (AddShared extent name amount)) amount items (applySharedAdd nodesize extent name amount false items)
 changed nodesize (DropBlock extent name) items = onRecord extent items (dropTreeRef name false items)
 changed nodesize (DropData extent name) items = onRecord extent items (dropDataRef name items)
-changed nodesize (DropShared extent name) items = onRecord extent items (dropSharedRef name items)
+changed nodesize (DropShared extent name amount) items = onRecord extent items (dropSharedRef name amount items)
 
 -- ---- posting one: "A posting takes a sheet, a nodesize and a change; question 3 is put to the nodesize of takes too"
 

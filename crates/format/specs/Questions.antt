@@ -78,7 +78,8 @@ ifAbsent absent other = other
 ifAbsent remove other = remove
 ifAbsent (accepted result) other = accepted result
 
--- a further question put to a call, in its place among the call's own: the first "no" is the one with the lower number
+-- a further question put to a call, in its place among the call's own: the first "no" is the one with the lower number. So 22,
+-- which document 02 puts after 14, is never put by it
 unfoldable pub also : {A : Type 0} → Bool → ℕ → Answer A → Answer A
 also true number answer = answer
 also false number (refused other) = refused (cond (leb other number) other number)

@@ -105,6 +105,7 @@ pub enum Change {
     DropShared {
         extent: u64,
         name: SharedRef,
+        amount: u32,
     },
 }
 

@@ -25,7 +25,7 @@ use Rattle.inline_refs.specs.declared.ref_name.RefName.the-variants.{Block, Dat
 use Rattle.inline_refs.specs.Scans.{kindOf}
 use Rattle.item_list.specs.Steps.{listItems}
 use Rattle.item_list.proofs.ItemWrites.{answered-no}
-use Rattle.backref.specs.ByName.{SharedName}
+use Rattle.backref.specs.ByName.{SharedName, OneOff}
 use Rattle.transaction.specs.Drops.{dropRef}
 use Rattle.ledger.specs.Posting.{addChange, unbalancedOr}
 use Rattle.record_edit.specs.declared.RecordAt.{RecordAt}
@@ -42,28 +42,37 @@ shared-add name (Data n) h extent amount = absurd h
 shared-add name (SharedBlock parent) h extent amount = ap (λ (x : SharedRef). AddShared extent x amount) h
 shared-add name (SharedData parent) h extent amount = ap (λ (x : SharedRef). AddShared extent x amount) h
 
-shared-drop : (name : SharedRef) (w : RefName) → SharedName name w → (items : List Item) (c : Cut Item) → dropSharedRef name items c ≡ dropRef w items c
+shared-drop : (name : SharedRef) (w : RefName) → SharedName name w → (amount : ℕ) (items : List Item) (c : Cut Item)
+    → dropSharedRef name amount items c ≡ dropRef w amount items c
 unfolding dropRef
-shared-drop name (Block n) h items c = absurd h
-shared-drop name (Data n) h items c = absurd h
-shared-drop name (SharedBlock parent) h items c = ap (λ (x : SharedRef). dropSharedRef x items c) h
-shared-drop name (SharedData parent) h items c = ap (λ (x : SharedRef). dropSharedRef x items c) h
+shared-drop name (Block n) h amount items c = absurd h
+shared-drop name (Data n) h amount items c = absurd h
+shared-drop name (SharedBlock parent) h amount items c = ap (λ (x : SharedRef). dropSharedRef x amount items c) h
+shared-drop name (SharedData parent) h amount items c = ap (λ (x : SharedRef). dropSharedRef x amount items c) h
+
+-- an amount goes off it
+pub shared-off : (name : SharedRef) (w : RefName) (amount : ℕ) → SharedName name w → OneOff w amount
+shared-off name (Block n) amount h = absurd h
+shared-off name (Data n) amount h = absurd h
+shared-off name (SharedBlock parent) amount h = tt
+shared-off name (SharedData parent) amount h = tt
 
 -- ---- the change that it is
 
 -- a drop of that change, by the name
 module _ (nodesize extent : ℕ) (items : List Item) where
-  pub drop-block : (name : BlockRef) → onRecord extent items (dropRef (Block name) items) ≡ changed nodesize (DropBlock extent name) items
+  pub drop-block : (name : BlockRef) → onRecord extent items (dropRef (Block name) 1 items) ≡ changed nodesize (DropBlock extent name) items
   unfolding changed dropRef
   drop-block name = refl
 
-  pub drop-data : (name : DataRef) → onRecord extent items (dropRef (Data name) items) ≡ changed nodesize (DropData extent name) items
+  pub drop-data : (name : DataRef) → onRecord extent items (dropRef (Data name) 1 items) ≡ changed nodesize (DropData extent name) items
   unfolding changed dropRef
   drop-data name = refl
 
-  pub drop-shared : (name : SharedRef) (w : RefName) → SharedName name w → onRecord extent items (dropRef w items) ≡ changed nodesize (DropShared extent name) items
+  pub drop-shared : (name : SharedRef) (w : RefName) → SharedName name w → (amount : ℕ)
+      → onRecord extent items (dropRef w amount items) ≡ changed nodesize (DropShared extent name amount) items
   unfolding changed
-  drop-shared name w h = λ j. onRecord extent items (λ c. sym (shared-drop name w h items c) j)
+  drop-shared name w h amount = λ j. onRecord extent items (λ c. sym (shared-drop name w h amount items c) j)
 
 pub as-drop : (nodesize room : ℕ) (items : List Item) {r : Edited} {old new : List ℕ} (change other : Change) (a : Answer (List Item)) → change ≡ other
     → a ≡ changed nodesize other items → Answered (heldSheet room a) r old new → Answered (heldSheet room (changed nodesize change items)) r old new
@@ -114,7 +123,7 @@ missing-record nodesize (AddData extent name amount) items e = add-missing _ amo
 missing-record nodesize (AddShared extent name amount) items e = add-missing _ amount items _ (no-record extent items _ e)
 missing-record nodesize (DropBlock extent name) items e = no-record extent items _ e
 missing-record nodesize (DropData extent name) items e = no-record extent items _ e
-missing-record nodesize (DropShared extent name) items e = no-record extent items _ e
+missing-record nodesize (DropShared extent name amount) items e = no-record extent items _ e
 
 -- the search for the change's extent
 pub finds-for : (s : List ℕ) (change : Change) {extent : ℕ} {a b : Bool} {r q : FoundRecord} → extent ≡ nameOf change .extent → a ≡ b → r ≡ q → Finds s extent a r

@@ -96,14 +96,14 @@ fn change_at(
             return adds::add(sheet, target, nodesize, extent, wanted, amount, out);
         }
         Change::DropBlock { name, .. } => {
-            return transaction::drop_ref(sheet, target, RefName::Block(name), out);
+            return transaction::drop_ref(sheet, target, RefName::Block(name), 1, out);
         }
         Change::DropData { name, .. } => {
-            return transaction::drop_ref(sheet, target, RefName::Data(name), out);
+            return transaction::drop_ref(sheet, target, RefName::Data(name), 1, out);
         }
-        Change::DropShared { name, .. } => {
+        Change::DropShared { name, amount, .. } => {
             let wanted = backref::shared_name(name);
-            return transaction::drop_ref(sheet, target, wanted, out);
+            return transaction::drop_ref(sheet, target, wanted, amount, out);
         }
     }
 }

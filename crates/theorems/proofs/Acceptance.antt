@@ -10,4 +10,4 @@ acceptance nodesize sheet (AddData extent name amount) room = add-data nodesize 
 acceptance nodesize sheet (AddShared extent name amount) room = add-shared nodesize sheet extent name amount room
 acceptance nodesize sheet (DropBlock extent name) room = drops-block nodesize sheet extent name room
 acceptance nodesize sheet (DropData extent name) room = drops-data nodesize sheet extent name room
-acceptance nodesize sheet (DropShared extent name) room = drops-shared nodesize sheet extent name room
+acceptance nodesize sheet (DropShared extent name amount) room = drops-shared nodesize sheet extent name amount room

@@ -29,14 +29,14 @@ use Rattle.format.proofs.Answers.{ask-ok, ask-yes, bind-ok, bind-yes, also-ok, 
 use Rattle.format.proofs.Refs.{countBytes, length-countBytes, refsBytes-append}
 use Rattle.format.proofs.Rows.{payload-fields}
 use Rattle.format.proofs.Bodies.{on-body, length-bodyBytes, bodyBytes-read}
-use Rattle.theorems.proofs.Naming.{naming-known, shared-rank}
+use Rattle.theorems.proofs.Naming.{naming-known, shared-rank, Formed, formed}
 use Rattle.theorems.proofs.Order.{long, named-yes, PositionOk, at-gap, at-standing, position-anywhere, position-by-scan}
 use Rattle.theorems.proofs.Edit.{Balanced}
 use Rattle.theorems.proofs.Steps.{tidy, Here, here-of, ordered-at, long-at}
 use Rattle.theorems.proofs.Adds.{added-out}
 use Rattle.theorems.specs.Acceptance.{Accepts, Exactly, UpToFive, inline, apart, grown, sharedSize, AddsBlock, AddsData, AddsShared}
 use Rattle.theorems.proofs.Posting.{Posts, posts-out, posts-in, itemSize, holds-out, holds-in, size-put, few-put, fit-put, limit-small, SheetFacts, sheet-facts, AtRecord, record-out, record-in}
-use Rattle.theorems.proofs.Counts.{Formed, formed, inline-and-apart, inline-none, inline-one, own-out, own-in}
+use Rattle.theorems.proofs.Counts.{inline-and-apart, inline-none, inline-one, own-out, own-in}
 
 -- ---- lengths of references and bodies
 
@@ -99,7 +99,9 @@ module _ (m : Name) (nm : Formed m) (n : ℕ) (items : List Item) (c : Cut Item)
             let e₄ = length-none in
             omega arith);
       }
-  at-position (standing x) (at-standing e t) =
+  at-position (standing x) (at-standing f) =
+      let e = f .same in
+      let t = f .hit in
       let h = inline-one m items c b H bal td (nm .naming) x e t in
       let i : inline m c ≡ x .hit .weight = h .0 in
       let w : 1 ≤ x .hit .weight = h .2 in

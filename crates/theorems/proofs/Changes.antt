@@ -4,45 +4,34 @@ use mathlib.Core.Logic.{_≢_}
 use Prim.Native.Nat.{ℕ, _+_, _≤_}
 use native.Mathlib.Omega.{arith}
 use mathlib.Core.Bool.{Bool, true, false, not, cond}
-use mathlib.Core.Option.{Option}
 use mathlib.Core.List.{List}
 use lib.ListN.{length}
 use lib.Dec.{T}
-use Rattle.fields.specs.Lists.{sum, all}
+use Rattle.fields.specs.Lists.{all}
 use Rattle.fields.specs.Numbers.{areBytes}
 use Rattle.fields.proofs.Lists.{cond-yes, cond-no, all-map, all-two}
 use Rattle.format.specs.declared.Change.{Change}
 use Rattle.format.specs.declared.Change.the-variants.{AddBlock, AddData, AddShared, DropBlock, DropData, DropShared}
 use Rattle.format.specs.Questions.{Answer, refused, absent, remove, accepted}
-use Rattle.format.specs.References.{payloadLength, countPosition, counted, fieldCount, rowIn}
-use Rattle.format.specs.Items.{Item, rising, readSheet, sheetBytes, dataFits}
-use Rattle.format.specs.Names.{Name, sameName, entries, stands, count, balanced}
-use Rattle.format.specs.Ledger.{nameOf, kindFits, changed}
-use Rattle.format.specs.History.{Posting, answerTo, Tally, gave, took, tookAll, enter, itemsOf, itemsIn, sheetItems, passes, balancedSheet}
+use Rattle.format.specs.Items.{Item, rising, readSheet, sheetBytes, dataFits, sheetHolds}
+use Rattle.format.specs.Names.{Name, sameName, count, balanced}
+use Rattle.format.specs.Ledger.{nameOf, kindFits, changed, posted}
+use Rattle.format.specs.History.{Posting, answerTo, Tally, gave, took, enter, itemsOf, itemsIn, sheetItems, passes, balancedSheet}
 use Rattle.format.proofs.Answers.{accepted-inj}
 use Rattle.format.proofs.Items.{sane, sheet-sane, read-sheetBytes, areBytes-sheetBytes}
 use Rattle.theorems.specs.Demand.{Wide}
-use Rattle.theorems.proofs.Sums.{sameName-yes, sameName-refl}
-use Rattle.theorems.proofs.Naming.{is176, is178, shared-naming, shared-field}
-use Rattle.theorems.proofs.Edit.{only, worth, Balanced, balanced-out, balanced-in, balanced-edit, count-edit}
-use Rattle.theorems.proofs.Facts.{unstood}
+use Rattle.theorems.proofs.Naming.{formed}
+use Rattle.theorems.proofs.Edit.{worth, Balanced, balanced-out, balanced-in, balanced-edit, count-edit}
 use Rattle.theorems.proofs.Steps.{tidy, sane-tidy, tidy-sane, NameOk, Step}
+use Rattle.theorems.proofs.OneDrop.{blockDrop, dataDrop, sharedDrop, block-changes, data-changes, shared-changes}
 use Rattle.theorems.proofs.Adds.{add-block, add-data, add-shared}
-use Rattle.theorems.proofs.DropCalls.{drop-block, drop-data, drop-shared}
-use Rattle.theorems.proofs.Posting.{posts-out, posts-writes, sheet-size, holds-out}
+use Rattle.theorems.proofs.DropCalls.{drop-step, block-proper, data-proper, shared-proper}
+use Rattle.theorems.proofs.Posting.{posts-out, posts-give, posts-writes, sheet-size, holds-out, SheetFacts}
 
 -- ---- the names of changes
 
 pub name-ok : (c : Change) → Wide c → T (kindFits c) → NameOk (nameOf c)
-unfolding fieldCount payloadLength counted countPosition rowIn
-name-ok (AddBlock extent name) w k = record { naming = is176 refl; size = refl; small = w .fields }
-name-ok (AddData extent name amount) w k = record { naming = is178 refl; size = refl; small = w .fields }
-name-ok (AddShared extent name amount) w k =
-    record { naming = shared-naming (name .kind) k; size = sym (shared-field (name .kind) k); small = w .fields }
-name-ok (DropBlock extent name) w k = record { naming = is176 refl; size = refl; small = w .fields }
-name-ok (DropData extent name) w k = record { naming = is178 refl; size = refl; small = w .fields }
-name-ok (DropShared extent name) w k =
-    record { naming = shared-naming (name .kind) k; size = sym (shared-field (name .kind) k); small = w .fields }
+name-ok c w k = let f = formed c k in record { naming = f .naming; size = f .size; small = w .fields }
 
 -- ---- a step and the tally
 
@@ -50,37 +39,24 @@ name-ok (DropShared extent name) w k =
 abbrev pub Fit : ℕ → Tally → Type 0
 Fit k t = k + t .taken ≡ t .opening + t .given
 
-moved : (m : Name) (given out : ℕ) (wipe : Bool) (items after : List Item) → Step m given out wipe items after → (n : Name)
+pub moved : (m : Name) (given out : ℕ) (items after : List Item) → Step m given out items after → (n : Name)
     → T (sameName n m)
     → count n after + out ≡ count n items + given
-moved m given out wipe items after s n t =
+moved m given out items after s n t =
     let e = count-edit m (s .old) (s .new) items after (s .edit) n in
     let v₁ = cond-yes (sameName n m) (worth (s .old)) 0 t in
     let v₂ = cond-yes (sameName n m) (worth (s .new)) 0 t in
     let v₃ = s .moves in
     omega arith
 
-stayed : (m : Name) (given out : ℕ) (wipe : Bool) (items after : List Item) → Step m given out wipe items after → (n : Name)
+stayed : (m : Name) (given out : ℕ) (items after : List Item) → Step m given out items after → (n : Name)
     → T (not (sameName n m))
     → count n after ≡ count n items
-stayed m given out wipe items after s n t =
+stayed m given out items after s n t =
     let e = count-edit m (s .old) (s .new) items after (s .edit) n in
     let v₁ = cond-no (sameName n m) (worth (s .old)) 0 t in
     let v₂ = cond-no (sameName n m) (worth (s .new)) 0 t in
     omega arith
-
--- where all is taken, nothing is counted
-wiped : (m : Name) (given out : ℕ) (items after : List Item) → Balanced items → Step m given out true items after
-    → count m after ≡ 0
-wiped m given out items after b s =
-    let e = s .edit .sums (stands m) in
-    let z = s .gone tt in
-    let e₁ : sum (stands m) (only m (s .old)) ≡ 1 =
-    ap (λ (w : Option ℕ). sum (stands m) (only m w)) (z .1 .1)
-    ∙ ap (λ (x : ℕ). x + 0) (cond-yes (sameName m m) 1 0 (sameName-refl m)) in
-    let e₂ : sum (stands m) (only m (s .new)) ≡ 0 = ap (λ (w : Option ℕ). sum (stands m) (only m w)) (z .0) in
-    let e₃ = b .names m in
-    unstood m (entries after) (omega arith)
 
 -- what a change does to items, for the sheet and for the tally
 pub record Moved (c : Change) (items after : List Item) : Type 0 where
@@ -90,11 +66,11 @@ pub record Moved (c : Change) (items after : List Item) : Type 0 where
   pub balance : Balanced after
   pub tidied : T (all tidy after)
 
-from-step : (c : Change) (given out : ℕ) (wipe : Bool) (items after : List Item) → Balanced items
-    → Step (nameOf c) given out wipe items after
+from-step : (c : Change) (given out : ℕ) (items after : List Item) → Balanced items
+    → Step (nameOf c) given out items after
     → ((n : Name) (t : Tally) → T (sameName n (nameOf c)) → Fit (count n items) t → Fit (count n after) (enter c t))
     → Moved c items after
-from-step c given out wipe items after b s f =
+from-step c given out items after b s f =
     record {
       counts = λ n t h. go n t h (sameName n (nameOf c)) refl;
       rise = s .edit .rise;
@@ -107,24 +83,16 @@ from-step c given out wipe items after b s f =
         → Fit (count n after) (cond x (enter c t) t)
     go n t h true q = f n t (subst T (sym q) tt) h
     go n t h false q =
-        let e = stayed (nameOf c) given out wipe items after s n (subst (λ (y : Bool). T (not y)) (sym q) tt) in omega arith
+        let e = stayed (nameOf c) given out items after s n (subst (λ (y : Bool). T (not y)) (sym q) tt) in omega arith
 
-add-fit : (c : Change) (given : ℕ) (items after : List Item) → Step (nameOf c) given 0 false items after
+add-fit : (c : Change) (given : ℕ) (items after : List Item) → Step (nameOf c) given 0 items after
     → (n : Name) (t : Tally)
     → T (sameName n (nameOf c)) → Fit (count n items) t → Fit (count n after) (gave t given)
-add-fit c given items after s n t q h = let e = moved (nameOf c) given 0 false items after s n q in omega arith
+add-fit c given items after s n t q h = let e = moved (nameOf c) given 0 items after s n q in omega arith
 
-drop-fit : (c : Change) (out : ℕ) (items after : List Item) → Step (nameOf c) 0 out false items after → (n : Name) (t : Tally)
+drop-fit : (c : Change) (out : ℕ) (items after : List Item) → Step (nameOf c) 0 out items after → (n : Name) (t : Tally)
     → T (sameName n (nameOf c)) → Fit (count n items) t → Fit (count n after) (took t out)
-drop-fit c out items after s n t q h = let e = moved (nameOf c) 0 out false items after s n q in omega arith
-
-wipe-fit : (c : Change) (out : ℕ) (items after : List Item) → Balanced items → Step (nameOf c) 0 out true items after
-    → (n : Name) (t : Tally)
-    → T (sameName n (nameOf c)) → Fit (count n items) t → Fit (count n after) (tookAll t)
-wipe-fit c out items after b s n t q h =
-    let e : count n after ≡ 0 =
-    ap (λ (x : Name). count x after) (sameName-yes n (nameOf c) q) ∙ wiped (nameOf c) 0 out items after b s in
-    omega arith
+drop-fit c out items after s n t q h = let e = moved (nameOf c) 0 out items after s n q in omega arith
 
 -- ---- one change
 
@@ -135,27 +103,30 @@ unfolding changed enter
 change-step nodesize (AddBlock extent name) items after w k b t e =
     let c : Change = AddBlock extent name in
     let s = add-block nodesize extent name items after (name-ok c w k) b t e in
-    from-step c 1 0 false items after b s (add-fit c 1 items after s)
+    from-step c 1 0 items after b s (add-fit c 1 items after s)
 change-step nodesize (AddData extent name amount) items after w k b t e =
     let c : Change = AddData extent name amount in
     let s = add-data nodesize extent name amount items after (name-ok c w k) b t e in
-    from-step c amount 0 false items after b s (add-fit c amount items after s)
+    from-step c amount 0 items after b s (add-fit c amount items after s)
 change-step nodesize (AddShared extent name amount) items after w k b t e =
     let c : Change = AddShared extent name amount in
     let s = add-shared nodesize extent name amount items after k (name-ok c w k) b t e in
-    from-step c amount 0 false items after b s (add-fit c amount items after s)
+    from-step c amount 0 items after b s (add-fit c amount items after s)
 change-step nodesize (DropBlock extent name) items after w k b t e =
     let c : Change = DropBlock extent name in
-    let s = drop-block extent name items after (name-ok c w k) b t e in
-    from-step c 0 1 false items after b s (drop-fit c 1 items after s)
+    let s = drop-step (blockDrop extent name) (block-proper extent name) items after b t
+    (sym (block-changes nodesize extent name items) ∙ e) in
+    from-step c 0 1 items after b s (drop-fit c 1 items after s)
 change-step nodesize (DropData extent name) items after w k b t e =
     let c : Change = DropData extent name in
-    let s = drop-data extent name items after (name-ok c w k) b t e in
-    from-step c 0 1 false items after b s (drop-fit c 1 items after s)
-change-step nodesize (DropShared extent name) items after w k b t e =
-    let c : Change = DropShared extent name in
-    let (n, s) = drop-shared extent name items after k (name-ok c w k) b t e in
-    from-step c 0 n true items after b s (wipe-fit c n items after b s)
+    let s = drop-step (dataDrop extent name) (data-proper extent name) items after b t
+    (sym (data-changes nodesize extent name items) ∙ e) in
+    from-step c 0 1 items after b s (drop-fit c 1 items after s)
+change-step nodesize (DropShared extent name amount) items after w k b t e =
+    let c : Change = DropShared extent name amount in
+    let s = drop-step (sharedDrop extent name amount) (shared-proper extent name amount k) items after b t
+    (sym (shared-changes nodesize extent name amount items) ∙ e) in
+    from-step c 0 amount items after b s (drop-fit c amount items after s)
 
 -- ---- one posting
 
@@ -178,6 +149,44 @@ on-of s b t = go (readSheet s) refl t
     go remove q t = absurd t
     go (accepted items) q t = (items, record { raw = b; reads = q; balance = t })
 
+-- a list in order, balanced, that a lent output holds
+on-after : (after : List Item) (room : ℕ) → T (rising after) → Balanced after → T (all tidy after) → T (sheetHolds room after)
+    → On (sheetBytes after) after
+on-after after room rise balance tidied holds =
+    let f = holds-out room after holds in
+    let sanes : T (all sane after) = all-two tidy (λ i. dataFits (i .bytes)) sane tidy-sane after tidied (f .3) in
+    let short : length (sheetBytes after) ≤ 262144 = rw (sheet-size after) (f .1) in
+    record {
+      raw = areBytes-sheetBytes after sanes;
+      reads = read-sheetBytes after sanes rise short (f .2);
+      balance = balanced-in after balance;
+    }
+
+pub step-on : (m : Name) (given out : ℕ) (sheet : List ℕ) (items after : List Item) (room : ℕ) → SheetFacts sheet items
+    → Step m given out items after → T (sheetHolds room after) → On (sheetBytes after) after
+step-on m given out sheet items after room S s holds =
+    on-after after room (s .edit .rise (S .rise)) (balanced-edit m (s .old) (s .new) items after (s .edit) (S .balance) (s .nonempty) (s .free))
+    (s .tidied) holds
+
+-- a posting to a sheet with those items
+pub post-on : (nodesize : ℕ) (sheet : List ℕ) (items after : List Item) (c : Change) (room : ℕ) → On sheet items → 501 ≤ nodesize
+    → nodesize ≤ 65536
+    → T (kindFits c) → changed nodesize c items ≡ accepted after → T (sheetHolds room after)
+    → posted nodesize sheet c room ≡ accepted (sheetBytes after)
+post-on nodesize sheet items after c room o least most kind done holds =
+    posts-give nodesize sheet c room
+    (record {
+      items = items;
+      after = after;
+      reads = o .reads;
+      least = least;
+      most = most;
+      kind = kind;
+      balance = o .balance;
+      done = done;
+      holds = holds;
+    })
+
 pub record Posted (p : Posting) (items : List Item) (t : List ℕ) : Type 0 where
   pub now : List Item
   pub on : On t now
@@ -189,20 +198,13 @@ unfolding answerTo
 post-step s items p t o w e =
     let P = posts-out (p .nodesize) s (p .change) (p .room) (t, e) in
     let q : items ≡ P .items = accepted-inj (sym (o .reads) ∙ P .reads) in
-    let f = holds-out (p .room) (P .after) (P .holds) in
     let sa = sheet-sane s (P .items) (o .raw) (P .reads) in
     let M : Moved (p .change) (P .items) (P .after) =
     change-step (p .nodesize) (p .change) (P .items) (P .after) w (P .kind) (balanced-out (P .items) (P .balance))
     (all-map sane tidy sane-tidy (P .items) (sa .0)) (P .done) in
-    let S : T (all sane (P .after)) = all-two tidy (λ i. dataFits (i .bytes)) sane tidy-sane (P .after) (M .tidied) (f .3) in
-    let short : length (sheetBytes (P .after)) ≤ 262144 = rw (sheet-size (P .after)) (f .1) in
     record {
       now = P .after;
       on = subst (λ (z : List ℕ). On z (P .after)) (sym (posts-writes (p .nodesize) s (p .change) (p .room) t e P))
-          (record {
-            raw = areBytes-sheetBytes (P .after) S;
-            reads = read-sheetBytes (P .after) S (M .rise (sa .2)) short (f .2);
-            balance = balanced-in (P .after) (M .balance);
-          });
+          (on-after (P .after) (p .room) (M .rise (sa .2)) (M .balance) (M .tidied) (P .holds));
       moved = subst (λ (z : List Item). Moved (p .change) z (P .after)) (sym q) M;
     }

@@ -11,41 +11,24 @@ use lib.Dec.{T, leb, eqb, eqb→eq, leb→le}
 use lib.ListN.{length, getD}
 use mir.Facts.{and-yes, yes-and, or-no, T-not-not, yes-eqb, eqb-no}
 use Rattle.fields.specs.Lists.{sum, all, Cut, firstCut}
-use Rattle.fields.specs.Numbers.{le, words, areBytes}
-use Rattle.fields.proofs.Lists.{T-eq, lt-or, imp-out, or-left, cond-yes, cond-no, sum-append, all-map, all-mid, all-rest, all-put, cut-some, cut-none}
-use Rattle.format.specs.declared.Change.{Change}
-use Rattle.format.specs.declared.Change.the-variants.{AddBlock, AddData, AddShared, DropBlock, DropData, DropShared}
-use Rattle.format.specs.References.{known, payloadLength, countPosition, counted, fieldCount, rowIn, Ref, makeRef, refAt, Body, readBody, rank, rankOf}
+use Rattle.fields.specs.Numbers.{words, areBytes}
+use Rattle.fields.proofs.Lists.{T-eq, lt-or, imp-out, or-left, cond-yes, sum-append, all-map, all-mid, all-rest, all-put, cut-some, cut-none}
+use Rattle.format.specs.References.{known, Ref, refAt, Body, readBody, rank, rankOf}
 use Rattle.format.specs.Bodies.{named, one, keyedCount}
 use Rattle.format.specs.Items.{Item, keyOf, without}
 use Rattle.format.specs.Apply.{isRecord, recordOf}
-use Rattle.format.specs.Names.{Name, sameName, Entry, View, unrelated, isRefItem, viewRecord, inForm, viewRefItem, viewOf, refEntries, viewEntries, itemEntries, entries, under, count, wellFormed, good, records, paired, stands}
-use Rattle.format.specs.Ledger.{nameOf, kindFits, notItsOwn, sharedCount}
+use Rattle.format.specs.Names.{Name, sameName, Entry, unrelated, isRefItem, viewRecord, viewRefItem, viewOf, refEntries, viewEntries, itemEntries, entries, under, count, good, records, paired, stands}
+use Rattle.format.specs.Ledger.{notItsOwn, sharedCount}
 use Rattle.format.proofs.Rows.{Kind, k172, k176, k178, k182, k184, known-kind}
-use Rattle.theorems.proofs.Sums.{sameName-yes, sameName-refl, empty, sum-mid, sum-two, sum-refs}
-use Rattle.theorems.proofs.Naming.{Naming, is176, is178, is182, is184, not-172, shared-naming, shared-field}
+use Rattle.theorems.proofs.Sums.{sameName-yes, empty, sum-mid, sum-two, sum-refs}
+use Rattle.theorems.proofs.Naming.{Naming, is176, is178, is182, is184, not-172}
 use Rattle.theorems.proofs.Order.{named-yes}
-use Rattle.theorems.proofs.Edit.{only, Balanced, lone, record-entries}
-use Rattle.theorems.proofs.Facts.{rest-none, refs-none, named-entries, view-item, plain-entry, data-entry, refAt-178, unstood}
+use Rattle.theorems.proofs.Edit.{only, only-stands, only-counts, Balanced, lone, record-entries}
+use Rattle.theorems.proofs.Facts.{rest-none, refs-none, named-entries, view-item, form-out, plain-entry, data-entry, refAt-178, unstood}
 use Rattle.theorems.proofs.Steps.{tidy, Here, here-of, balanced-at}
-use Rattle.theorems.proofs.Drops.{weight-at, item-counts}
+use Rattle.theorems.proofs.Drops.{weight-at, Own, own-of}
 use Rattle.theorems.specs.Acceptance.{UpToFive, inline, apart}
 use Rattle.theorems.proofs.Posting.{sheet-facts}
-
--- ---- the name of a change: one of the four types, with as many fields as the type has
-
-pub record Formed (m : Name) : Type 0 where
-  pub naming : Naming (m .kind)
-  pub size : length (m .fields) ≡ fieldCount (m .kind)
-
-pub formed : (c : Change) → T (kindFits c) → Formed (nameOf c)
-unfolding fieldCount payloadLength counted countPosition rowIn
-formed (AddBlock extent name) k = record { naming = is176 refl; size = refl }
-formed (AddData extent name amount) k = record { naming = is178 refl; size = refl }
-formed (AddShared extent name amount) k = record { naming = shared-naming (name .kind) k; size = sym (shared-field (name .kind) k) }
-formed (DropBlock extent name) k = record { naming = is176 refl; size = refl }
-formed (DropData extent name) k = record { naming = is178 refl; size = refl }
-formed (DropShared extent name) k = record { naming = shared-naming (name .kind) k; size = sym (shared-field (name .kind) k) }
 
 -- ---- sums
 
@@ -63,13 +46,6 @@ stood n (x ∷ l) e = go (sameName n (x .name)) (leb 1 (x .weight)) refl (stood 
         omega arith
     go false true q f e = let k = f (omega arith) in omega arith
     go c false q f e = absurd (omega arith)
-
--- one entry under its own name
-pub only-stands : (m : Name) (w : ℕ) → sum (stands m) (only m (some w)) ≡ 1
-only-stands m w = omega (arith, cond-yes {A = ℕ} (sameName m m) 1 0 (sameName-refl m))
-
-pub only-counts : (m : Name) (w : ℕ) → sum (under m) (only m (some w)) ≡ w
-only-counts m w = omega (arith, cond-yes {A = ℕ} (sameName m m) w 0 (sameName-refl m))
 
 -- items without an item of the name's own
 own-none : (m : Name) (l : List Item) → sum (stands m) (entries l) ≡ 0 → T (all (notItsOwn m) l)
@@ -174,12 +150,7 @@ module _ (m : Name) (items : List Item) (c : Cut Item) (b : Body) (H : Here m it
 
 -- ---- an item of the name's own
 
--- the data that an item in its form has
-form-out : (v : View) (c : Bool) (r : Ref) → v ≡ inForm c r → T (wellFormed v) → T c
-unfolding inForm wellFormed
-form-out v true r e t = tt
-form-out v false r e t = absurd (subst (λ (y : View). T (wellFormed y)) e t)
-
+-- the data of a data reference's item
 pub data-form : (i : Item) → i .key .kind ≡ 178 → T (good i)
     → (length (i .bytes) ≡ 28) × (i .key .offset ≡ rankOf 178 (words 3 (i .bytes)))
 unfolding viewRefItem rank
@@ -190,23 +161,6 @@ data-form i e t =
     (view-item i (is178 e) ∙ cond-yes (eqb (i .key .kind) 178) _ _ (yes-eqb e)) t in
     let h = and-yes (eqb (length d) 28) _ u in
     (eqb→eq _ _ (h .0), eqb→eq _ _ (h .1) ∙ ap rank (refAt-178 d))
-
-pub plain-form : (i : Item) → Naming (i .key .kind) → eqb (i .key .kind) 178 ≡ false → T (good i)
-    → length (i .bytes) ≡ cond (eqb (i .key .kind) 184) 4 0
-unfolding viewRefItem
-plain-form i k q t = go (eqb (i .key .kind) 184) refl
-  where
-    n₁ : T (not (eqb (i .key .kind) 178))
-    n₁ = subst (λ (c : Bool). T (not c)) (sym q) tt
-
-    go : (c : Bool) → eqb (i .key .kind) 184 ≡ c → length (i .bytes) ≡ cond c 4 0
-    go true p =
-        eqb→eq _ _ (form-out (viewOf i) (eqb (length (i .bytes)) 4) (makeRef 184 (one (i .key .offset)) (le (i .bytes)))
-        (view-item i k ∙ cond-no (eqb (i .key .kind) 178) _ _ n₁ ∙ cond-yes (eqb (i .key .kind) 184) _ _ (subst T (sym p) tt)) t)
-    go false p =
-        eqb→eq _ _ (form-out (viewOf i) (eqb (length (i .bytes)) 0) (makeRef (i .key .kind) (one (i .key .offset)) 1)
-        (view-item i k ∙ cond-no (eqb (i .key .kind) 178) _ _ n₁ ∙ cond-no (eqb (i .key .kind) 184) _ _
-        (subst (λ (c : Bool). T (not c)) (sym p) tt)) t)
 
 -- an item that is no record and says anything is of one of the four types
 says-naming : (i : Item) (n : Name) → T (not (isRecord i)) → sum (stands n) (itemEntries i) ≢ 0 → Naming (i .key .kind)
@@ -227,40 +181,6 @@ says-naming i n t h = go (isRecord i) (known (i .key .kind)) (eqb (i .key .kind)
     go false true false p q t h = kinds (known-kind (i .key .kind) (subst T (sym p) tt)) q
     go false true true p q t h = absurd (h refl)
     go false false o p q t h = absurd (h refl)
-
--- the item at a cut stands for the name and counts w
-pub record Own (m : Name) (items : List Item) (k : Cut Item) (w : ℕ) : Type 0 where
-  pub same : items ≡ k .front ++ k .hit ∷ k .back
-  pub isGood : T (good (k .hit))
-  pub kind : k .hit .key .kind ≡ m .kind
-  pub extent : k .hit .key .objectid ≡ m .extent
-  pub entry : itemEntries (k .hit) ≡ only m (some w)
-  pub counts : count m items ≡ w
-  pub positive : 1 ≤ w
-
-pub own-of : (m : Name) (items : List Item) (k : Cut Item) (w : ℕ) → Balanced items → items ≡ k .front ++ k .hit ∷ k .back
-    → k .hit .key .kind ≡ m .kind → k .hit .key .objectid ≡ m .extent → itemEntries (k .hit) ≡ only m (some w) → Own m items k w
-own-of m items k w bal same kind extent entry =
-    let parts : (g : Entry → ℕ) → sum g (entries items) ≡ sum g (entries (k .front)) + sum g (only m (some w)) + sum g (entries
-    (k .back)) =
-    (λ g. ap (λ (l : List Item). sum g (entries l)) same ∙ sum-mid g (k .front) (k .hit) (k .back)
-    ∙ ap (λ (l : List Entry). sum g (entries (k .front)) + sum g l + sum g (entries (k .back))) entry) in
-    let n₁ = bal .names m in
-    let n₂ = parts (stands m) in
-    let n₃ = only-stands m w in
-    let u₁ = unstood m (entries (k .front)) (omega arith) in
-    let u₂ = unstood m (entries (k .back)) (omega arith) in
-    let p = parts (under m) in
-    let q = only-counts m w in
-    record {
-      same = same;
-      isGood = all-mid good (k .front) (k .hit) (k .back) (rw same at (bal .goods));
-      kind = kind;
-      extent = extent;
-      entry = entry;
-      counts = omega arith;
-      positive = item-counts items bal k same m w entry;
-    }
 
 -- one entry under a name that stands there
 only-same : (m n : Name) (w : ℕ) → sum (stands m) (only n (some w)) ≢ 0 → m ≡ n
@@ -295,14 +215,12 @@ module _ (m : Name) (items : List Item) (c : Cut Item) (b : Body) (H : Here m it
   -- of 176, 182 and 184: it stands at the field
   pub plain-own : (field : ℕ) → m .fields ≡ one field → eqb (m .kind) 178 ≡ false → 1 ≤ apart m c
       → (k : Cut Item) × Own m items k (sharedCount (k .hit)) × (k .hit .key ≡ keyOf (m .extent) (m .kind) field)
-      × (length (k .hit .bytes) ≡ cond (eqb (m .kind) 184) 4 0)
   plain-own field fs no178 h =
       let (k, s) = says-of h in
       go k s (says-naming (k .hit) m (s .noRecord) (s .says)) (eqb (k .hit .key .kind) 178) refl
     where
       go : (k : Cut Item) → Says k → Naming (k .hit .key .kind) → (z : Bool) → eqb (k .hit .key .kind) 178 ≡ z
           → (k : Cut Item) × Own m items k (sharedCount (k .hit)) × (k .hit .key ≡ keyOf (m .extent) (m .kind) field)
-          × (length (k .hit .bytes) ≡ cond (eqb (m .kind) 184) 4 0)
       go k s n true q =
           let g : T (good (k .hit)) = all-mid good (k .front) (k .hit) (k .back) (rw (s .same) at (bal .goods)) in
           let kd : k .hit .key .kind ≡ 178 = eqb→eq _ _ (subst T (sym q) tt) in
@@ -322,22 +240,19 @@ module _ (m : Name) (items : List Item) (c : Cut Item) (b : Body) (H : Here m it
             own-of m items k (sharedCount (k .hit)) bal (s .same) e₂ e₁
                 (en ∙ ap (λ (x : Name). only x (some (sharedCount (k .hit)))) (sym e)),
             (λ i. record { objectid = e₁ i; kind = e₂ i; offset = e₃ i }),
-            plain-form (k .hit) n q g ∙ ap (λ (x : ℕ). cond (eqb x 184) 4 0) e₂,
           )
 
   -- of 178: at the hash, with the fields in its data
   pub data-own : m .kind ≡ 178 → 1 ≤ apart m c
-      → (k : Cut Item) × Own m items k (keyedCount (k .hit .bytes)) ×
-      (k .hit .key ≡ keyOf (m .extent) 178 (rankOf 178 (m .fields)))
-      × (words 3 (k .hit .bytes) ≡ m .fields) × (length (k .hit .bytes) ≡ 28)
+      → (k : Cut Item) × Own m items k (keyedCount (k .hit .bytes))
+      × (k .hit .key ≡ keyOf (m .extent) 178 (rankOf 178 (m .fields)))
   data-own is h =
       let (k, s) = says-of h in
       go k s (says-naming (k .hit) m (s .noRecord) (s .says)) (eqb (k .hit .key .kind) 178) refl
     where
       go : (k : Cut Item) → Says k → Naming (k .hit .key .kind) → (z : Bool) → eqb (k .hit .key .kind) 178 ≡ z
-          → (k : Cut Item) × Own m items k (keyedCount (k .hit .bytes)) ×
-          (k .hit .key ≡ keyOf (m .extent) 178 (rankOf 178 (m .fields)))
-          × (words 3 (k .hit .bytes) ≡ m .fields) × (length (k .hit .bytes) ≡ 28)
+          → (k : Cut Item) × Own m items k (keyedCount (k .hit .bytes))
+          × (k .hit .key ≡ keyOf (m .extent) 178 (rankOf 178 (m .fields)))
       go k s n true q =
           let g : T (good (k .hit)) = all-mid good (k .front) (k .hit) (k .back) (rw (s .same) at (bal .goods)) in
           let kd : k .hit .key .kind ≡ 178 = eqb→eq _ _ (subst T (sym q) tt) in
@@ -352,8 +267,6 @@ module _ (m : Name) (items : List Item) (c : Cut Item) (b : Body) (H : Here m it
             k,
             own-of m items k w bal (s .same) (kd ∙ sym is) e₁ (en ∙ ap (λ (x : Name). only x (some w)) (sym e)),
             (λ i. record { objectid = e₁ i; kind = kd i; offset = e₄ i }),
-            e₃,
-            fm .0,
           )
       go k s n false q =
           let g : T (good (k .hit)) = all-mid good (k .front) (k .hit) (k .back) (rw (s .same) at (bal .goods)) in

@@ -1,6 +1,6 @@
 -- A posting is refused or accepted: absent and remove, which the calls below it may say, never come out of it.
 -- Assumes nothing.
-use mathlib.Core.Path.{_≡_, refl}
+use mathlib.Core.Path.{_≡_, refl, sym, subst}
 use mathlib.Core.Bool.{Bool, true, false, _&&_, _||_, cond}
 use mathlib.Core.List.{List}
 use Prim.Native.Nat.{ℕ, zero, suc, _+_, _-_, _^_}
@@ -9,7 +9,6 @@ use lib.ListN.{length}
 use Rattle.fields.specs.Lists.{all, same, Cut, firstCut}
 use Rattle.fields.specs.Numbers.{leBytes, words}
 use Rattle.fields.specs.Parts.{written}
-use Rattle.format.specs.declared.BlockRef.{BlockRef}
 use Rattle.format.specs.declared.DataRef.{DataRef}
 use Rattle.format.specs.declared.SharedRef.{SharedRef}
 use Rattle.format.specs.declared.Keyed.{Keyed}
@@ -18,15 +17,17 @@ use Rattle.format.specs.declared.Key.{Key}
 use Rattle.format.specs.declared.Change.{Change}
 use Rattle.format.specs.declared.Change.the-variants.{AddBlock, AddData, AddShared, DropBlock, DropData, DropShared}
 use Rattle.format.specs.Questions.{Answer, isRefusal, decides, keeps, refused, absent, remove, accepted, ask, needed, found, ifAbsent, also, held}
-use Rattle.format.specs.References.{counted, Ref, Body, totalOf, readBody, rankOf}
-use Rattle.format.specs.Bodies.{named, one, triple, bodyFits, sharedKind, onBody, onHead, raisedBy, loweredByOne, reducedBy, onTotal, lowerTotal, reduceTotal, dropInline, dropInlineTreeRef, dropInlineDataRef, takeInlineShared, keyedCount, dropKeyedDataRef, RefPosition, isGap, standingWeight, addAt, addInlineTreeRef, addInlineData, addInlineShared}
-use Rattle.format.specs.Items.{Item, keyOf, readSheet, onSheet, nodesizeFits, sheetHolds, heldSheet}
-use Rattle.format.specs.Sheets.{hasKey, deleted}
-use Rattle.format.specs.Apply.{inlineLimit, recordOf, onRecord, replaced, keyedBody, applyKeyedAdd, sharedBody, applySharedAdd, flagged, dropTreeRef}
+use Rattle.format.specs.References.{counted, Ref, Body, totalOf, readBody}
+use Rattle.format.specs.Bodies.{named, triple, bodyFits, sharedKind, onBody, onHead, raisedBy, onTotal, dropInline, keyedCount, dropKeyedDataRef, RefPosition, isGap, standingWeight, addAt, addInlineTreeRef, addInlineData, addInlineShared}
+use Rattle.format.specs.Items.{Item, readSheet, onSheet, nodesizeFits, sheetHolds, heldSheet}
+use Rattle.format.specs.Sheets.{hasKey}
+use Rattle.format.specs.Apply.{inlineLimit, recordOf, onRecord, replaced, keyedBody, applyKeyedAdd, sharedBody, applySharedAdd}
 use Rattle.format.specs.Names.{Name, balanced}
-use Rattle.format.specs.Ledger.{notItsOwn, kindFits, added, droppedAt, dropDataRef, sharedCount, dropSharedRef, changed, post, posted}
+use Rattle.format.specs.Ledger.{notItsOwn, kindFits, added, droppedAt, sharedCount, lessItem, changed, post, posted}
 use Rattle.format.specs.History.{Posting, answerTo}
-use Rattle.format.proofs.Decisions.{decides-ask, decides-bind, decides-needed, body-decides, sheet-decides, on-body-decides, keeps-ask, keeps-bind, decides-keeps, keeps-found, take-keeps}
+use Rattle.format.proofs.Decisions.{decides-ask, decides-bind, decides-needed, body-decides, sheet-decides, on-body-decides, keeps-ask, keeps-bind, decides-keeps, keeps-found}
+use Rattle.theorems.proofs.Lowered.{Lowers, one-lowers, part-lowers}
+use Rattle.theorems.proofs.OneDrop.{Drop, itemKey, inBody, dropped, blockDrop, dataDrop, sharedDrop, block-changes, data-changes, shared-changes}
 use Rattle.theorems.specs.Demand.{Decided, no, yes}
 
 -- ---- a refusal or a result; not remove; not absent
@@ -78,14 +79,6 @@ unfolding onTotal onHead
 decides-onTotal d next f =
     decides-ask (bodyFits d) 3 tt _ (decides-ask (leb 24 (length d)) 6 tt _ (decides-bind (next (totalOf d)) _ (f (totalOf d)) (λ n. tt)))
 
-decides-lowerTotal : (d : List ℕ) → T (decides (lowerTotal d))
-unfolding lowerTotal loweredByOne
-decides-lowerTotal d = decides-onTotal d loweredByOne (λ n. decides-ask (leb 2 n) 13 tt _ tt)
-
-decides-reduceTotal : (d : List ℕ) (amount : ℕ) → T (decides (reduceTotal d amount))
-unfolding reduceTotal reducedBy
-decides-reduceTotal d amount = decides-onTotal d (reducedBy amount) (λ n. decides-ask (leb amount n) 14 tt _ tt)
-
 decides-addAt : (b : Body) (r : Ref) (position : RefPosition) → T (decides (addAt b r position))
 unfolding addAt raisedBy
 decides-addAt b r position =
@@ -95,12 +88,14 @@ decides-addAt b r position =
     (decides-bind (ask (ltb (b .total + r .weight) (2 ^ 64)) 12 (accepted (b .total + r .weight))) _
     (decides-ask (ltb (b .total + r .weight) (2 ^ 64)) 12 tt _ tt) (λ t. tt))))
 
-keeps-dropInline : (type : ℕ) (d : List ℕ) (kind : ℕ) (fields : List ℕ) → T (keeps (dropInline type d kind fields))
-unfolding dropInline loweredByOne
-keeps-dropInline type d kind fields =
-    keeps-onBody type d _ (λ b.
-    keeps-bind (found (firstCut (named kind fields) (b .refs))) _ (keeps-found (firstCut (named kind fields) (b .refs))) (λ c.
-    keeps-bind (ask (leb 2 (b .total)) 13 (accepted (b .total - 1))) _ (keeps-ask (leb 2 (b .total)) 13 tt _ tt) (λ t. tt)))
+keeps-inBody : (p : Drop) → Lowers (p .amount) (p .lowered) → (c : Cut Item) → T (keeps (inBody p c))
+unfolding dropInline
+keeps-inBody p L c =
+    keeps-onBody (c .hit .key .kind) (c .hit .bytes) _ (λ b.
+    keeps-bind (found (firstCut (named (p .name .kind) (p .name .fields)) (b .refs))) _
+    (keeps-found (firstCut (named (p .name .kind) (p .name .fields)) (b .refs))) (λ x.
+    keeps-bind (p .lowered (x .hit .weight) (b .total)) _
+    (decides-keeps (p .lowered (x .hit .weight) (b .total)) (L .sure (x .hit .weight) (b .total))) (λ t. tt)))
 
 found-dropKeyed : (d : List ℕ) (name : DataRef) → T (finds (dropKeyedDataRef d name))
 unfolding dropKeyedDataRef
@@ -110,6 +105,14 @@ found-dropKeyed d name =
     (found-ask (leb 1 (keyedCount d)) 16 tt _ (go (eqb (keyedCount d) 1))))
   where
     go : (c : Bool) → T (finds (cond c remove (accepted (written 24 (leBytes 4 (keyedCount d - 1)) d))))
+    go true = tt
+    go false = tt
+
+found-lessItem : (standing amount : ℕ) → T (finds (lessItem standing amount))
+unfolding lessItem
+found-lessItem standing amount = go (ltb amount standing)
+  where
+    go : (c : Bool) → T (finds (cond c (accepted (leBytes 4 (standing - amount))) remove))
     go true = tt
     go false = tt
 
@@ -125,11 +128,6 @@ decides-onRecord extent items next f =
 decides-replaced : (key : Key) (d : List ℕ) (items : List Item) → T (decides (replaced key d items))
 unfolding replaced
 decides-replaced key d items =
-    decides-bind (needed 5 (firstCut (hasKey key) items)) _ (decides-needed 5 tt (firstCut (hasKey key) items)) (λ c. tt)
-
-decides-deleted : (key : Key) (items : List Item) → T (decides (deleted key items))
-unfolding deleted
-decides-deleted key items =
     decides-bind (needed 5 (firstCut (hasKey key) items)) _ (decides-needed 5 tt (firstCut (hasKey key) items)) (λ c. tt)
 
 decides-keyedBody : (i : Item) (keyed : Keyed) (amount : ℕ) → T (decides (keyedBody i keyed amount false))
@@ -163,43 +161,17 @@ decides-droppedAt k absent t = absurd t
 decides-droppedAt k remove t = tt
 decides-droppedAt k (accepted d) t = tt
 
-decides-dropTreeRef : (block : BlockRef) (items : List Item) (c : Cut Item) → T (decides (dropTreeRef block false items c))
-unfolding dropTreeRef dropInlineTreeRef flagged
-decides-dropTreeRef block items c =
-    decides-ifAbsent _ _
-    (keeps-bind (dropInline (c .hit .key .kind) (c .hit .bytes) 176 (one (block .tree))) _
-    (keeps-dropInline (c .hit .key .kind) (c .hit .bytes) 176 (one (block .tree))) (λ d.
-    keeps-bind (accepted d) _ tt (λ z. tt)))
-    (decides-bind (deleted (keyOf (c .hit .key .objectid) 176 (block .tree)) items) _
-    (decides-deleted (keyOf (c .hit .key .objectid) 176 (block .tree)) items) (λ others.
-    decides-bind (lowerTotal (c .hit .bytes)) _ (decides-lowerTotal (c .hit .bytes)) (λ d.
-    decides-bind (accepted d) _ tt (λ z. decides-replaced (c .hit .key) z others))))
-
-decides-dropDataRef : (d : DataRef) (items : List Item) (c : Cut Item) → T (decides (dropDataRef d items c))
-unfolding dropDataRef dropInlineDataRef
-decides-dropDataRef d items c =
-    decides-ifAbsent _ _
-    (keeps-bind (dropInline (c .hit .key .kind) (c .hit .bytes) 178 (triple d)) _
-    (keeps-dropInline (c .hit .key .kind) (c .hit .bytes) 178 (triple d)) (λ z. tt))
-    (decides-bind (needed 5 (firstCut (hasKey (keyOf (c .hit .key .objectid) 178 (rankOf 178 (triple d)))) items)) _
-    (decides-needed 5 tt (firstCut (hasKey (keyOf (c .hit .key .objectid) 178 (rankOf 178 (triple d)))) items)) (λ k.
-    decides-bind (lowerTotal (c .hit .bytes)) _ (decides-lowerTotal (c .hit .bytes)) (λ z.
-    decides-bind (droppedAt k (dropKeyedDataRef (k .hit .bytes) d)) _
-    (decides-droppedAt k _ (found-dropKeyed (k .hit .bytes) d)) (λ others.
-    decides-replaced (c .hit .key) z others))))
-
-decides-dropSharedRef : (s : SharedRef) (items : List Item) (c : Cut Item) → T (decides (dropSharedRef s items c))
-unfolding dropSharedRef
-decides-dropSharedRef s items c =
-    decides-ifAbsent _ _
-    (keeps-bind (takeInlineShared (c .hit .key .kind) (c .hit .bytes) s) _ (take-keeps (c .hit .key .kind) (c .hit .bytes) s) (λ out.
-    keeps-bind (reduceTotal (out .bytes) (out .count)) _
-    (decides-keeps (reduceTotal (out .bytes) (out .count)) (decides-reduceTotal (out .bytes) (out .count))) (λ z. tt)))
-    (decides-bind (needed 5 (firstCut (hasKey (keyOf (c .hit .key .objectid) (s .kind) (s .parent))) items)) _
-    (decides-needed 5 tt (firstCut (hasKey (keyOf (c .hit .key .objectid) (s .kind) (s .parent))) items)) (λ k.
-    decides-bind (reduceTotal (c .hit .bytes) (sharedCount (k .hit))) _
-    (decides-reduceTotal (c .hit .bytes) (sharedCount (k .hit))) (λ z.
-    decides-replaced (c .hit .key) z _)))
+decides-dropped : (p : Drop) → Lowers (p .amount) (p .lowered) → ((i : Item) → T (finds (p .left i))) → (items : List Item) (c : Cut Item)
+    → T (decides (dropped p items c))
+unfolding dropped
+decides-dropped p L f items c =
+    decides-ifAbsent _ _ (keeps-bind (inBody p c) _ (keeps-inBody p L c) (λ body. tt))
+    (decides-bind (needed 5 (firstCut (hasKey (itemKey p (c .hit .key .objectid))) items)) _
+    (decides-needed 5 tt (firstCut (hasKey (itemKey p (c .hit .key .objectid))) items)) (λ k.
+    decides-bind (onTotal (c .hit .bytes) (p .lowered (p .counts (k .hit)))) _
+    (decides-onTotal (c .hit .bytes) (p .lowered (p .counts (k .hit))) (L .sure (p .counts (k .hit)))) (λ body.
+    decides-bind (droppedAt k (p .left (k .hit))) _ (decides-droppedAt k (p .left (k .hit)) (f (k .hit))) (λ others.
+    decides-replaced (c .hit .key) body others))))
 
 -- ---- changes and postings
 
@@ -216,9 +188,16 @@ decides-changed nodesize (AddData extent name amount) items =
     decides-added _ amount items _ (decides-applyKeyedAdd nodesize extent (Data name) amount items)
 decides-changed nodesize (AddShared extent name amount) items =
     decides-added _ amount items _ (decides-applySharedAdd nodesize extent name amount items)
-decides-changed nodesize (DropBlock extent name) items = decides-onRecord extent items _ (decides-dropTreeRef name items)
-decides-changed nodesize (DropData extent name) items = decides-onRecord extent items _ (decides-dropDataRef name items)
-decides-changed nodesize (DropShared extent name) items = decides-onRecord extent items _ (decides-dropSharedRef name items)
+decides-changed nodesize (DropBlock extent name) items =
+    subst (λ r. T (decides r)) (sym (block-changes nodesize extent name items))
+    (decides-onRecord extent items _ (decides-dropped (blockDrop extent name) one-lowers (λ i. tt) items))
+decides-changed nodesize (DropData extent name) items =
+    subst (λ r. T (decides r)) (sym (data-changes nodesize extent name items))
+    (decides-onRecord extent items _ (decides-dropped (dataDrop extent name) one-lowers (λ i. found-dropKeyed (i .bytes) name) items))
+decides-changed nodesize (DropShared extent name amount) items =
+    subst (λ r. T (decides r)) (sym (shared-changes nodesize extent name amount items))
+    (decides-onRecord extent items _
+    (decides-dropped (sharedDrop extent name amount) (part-lowers amount) (λ i. found-lessItem (sharedCount i) amount) items))
 
 decides-posted : (nodesize : ℕ) (s : List ℕ) (change : Change) (room : ℕ) → T (decides (posted nodesize s change room))
 unfolding posted heldSheet post onSheet

@@ -125,7 +125,7 @@ opens n t (v ∷ list) =
     go true (AddShared extent name amount) = refl
     go true (DropBlock extent name) = refl
     go true (DropData extent name) = refl
-    go true (DropShared extent name) = refl
+    go true (DropShared extent name amount) = refl
     go false c = refl
 
 on-balanced : (s : List ℕ) (items : List Item) → On s items → T (balancedSheet s)

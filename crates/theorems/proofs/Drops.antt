@@ -1,9 +1,9 @@
--- What a drop does inline and to an item of its own: one count off, or all of it, and the record's total with it.
+-- What a drop does inline and to an item of its own: some of the count off, or all of it, and as much off the record's total.
 -- Assumes nothing.
 use mathlib.Core.Path.{_≡_, refl, sym, ap, ap₂, _∙_, subst}
 use Prim.Native.Nat.{ℕ, _+_, _-_, _≤_, _<_}
 use native.Mathlib.Omega.{arith}
-use mathlib.Core.Bool.{Bool, true, false, not, _&&_, _||_, cond}
+use mathlib.Core.Bool.{Bool, true, not, _&&_, _||_, cond}
 use mathlib.Core.Option.{Option, none, some}
 use mathlib.Core.List.{List, [], _∷_, _++_}
 use lib.Dec.{T, eqb}
@@ -12,25 +12,38 @@ use Rattle.fields.specs.Lists.{sum, all, Cut, firstCut}
 use Rattle.fields.specs.Numbers.{areBytes}
 use Rattle.fields.proofs.Lists.{cond-yes, cond-no, some-inj, all-map, all-mid, all-rest, all-put, Found, cut-some}
 use Rattle.format.specs.declared.Key.{Key}
-use Rattle.format.specs.Questions.{accepted, needed}
-use Rattle.format.specs.References.{weightOf, Ref, Body, bodyWith, bodyBytes}
+use Rattle.format.specs.Questions.{Answer, remove, accepted, needed}
+use Rattle.format.specs.References.{Ref, Body, bodyWith, bodyBytes}
 use Rattle.format.specs.Bodies.{named, weighed}
 use Rattle.format.specs.Items.{Item, withBytes, putBack, without}
 use Rattle.format.specs.Sheets.{hasKey}
 use Rattle.format.specs.Apply.{isRecord, recordOf, replaced}
-use Rattle.format.specs.Names.{Name, Entry, extentRecord, viewOf, refEntries, itemEntries, entries, good, stands}
+use Rattle.format.specs.Names.{Name, Entry, extentRecord, viewOf, refEntries, itemEntries, entries, under, count, good, stands, ofExtent}
+use Rattle.format.specs.Ledger.{droppedAt}
 use Rattle.format.proofs.Answers.{bind-ok, needed-ok, accepted-inj}
-use Rattle.format.proofs.Refs.{whole, Whole, whole-in, whole-out}
+use Rattle.format.proofs.Refs.{whole, whole-out}
 use Rattle.format.proofs.Bodies.{Sound, sound-with, areBytes-bodyBytes}
 use Rattle.format.proofs.Keys.{sameKey-yes, sameKey-refl}
 use Rattle.theorems.proofs.Sums.{empty, sum-mid, sum-two, sum-refs}
 use Rattle.theorems.proofs.Naming.{Naming, not-172, weighs-one, naming-no-record}
 use Rattle.theorems.proofs.Order.{named-yes, ordered-weighed, ordered-drop}
-use Rattle.theorems.proofs.Edit.{only, worth, Balanced, Fresh, Half, half-drop, half-swap, edit-item, record-entries}
-use Rattle.theorems.proofs.Facts.{named-entries, positive, not-empty, view-written}
-use Rattle.theorems.proofs.Steps.{tidy, tidy-with, Step, Here, balanced-at, ordered-at, inline-step}
+use Rattle.theorems.proofs.Edit.{only, worth, only-stands, only-counts, Balanced, Fresh, Half, half-drop, half-swap, edit-item, extent-self, record-entries}
+use Rattle.theorems.proofs.Facts.{named-entries, whole-weighed, unstood, positive, not-empty, view-written}
+use Rattle.theorems.proofs.Steps.{tidy, tidy-with, tidy-bytes, Step, Here, ordered-at, inline-step}
+use Rattle.theorems.proofs.Bounds.{total-is}
 
 -- ---- inline: the reference at a cut has the name
+
+-- with some of its count off it is whole
+pub less-whole : (x : Cut Ref) → Naming (x .hit .kind) → T (all whole (x .front ++ x .hit ∷ x .back)) → (n : ℕ) → 1 ≤ n
+    → n < x .hit .weight
+    → T (all whole (x .front ++ weighed (x .hit) (x .hit .weight - n) ∷ x .back))
+less-whole x naming ws n one≤ less =
+    let t : T (whole (x .hit)) = all-mid whole (x .front) (x .hit) (x .back) ws in
+    let w = whole-out (x .hit) t in
+    all-put whole (x .front) (weighed (x .hit) (x .hit .weight - n)) (x .back) (all-rest whole (x .front) (x .hit) (x .back) ws)
+    (whole-weighed (x .hit) (x .hit .weight - n) t (λ u. (let z = w .weighs u in omega arith))
+    (λ u. (let z = w .weightFixed u in let y = weighs-one (x .hit .kind) naming 0 u in absurd (omega arith))))
 
 module _ (m : Name) (naming : Naming (m .kind)) (items : List Item) (c : Cut Item) (b : Body) (H : Here m items c b)
     (balance : Balanced items) (tidies : T (all tidy items))
@@ -40,40 +53,44 @@ module _ (m : Name) (naming : Naming (m .kind)) (items : List Item) (c : Cut Ite
       let h = named-yes (m .kind) (m .fields) (x .hit) t in
       named-entries m (x .hit) (not-172 (m .kind) naming) (h .0) (h .1)
 
+  -- what it brings to a sum
+  sums-at : (g : Entry → ℕ)
+      → sum g (entries items)
+      ≡ sum g (entries (c .front)) + (sum g (refEntries (m .extent) (x .front)) + sum g (only m (some (x .hit .weight))) + sum g (refEntries (m .extent) (x .back)))
+      + sum g (entries (c .back))
+  sums-at g =
+      ap (λ (l : List Item). sum g (entries l)) (H .found .same) ∙ sum-mid g (c .front) (c .hit) (c .back)
+      ∙ ap (λ (n : ℕ). sum g (entries (c .front)) + n + sum g (entries (c .back)))
+      (ap (sum g) (record-entries (c .hit) b (H .view) ∙ ap₂ refEntries (H .extent) e)
+      ∙ sum-refs g (m .extent) (x .front) (x .hit ∷ []) (x .back)
+      ∙ ap (λ (l : List Entry). sum g (refEntries (m .extent) (x .front)) + sum g l + sum g (refEntries (m .extent) (x .back))) entries-at)
+
+  -- it counts something
   pub weight-at : 1 ≤ x .hit .weight
   weight-at =
-      let B = balanced-at m items c b H balance tidies in
-      let e₁ = sum-mid empty (c .front) (c .hit) (c .back) in
-      let e₂ : sum empty (itemEntries (c .hit)) ≡ sum empty (refEntries (m .extent) (x .front ++ (x .hit ∷ [] ++ x .back))) =
-      ap (sum empty) (record-entries (c .hit) b (H .view) ∙ ap₂ refEntries (H .extent) e) in
-      let e₃ = sum-refs empty (m .extent) (x .front) (x .hit ∷ []) (x .back) in
-      let e₄ = ap (sum empty) entries-at in
-      let e₅ = B .nonempty in
+      let e₁ = sums-at empty in
+      let e₂ = balance .nonempty in
       positive m (x .hit .weight) (omega arith)
 
+  -- the record's total covers it
+  within-at : x .hit .weight ≤ b .total
+  within-at =
+      let e₁ = total-is m items c b H balance tidies in
+      let e₂ = sums-at (ofExtent (m .extent)) in
+      let e₃ = extent-self m (some (x .hit .weight)) in
+      omega arith
+
   -- some of its count goes
-  pub inline-less : (n : ℕ) → 1 ≤ n → n < x .hit .weight → n ≤ b .total
-      → Step m 0 n false items (putBack c (bodyBytes (bodyWith b (b .total - n) (x .front ++ weighed (x .hit) (x .hit .weight - n) ∷ x .back))))
+  pub inline-less : (n : ℕ) → 1 ≤ n → n < x .hit .weight
+      → Step m 0 n items (putBack c (bodyBytes (bodyWith b (b .total - n) (x .front ++ weighed (x .hit) (x .hit .weight - n) ∷ x .back))))
   unfolding refEntries
-  inline-less n one≤ less within =
+  inline-less n one≤ less =
+      let within = within-at in
       let w : ℕ = x .hit .weight in
       let S = H .sound in
       let fits = S .fits in
       let (k, f) = named-yes (m .kind) (m .fields) (x .hit) t in
       let x′ : Ref = weighed (x .hit) (w - n) in
-      let ws : T (all whole (x .front ++ x .hit ∷ x .back)) = rw e at (S .wholes) in
-      let wx : Whole (x .hit) = whole-out (x .hit) (all-mid whole (x .front) (x .hit) (x .back) ws) in
-      let w′ : T (whole x′) =
-      whole-in x′ (record {
-        kindKnown = wx .kindKnown;
-        fieldsLong = wx .fieldsLong;
-        fieldsSmall = wx .fieldsSmall;
-        weighs = λ u. (let z = wx .weighs u in omega arith);
-        weightFixed = λ u.
-            (let z = wx .weightFixed u in
-            let y : weightOf (x .hit .kind) 0 ≡ 1 = weighs-one (x .hit .kind) (rw k naming) 0 u in
-            absurd (omega arith));
-      }) in
       let lt : b .total - n < 18446744073709551616 = omega arith in
       let v : 1 ≤ w - n = omega arith in
       inline-step m items c b H balance tidies (some w) (some (w - n)) (bodyWith b (b .total - n) (x .front ++ x′ ∷ x .back))
@@ -89,14 +106,15 @@ module _ (m : Name) (naming : Naming (m .kind)) (items : List Item) (c : Cut Ite
       })
       (ordered-weighed (x .front) (x .hit) (w - n) (x .back) (rw e at (ordered-at m items c b H balance tidies))) (omega arith)
       (sound-with (c .hit .key .kind) b (b .total - n) (x .front ++ x′ ∷ x .back) S lt
-      (all-put whole (x .front) x′ (x .back) (all-rest whole (x .front) (x .hit) (x .back) ws) w′))
-      n 0 (omega arith) (not-empty m (w - n) v) tt false (λ z. absurd z)
+      (less-whole x (rw k naming) (rw e at (S .wholes)) n one≤ less))
+      n 0 (omega arith) (not-empty m (w - n) v) tt
 
   -- all of it goes
-  pub inline-gone : (n : ℕ) → x .hit .weight ≡ n → n ≤ b .total → (wipe : Bool)
-      → Step m 0 n wipe items (putBack c (bodyBytes (bodyWith b (b .total - n) (x .front ++ x .back))))
+  pub inline-gone : (n : ℕ) → x .hit .weight ≡ n
+      → Step m 0 n items (putBack c (bodyBytes (bodyWith b (b .total - n) (x .front ++ x .back))))
   unfolding refEntries
-  inline-gone n same within wipe =
+  inline-gone n same =
+      let within = within-at in
       let w : ℕ = x .hit .weight in
       let S = H .sound in
       let fits = S .fits in
@@ -106,7 +124,7 @@ module _ (m : Name) (naming : Naming (m .kind)) (items : List Item) (c : Cut Ite
       (record { front = x .front; leaves = x .hit ∷ []; enters = []; back = x .back; was = e; now = refl; leaving = entries-at; entering = refl })
       (ordered-drop (x .front) (x .hit) (x .back) (rw e at (ordered-at m items c b H balance tidies))) (omega arith)
       (sound-with (c .hit .key .kind) b (b .total - n) (x .front ++ x .back) S lt (all-rest whole (x .front) (x .hit) (x .back) ws))
-      n 0 (omega arith) refl tt wipe (λ _. (refl, (w, refl)))
+      n 0 (omega arith) refl tt
 
 -- ---- the first of a list, past what does not count
 
@@ -139,29 +157,74 @@ key-record x r i t h =
     subst (λ (k : Key). T ((eqb (k .kind) 168 || eqb (k .kind) 169) && eqb (k .objectid) x))
     (sym (sameKey-yes (i .key) (r .key) h)) t
 
+-- so no item before the first one has its key
+pub before-record : (x : ℕ) (r : Item) (a : List Item) → T (recordOf x r) → T (all (λ i. not (recordOf x i)) a)
+    → T (all (λ i. not (hasKey (r .key) i)) a)
+before-record x r a t u =
+    all-map (λ i. not (recordOf x i)) (λ i. not (hasKey (r .key) i))
+    (λ i v. not-T (hasKey (r .key) i) (λ k. T-not (recordOf x i) (key-record x r i t k) v)) a u
+
 -- ---- as an item
 
--- an item that stands for a name counts something
-pub item-counts : (items : List Item) → Balanced items → (k : Cut Item) → items ≡ k .front ++ k .hit ∷ k .back
-    → (m : Name) (w : ℕ) → itemEntries (k .hit) ≡ only m (some w) → 1 ≤ w
-item-counts items balance k ek m w ew =
-    let e₁ = ap (λ (l : List Item). sum empty (entries l)) ek ∙ sum-mid empty (k .front) (k .hit) (k .back) in
-    let e₂ = ap (sum empty) ew in
-    let e₃ = balance .nonempty in
-    positive m w (omega arith)
+-- the item at a cut stands for the name and counts w
+pub record Own (m : Name) (items : List Item) (k : Cut Item) (w : ℕ) : Type 0 where
+  pub same : items ≡ k .front ++ k .hit ∷ k .back
+  pub isGood : T (good (k .hit))
+  pub kind : k .hit .key .kind ≡ m .kind
+  pub extent : k .hit .key .objectid ≡ m .extent
+  pub entry : itemEntries (k .hit) ≡ only m (some w)
+  pub sums : (g : Entry → ℕ)
+      → sum g (entries items) ≡ sum g (entries (k .front)) + sum g (only m (some w)) + sum g (entries (k .back))
+  pub counts : count m items ≡ w
+  pub positive : 1 ≤ w
 
--- the item at a cut stands for the name with the weight w
+pub own-of : (m : Name) (items : List Item) (k : Cut Item) (w : ℕ) → Balanced items → items ≡ k .front ++ k .hit ∷ k .back
+    → k .hit .key .kind ≡ m .kind → k .hit .key .objectid ≡ m .extent → itemEntries (k .hit) ≡ only m (some w) → Own m items k w
+own-of m items k w bal same kind extent entry =
+    let parts : (g : Entry → ℕ) → sum g (entries items) ≡ sum g (entries (k .front)) + sum g (only m (some w)) + sum g (entries
+    (k .back)) =
+    (λ g. ap (λ (l : List Item). sum g (entries l)) same ∙ sum-mid g (k .front) (k .hit) (k .back)
+    ∙ ap (λ (l : List Entry). sum g (entries (k .front)) + sum g l + sum g (entries (k .back))) entry) in
+    let n₁ = bal .names m in
+    let n₂ = parts (stands m) in
+    let n₃ = only-stands m w in
+    let u₁ = unstood m (entries (k .front)) (omega arith) in
+    let u₂ = unstood m (entries (k .back)) (omega arith) in
+    let p₁ = parts (under m) in
+    let p₂ = only-counts m w in
+    let e₁ = parts empty in
+    let e₂ = bal .nonempty in
+    record {
+      same = same;
+      isGood = all-mid good (k .front) (k .hit) (k .back) (rw same at (bal .goods));
+      kind = kind;
+      extent = extent;
+      entry = entry;
+      sums = parts;
+      counts = omega arith;
+      positive = positive m w (omega arith);
+    }
 
-module _ (m : Name) (items : List Item) (c : Cut Item) (b : Body) (H : Here m items c b) (balance : Balanced items)
-    (tidies : T (all tidy items))
-    (k : Cut Item) (ek : items ≡ k .front ++ k .hit ∷ k .back) (naming : Naming (k .hit .key .kind))
-    (ox : k .hit .key .objectid ≡ m .extent)
-    (w : ℕ) (ew : itemEntries (k .hit) ≡ only m (some w)) where
-  pub balanced-k : Balanced (k .front ++ k .hit ∷ k .back)
-  balanced-k = rw ek at balance
+pub own-bytes : (m : Name) (items : List Item) (k : Cut Item) (w : ℕ) → Own m items k w → T (all tidy items)
+    → T (areBytes (k .hit .bytes))
+own-bytes m items k w O t = tidy-bytes (k .hit) (all-mid tidy (k .front) (k .hit) (k .back) (rw (O .same) at t))
 
-  pub tidy-k : T (all tidy (k .front ++ k .hit ∷ k .back))
-  tidy-k = rw ek at tidies
+-- what is left of an item with so much off its weight: nothing, or other data with the rest as its weight
+pub data Left (m : Name) (i : Item) (w n : ℕ) (left : Answer (List ℕ)) : Type 0 where
+  goes : w ≡ n → left ≡ remove → Left m i w n left
+  stays : n < w → (d : List ℕ) → left ≡ accepted d → T (areBytes d) → T (good (withBytes i d))
+      → itemEntries (withBytes i d) ≡ only m (some (w - n)) → Left m i w n left
+
+module _ (m : Name) (naming : Naming (m .kind)) (items : List Item) (c : Cut Item) (b : Body) (H : Here m items c b)
+    (balance : Balanced items) (tidies : T (all tidy items)) (k : Cut Item) (w : ℕ) (O : Own m items k w) where
+  balanced-k : Balanced (k .front ++ k .hit ∷ k .back)
+  balanced-k = rw (O .same) at balance
+
+  tidy-k : T (all tidy (k .front ++ k .hit ∷ k .back))
+  tidy-k = rw (O .same) at tidies
+
+  no-record : T (not (isRecord (k .hit)))
+  no-record = naming-no-record (k .hit) (subst Naming (sym (O .kind)) naming)
 
   -- the record found by its key afterwards is the one that was read
   same-record : (o : List Item) → T (all (λ i. not (isRecord i)) o) → (c′ : Cut Item)
@@ -169,27 +232,33 @@ module _ (m : Name) (items : List Item) (c : Cut Item) (b : Body) (H : Here m it
   same-record o t c′ f =
       let p : Item → Bool = hasKey (c .hit .key) in
       let r : T (recordOf (m .extent) (c .hit)) = H .found .hit in
-      let front : T (all (λ i. not (p i)) (c .front)) =
-      all-map (λ i. not (recordOf (m .extent) i)) (λ i. not (p i))
-      (λ i u. not-T (p i) (λ v. T-not (recordOf (m .extent) i) (key-record (m .extent) (c .hit) i r v) u)) (c .front) (H .found .miss) in
+      let front = before-record (m .extent) (c .hit) (c .front) r (H .found .miss) in
       let no-key : (i : Item) → T (not (isRecord i)) → T (not (p i)) =
       (λ i u. not-T (p i) (λ v. T-not (isRecord i) (and-yes (isRecord i) _ (key-record (m .extent) (c .hit) i r v) .0) u)) in
-      some-inj (sym (first-at p (c .front) (c .hit) (c .back) front (sameKey-refl (c .hit .key))) ∙ ap (first p) (sym (H .found .same) ∙ ek)
+      some-inj (sym (first-at p (c .front) (c .hit) (c .back) front (sameKey-refl (c .hit .key))) ∙ ap (first p) (sym (H .found .same) ∙ O .same)
       ∙ first-skip p (k .front) (k .hit ∷ []) (k .back)
-      (yes-and (not (p (k .hit))) true (no-key (k .hit) (naming-no-record (k .hit) naming)) tt)
+      (yes-and (not (p (k .hit))) true (no-key (k .hit) no-record) tt)
       ∙ sym (first-skip p (k .front) o (k .back) (all-map (λ i. not (isRecord i)) (λ i. not (p i)) no-key o t))
       ∙ first-found p (k .front ++ (o ++ k .back)) c′ f)
 
-  finish : (n : ℕ) → n ≤ b .total → (wipe : Bool) (o : List Item) (new : Option ℕ) → T (all (λ i. not (isRecord i)) o)
+  -- the record's total covers it
+  within-k : w ≤ b .total
+  within-k =
+      let e₁ = total-is m items c b H balance tidies in
+      let e₂ = O .sums (ofExtent (m .extent)) in
+      let e₃ = extent-self m (some w) in
+      omega arith
+
+  finish : (n : ℕ) (o : List Item) (new : Option ℕ) → T (all (λ i. not (isRecord i)) o)
       → Half (m .extent) items (k .front ++ (o ++ k .back)) → T (all tidy (k .front ++ (o ++ k .back)))
       → ((g : Entry → ℕ) → sum g (entries (k .front ++ (o ++ k .back))) + sum g (only m (some w)) ≡ sum g (entries items) + sum g (only m new))
       → worth new + n ≡ w → sum empty (only m new) ≡ 0 → Fresh (some w) new (sum (stands m) (entries items))
-      → (T wipe → new ≡ none)
       → (after : List Item)
       → replaced (c .hit .key) (bodyBytes (bodyWith b (b .total - n) (b .refs))) (k .front ++ (o ++ k .back)) ≡ accepted after
-      → Step m 0 n wipe items after
+      → Step m 0 n items after
   unfolding replaced
-  finish n within wipe o new nr half tj sums moves nonempty free gone after e =
+  finish n o new nr half tj sums moves nonempty free after e =
+      let within = within-k in
       let js : List Item = k .front ++ (o ++ k .back) in
       let h = bind-ok (needed 5 (firstCut (hasKey (c .hit .key)) js)) _ e in
       let c′ : Cut Item = h .0 in
@@ -203,7 +272,7 @@ module _ (m : Name) (items : List Item) (c : Cut Item) (b : Body) (H : Here m it
       subst (λ (z : Item). Sound (z .key .kind) b′) r (sound-with (c .hit .key .kind) b (b .total - n) (b .refs) S lt (S .wholes)) in
       let isRec : T (isRecord (c′ .hit)) = subst (λ (z : Item). T (isRecord z)) r (H .isRec) in
       let tj′ : T (all tidy (c′ .front ++ c′ .hit ∷ c′ .back)) = rw (f .same) at tj in
-      subst (Step m 0 n wipe items) (accepted-inj (h .2))
+      subst (Step m 0 n items) (accepted-inj (h .2))
       (record {
         old = some w;
         new = new;
@@ -216,42 +285,54 @@ module _ (m : Name) (items : List Item) (c : Cut Item) (b : Body) (H : Here m it
         moves = omega arith;
         nonempty = nonempty;
         free = free;
-        gone = λ a. (gone a, (w, refl));
         tidied = all-put tidy (c′ .front) (withBytes (c′ .hit) (bodyBytes b′)) (c′ .back) (all-rest tidy (c′ .front) (c′ .hit) (c′ .back) tj′)
             (tidy-with (c′ .hit) (bodyBytes b′) (all-mid tidy (c′ .front) (c′ .hit) (c′ .back) tj′) (areBytes-bodyBytes (c′ .hit .key .kind) b′ S′));
       })
 
   -- the item goes
-  pub item-gone : (n : ℕ) → w ≡ n → n ≤ b .total → (wipe : Bool) (after : List Item)
+  item-gone : (n : ℕ) → w ≡ n → (after : List Item)
       → replaced (c .hit .key) (bodyBytes (bodyWith b (b .total - n) (b .refs))) (without k) ≡ accepted after
-      → Step m 0 n wipe items after
-  item-gone n same within wipe after e =
-      finish n within wipe [] none tt
-      (rw ek (half-drop (m .extent) (k .front) (k .hit) (k .back) balanced-k (naming-no-record (k .hit) naming) ox))
+      → Step m 0 n items after
+  item-gone n same after e =
+      finish n [] none tt
+      (rw (O .same) (half-drop (m .extent) (k .front) (k .hit) (k .back) balanced-k no-record (O .extent)))
       (all-rest tidy (k .front) (k .hit) (k .back) tidy-k)
       (λ g.
       let e₁ = sum-two g (k .front) (k .back) in
-      let e₂ = ap (λ (z : List Item). sum g (entries z)) ek ∙ sum-mid g (k .front) (k .hit) (k .back) in
-      let e₃ = ap (sum g) ew in
+      let e₂ = O .sums g in
       omega arith)
-      (omega arith) refl tt (λ _. refl) after e
+      (omega arith) refl tt after e
 
   -- the item has other data, and the name a lower weight
-  pub item-less : (n : ℕ) → n ≤ b .total → (d : List ℕ) (v : ℕ) → T (areBytes d) → T (good (withBytes (k .hit) d))
-      → itemEntries (withBytes (k .hit) d) ≡ only m (some v) → 1 ≤ v → v + n ≡ w → (after : List Item)
+  item-less : (n : ℕ) → n < w → (d : List ℕ) → T (areBytes d) → T (good (withBytes (k .hit) d))
+      → itemEntries (withBytes (k .hit) d) ≡ only m (some (w - n)) → (after : List Item)
       → replaced (c .hit .key) (bodyBytes (bodyWith b (b .total - n) (b .refs))) (putBack k d) ≡ accepted after
-      → Step m 0 n false items after
+      → Step m 0 n items after
   unfolding isRecord
-  item-less n within d v bytes gd ev one≤ rest after e =
-      finish n within false (withBytes (k .hit) d ∷ []) (some v)
-      (yes-and (not (isRecord (k .hit))) true (naming-no-record (k .hit) naming) tt)
-      (rw ek (half-swap (m .extent) (k .front) (k .hit) (k .back) d balanced-k (naming-no-record (k .hit) naming) ox gd))
+  item-less n less d bytes gd ev after e =
+      let v : 1 ≤ w - n = omega arith in
+      finish n (withBytes (k .hit) d ∷ []) (some (w - n))
+      (yes-and (not (isRecord (k .hit))) true no-record tt)
+      (rw (O .same) (half-swap (m .extent) (k .front) (k .hit) (k .back) d balanced-k no-record (O .extent) gd))
       (all-put tidy (k .front) (withBytes (k .hit) d) (k .back) (all-rest tidy (k .front) (k .hit) (k .back) tidy-k)
       (tidy-with (k .hit) d (all-mid tidy (k .front) (k .hit) (k .back) tidy-k) bytes))
       (λ g.
       let e₁ = sum-mid g (k .front) (withBytes (k .hit) d) (k .back) in
-      let e₂ = ap (λ (z : List Item). sum g (entries z)) ek ∙ sum-mid g (k .front) (k .hit) (k .back) in
-      let e₃ = ap (sum g) ev in
-      let e₄ = ap (sum g) ew in
+      let e₂ = ap (sum g) ev in
+      let e₃ = O .sums g in
       omega arith)
-      rest (not-empty m v one≤) tt (λ z. absurd z) after e
+      (omega arith) (not-empty m (w - n) v) tt after e
+
+  pub item-left : (n : ℕ) (left : Answer (List ℕ)) → Left m (k .hit) w n left → (others after : List Item)
+      → droppedAt k left ≡ accepted others
+      → replaced (c .hit .key) (bodyBytes (bodyWith b (b .total - n) (b .refs))) others ≡ accepted after
+      → Step m 0 n items after
+  unfolding droppedAt
+  item-left n left (goes same el) others after eo e =
+      item-gone n same after
+      (ap (replaced (c .hit .key) (bodyBytes (bodyWith b (b .total - n) (b .refs))))
+      (accepted-inj (ap (droppedAt k) (sym el) ∙ eo)) ∙ e)
+  item-left n left (stays less d el bytes gd ev) others after eo e =
+      item-less n less d bytes gd ev after
+      (ap (replaced (c .hit .key) (bodyBytes (bodyWith b (b .total - n) (b .refs))))
+      (accepted-inj (ap (droppedAt k) (sym el) ∙ eo)) ∙ e)

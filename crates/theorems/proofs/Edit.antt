@@ -17,7 +17,7 @@ use Rattle.format.specs.Apply.{isRecord, recordOf}
 use Rattle.format.specs.Names.{Name, sameName, Entry, extentRecord, isRefItem, viewOf, refEntries, viewEntries, itemEntries, entries, under, count, wellFormed, good, isRecordOf, records, paired, stands, single, counts, ofExtent, viewTotal, totalled, balanced}
 use Rattle.format.specs.History.{itemsOf}
 use Rattle.format.proofs.Keys.{rising-drop, rising-swap}
-use Rattle.theorems.proofs.Sums.{sameName-yes, names-out, names-in, empty, counts-out, counts-in, sum-mid, sum-refs}
+use Rattle.theorems.proofs.Sums.{sameName-yes, sameName-refl, names-out, names-in, empty, counts-out, counts-in, sum-mid, sum-refs}
 
 -- ---- one entry, or none, under a name
 
@@ -28,6 +28,20 @@ only m (some w) = record { name = m; weight = w } ∷ []
 abbrev pub worth : Option ℕ → ℕ
 worth none = 0
 worth (some w) = w
+
+pub only-name : (m n : Name) {v w : ℕ} → only m (some v) ≡ only n (some w) → m ≡ n
+only-name m n e = ap nameIn e
+  where
+    nameIn : List Entry → Name
+    nameIn [] = m
+    nameIn (x ∷ l) = x .name
+
+-- one entry under its own name
+pub only-stands : (m : Name) (w : ℕ) → sum (stands m) (only m (some w)) ≡ 1
+only-stands m w = omega (arith, cond-yes {A = ℕ} (sameName m m) 1 0 (sameName-refl m))
+
+pub only-counts : (m : Name) (w : ℕ) → sum (under m) (only m (some w)) ≡ w
+only-counts m w = omega (arith, cond-yes {A = ℕ} (sameName m m) w 0 (sameName-refl m))
 
 -- ---- the items of another extent
 

@@ -11,18 +11,19 @@ use lib.ListN.{length}
 use lib.Dec.{T, leb, eqb, eqb-refl, eqb→eq, leb→le, le→leb}
 use mir.Facts.{and-yes, yes-and, T-not, yes-eqb}
 use Rattle.fields.specs.Lists.{sum, all}
-use Rattle.fields.specs.Numbers.{le, words, areBytes}
+use Rattle.fields.specs.Numbers.{le, leBytes, words, areBytes}
 use Rattle.fields.specs.Parts.{part}
 use Rattle.fields.proofs.Lists.{T-eq, cond-yes, cond-no, sum-append, all-both}
 use Rattle.fields.proofs.Parts.{length-part}
-use Rattle.fields.proofs.Numbers.{areBytes-part, le-bound}
+use Rattle.fields.proofs.Numbers.{areBytes-part, le-bound, le-leBytes}
 use Rattle.format.specs.Questions.{Answer, refused, absent, remove, accepted}
 use Rattle.format.specs.References.{known, payloadLength, countPosition, counted, fieldCount, rowIn, weightOf, Ref, makeRef, refAt, Body, readBody, bodyBytes, rank}
-use Rattle.format.specs.Bodies.{named, one, keyedCount}
+use Rattle.format.specs.Bodies.{named, one, weighed, keyedCount}
 use Rattle.format.specs.Items.{Item, withBytes}
 use Rattle.format.specs.Apply.{isRecord, recordOf}
 use Rattle.format.specs.Names.{Name, sameName, Entry, View, extentRecord, reference, unrelated, malformed, isRefItem, viewRecord, inForm, viewRefItem, viewOf, refEntry, refEntries, viewEntries, itemEntries, entries, under, wellFormed, good, stands}
 use Rattle.format.specs.Ledger.{notItsOwn, sharedCount}
+use Rattle.format.proofs.Refs.{whole, whole-in, whole-out}
 use Rattle.format.proofs.Bodies.{Sound, read-bodyBytes}
 use Rattle.theorems.proofs.Sums.{sameName-yes, empty}
 use Rattle.theorems.proofs.Naming.{Naming, is176, is178, is182, is184}
@@ -155,6 +156,20 @@ pub named-entries : (m : Name) (r : Ref) → eqb (m .kind) 172 ≡ false → r .
 unfolding refEntries
 named-entries m r q k f = ap (λ (l : List Entry). l ++ []) (named-entry m r q k f)
 
+-- a reference that bytes can hold, with another weight
+pub whole-weighed : (r : Ref) (v : ℕ) → T (whole r) → (T (counted (r .kind)) → v < 4294967296)
+    → (T (not (counted (r .kind))) → v ≡ r .weight) → T (whole (weighed r v))
+whole-weighed r v t small fixed =
+    let w = whole-out r t in
+    whole-in (weighed r v)
+    (record {
+      kindKnown = w .kindKnown;
+      fieldsLong = w .fieldsLong;
+      fieldsSmall = w .fieldsSmall;
+      weighs = small;
+      weightFixed = λ u. fixed u ∙ w .weightFixed u;
+    })
+
 -- ---- a reference as an item
 
 pub view-item : (i : Item) → Naming (i .key .kind) → viewOf i ≡ viewRefItem i
@@ -168,6 +183,12 @@ in-form : (v : View) (c : Bool) (r : Ref) → v ≡ inForm c r → T (wellFormed
 unfolding inForm wellFormed
 in-form v true r e t = e
 in-form v false r e t = absurd (subst (λ (y : View). T (wellFormed y)) e t)
+
+-- the data that an item in its form has
+pub form-out : (v : View) (c : Bool) (r : Ref) → v ≡ inForm c r → T (wellFormed v) → T c
+unfolding inForm wellFormed
+form-out v true r e t = tt
+form-out v false r e t = absurd (subst (λ (y : View). T (wellFormed y)) e t)
 
 -- the entry of an item, from the reference that it is
 form-entry : (i : Item) (c : Bool) (r : Ref) → Naming (i .key .kind) → viewRefItem i ≡ inForm c r → T (good i)
@@ -242,12 +263,56 @@ data-good i e l o =
     ∙ cond-yes f _ _ (yes-and (eqb (length d) 28) _ (yes-eqb l) (yes-eqb o′)) in
     subst (λ (y : View). T (wellFormed y)) (sym v) tt
 
+-- the data of the others: a count for 184, else none
+pub plain-form : (i : Item) → Naming (i .key .kind) → eqb (i .key .kind) 178 ≡ false → T (good i)
+    → length (i .bytes) ≡ cond (eqb (i .key .kind) 184) 4 0
+unfolding viewRefItem
+plain-form i k q t = go (eqb (i .key .kind) 184) refl
+  where
+    n₁ : T (not (eqb (i .key .kind) 178))
+    n₁ = subst (λ (c : Bool). T (not c)) (sym q) tt
+
+    go : (c : Bool) → eqb (i .key .kind) 184 ≡ c → length (i .bytes) ≡ cond c 4 0
+    go true p =
+        eqb→eq _ _ (form-out (viewOf i) (eqb (length (i .bytes)) 4) (makeRef 184 (one (i .key .offset)) (le (i .bytes)))
+        (view-item i k ∙ cond-no (eqb (i .key .kind) 178) _ _ n₁ ∙ cond-yes (eqb (i .key .kind) 184) _ _ (subst T (sym p) tt)) t)
+    go false p =
+        eqb→eq _ _ (form-out (viewOf i) (eqb (length (i .bytes)) 0) (makeRef (i .key .kind) (one (i .key .offset)) 1)
+        (view-item i k ∙ cond-no (eqb (i .key .kind) 178) _ _ n₁ ∙ cond-no (eqb (i .key .kind) 184) _ _
+        (subst (λ (c : Bool). T (not c)) (sym p) tt)) t)
+
+pub shared-good : (i : Item) → i .key .kind ≡ 184 → length (i .bytes) ≡ 4 → T (good i)
+unfolding viewRefItem inForm wellFormed
+shared-good i e l =
+    let v : viewOf i ≡ reference (makeRef 184 (one (i .key .offset)) (le (i .bytes))) =
+    view-item i (is184 e) ∙ cond-no (eqb (i .key .kind) 178) _ _ (rw e tt)
+    ∙ cond-yes (eqb (i .key .kind) 184) _ _ (yes-eqb e) ∙ cond-yes (eqb (length (i .bytes)) 4) _ _ (yes-eqb l) in
+    subst (λ (y : View). T (wellFormed y)) (sym v) tt
+
 -- a count of four bytes
 pub count-fits : (d : List ℕ) → length d ≡ 28 → T (areBytes d) → keyedCount d < 4294967296
 unfolding keyedCount
 count-fits d e t =
     let l : length (part 24 4 d) ≡ 4 = length-part 4 24 d (omega arith) in
     rw l at (le-bound (part 24 4 d) (areBytes-part 24 4 d t))
+
+-- that of a shared reference, and it written anew where there is more than one
+pub shared-fits : (i : Item) → Naming (i .key .kind) → eqb (i .key .kind) 178 ≡ false → T (good i) → T (areBytes (i .bytes))
+    → sharedCount i < 4294967296
+unfolding sharedCount
+shared-fits i k q g t = go (eqb (i .key .kind) 184) (plain-form i k q g)
+  where
+    go : (c : Bool) → length (i .bytes) ≡ cond c 4 0 → cond c (le (i .bytes)) 1 < 4294967296
+    go true e = rw e at (le-bound (i .bytes) t)
+    go false e = omega arith
+
+pub shared-set : (i : Item) (v : ℕ) → 1 < sharedCount i → v < 4294967296 → sharedCount (withBytes i (leBytes 4 v)) ≡ v
+unfolding sharedCount
+shared-set i v h k = go (eqb (i .key .kind) 184) h
+  where
+    go : (c : Bool) → 1 < cond c (le (i .bytes)) 1 → cond c (le (leBytes 4 v)) 1 ≡ v
+    go true h = le-leBytes 4 v k
+    go false h = absurd (omega arith)
 
 -- ---- a name that does not stand counts nothing
 

@@ -1,20 +1,18 @@
--- On a balanced sheet no posting is refused with 6, 7, 8, 12, 14 or 16: bodies read, no total outgrows 64 bits, none is below a
--- weight under it, and no data item counts 0. Assumes nothing.
-use mathlib.Core.Path.{_≡_, refl, sym, ap, ap₂, _∙_, subst}
+-- On a balanced sheet no posting is refused with 6, 7, 8, 12, 14 or 16: bodies read, no total outgrows 64 bits, 14 is put to no
+-- change, and no data item counts 0. Assumes nothing.
+use mathlib.Core.Path.{_≡_, refl, sym, ap, subst}
 use mathlib.Core.Logic.{_≢_}
 use mathlib.Core.Bool.{Bool, true, false, not, _&&_, _||_, cond}
-use mathlib.Core.List.{List, [], _∷_, _++_}
+use mathlib.Core.List.{List, _∷_, _++_}
 use mathlib.Core.Option.{Option, none, some}
 use Prim.Native.Nat.{ℕ, zero, suc, _+_, _-_, _*_, _^_, _≤_, _<_}
 use native.Mathlib.Omega.{arith}
 use lib.Dec.{T, leb, ltb, eqb, le→leb, ltb→lt, lt→ltb}
 use lib.ListN.{length}
-use mir.Facts.{and-yes}
-use Rattle.fields.specs.Lists.{sum, all, same, Cut, firstCut}
+use Rattle.fields.specs.Lists.{all, same, Cut, firstCut}
 use Rattle.fields.specs.Numbers.{leBytes, words, areBytes}
 use Rattle.fields.specs.Parts.{written}
 use Rattle.fields.proofs.Lists.{all-map, all-mid}
-use Rattle.format.specs.declared.BlockRef.{BlockRef}
 use Rattle.format.specs.declared.DataRef.{DataRef}
 use Rattle.format.specs.declared.SharedRef.{SharedRef}
 use Rattle.format.specs.declared.Keyed.{Keyed}
@@ -22,27 +20,25 @@ use Rattle.format.specs.declared.Keyed.the-variants.{Block, Data}
 use Rattle.format.specs.declared.Key.{Key}
 use Rattle.format.specs.declared.Change.{Change}
 use Rattle.format.specs.declared.Change.the-variants.{AddBlock, AddData, AddShared, DropBlock, DropData, DropShared}
-use Rattle.format.specs.Questions.{Answer, refused, absent, remove, accepted, ask, bind, needed, found, ifAbsent, also, held, TakenOut}
-use Rattle.format.specs.References.{counted, Ref, Body, bodyWith, totalOf, readBody, bodyBytes, rankOf}
-use Rattle.format.specs.Bodies.{named, one, triple, bodyFits, sharedKind, onBody, onHead, raisedBy, loweredByOne, reducedBy, onTotal, lowerTotal, reduceTotal, dropInline, dropInlineTreeRef, dropInlineDataRef, takeInlineShared, keyedCount, dropKeyedDataRef, RefPosition, isGap, standingWeight, addAt, addInlineTreeRef, addInlineData, addInlineShared}
-use Rattle.format.specs.Items.{Item, keyOf, readSheet, onSheet, nodesizeFits, sheetHolds, heldSheet}
-use Rattle.format.specs.Sheets.{hasKey, deleted}
-use Rattle.format.specs.Apply.{inlineLimit, recordOf, onRecord, replaced, keyedBody, applyKeyedAdd, sharedBody, applySharedAdd, flagged, dropTreeRef}
-use Rattle.format.specs.Names.{Name, Entry, refEntries, itemEntries, entries, good, ofExtent, balanced}
-use Rattle.format.specs.Ledger.{nameOf, notItsOwn, kindFits, added, droppedAt, dropDataRef, sharedCount, dropSharedRef, changed, post, posted}
+use Rattle.format.specs.Questions.{Answer, refused, absent, remove, accepted, ask, bind, needed, found, ifAbsent, also, held}
+use Rattle.format.specs.References.{counted, Ref, Body, totalOf, readBody}
+use Rattle.format.specs.Bodies.{named, triple, bodyFits, sharedKind, onBody, onHead, raisedBy, loweredByOne, loweredByPart, onTotal, dropInline, keyedCount, dropKeyedDataRef, RefPosition, isGap, standingWeight, addAt, addInlineTreeRef, addInlineData, addInlineShared}
+use Rattle.format.specs.Items.{Item, readSheet, onSheet, nodesizeFits, sheetHolds, heldSheet}
+use Rattle.format.specs.Sheets.{hasKey}
+use Rattle.format.specs.Apply.{inlineLimit, recordOf, onRecord, replaced, keyedBody, applyKeyedAdd, sharedBody, applySharedAdd}
+use Rattle.format.specs.Names.{Name, good, balanced}
+use Rattle.format.specs.Ledger.{nameOf, notItsOwn, kindFits, added, droppedAt, sharedCount, lessItem, changed, post, posted}
 use Rattle.format.specs.History.{Posting, answerTo, balancedSheet}
 use Rattle.format.proofs.Answers.{bind-yes, needed-ok}
-use Rattle.format.proofs.Bodies.{Sound, read-bodyBytes, read-long, read-total}
+use Rattle.format.proofs.Bodies.{read-long, read-total}
 use Rattle.format.proofs.Items.{sane, sheet-sane}
-use Rattle.theorems.proofs.Sums.{sum-mid, sum-refs}
-use Rattle.theorems.proofs.Naming.{Naming, not-172, shared-naming}
-use Rattle.theorems.proofs.Order.{named-yes}
-use Rattle.theorems.proofs.Edit.{only, Balanced, balanced-out, extent-self, record-entries}
-use Rattle.theorems.proofs.Facts.{named-entries, data-entry}
+use Rattle.theorems.proofs.Edit.{Balanced, balanced-out}
+use Rattle.theorems.proofs.Facts.{data-entry}
 use Rattle.theorems.proofs.Steps.{tidy, sane-tidy, Here, here-of}
-use Rattle.theorems.proofs.Drops.{item-counts}
-use Rattle.theorems.proofs.DropCalls.{shared-found, sound-without, key-found, keyed-entry, not-178}
-use Rattle.theorems.proofs.Bounds.{total-is, total-bound}
+use Rattle.theorems.proofs.OneDrop.{Drop, itemKey, inBody, dropped, blockDrop, dataDrop, sharedDrop, block-changes, data-changes, shared-changes}
+use Rattle.theorems.proofs.Drops.{own-of}
+use Rattle.theorems.proofs.DropCalls.{key-found}
+use Rattle.theorems.proofs.Bounds.{total-bound}
 use Rattle.theorems.proofs.Changes.{on-of}
 
 -- ---- the refusals that are left
@@ -152,18 +148,10 @@ clean-lowered : (total : ℕ) → T (clean (loweredByOne total))
 unfolding loweredByOne allowed
 clean-lowered total = clean-ask (leb 2 total) 13 _ tt (λ _. tt)
 
-clean-reduced : (amount total : ℕ) → amount ≤ total → T (clean (reducedBy amount total))
-unfolding reducedBy
-clean-reduced amount total h = clean-sure (leb amount total) 14 _ (le→leb amount total h) tt
-
-clean-lowerTotal : (type : ℕ) (d : List ℕ) (b : Body) → readBody type d ≡ accepted b → T (clean (lowerTotal d))
-unfolding lowerTotal
-clean-lowerTotal type d b r = clean-onTotal type d b loweredByOne r (clean-lowered (b .total))
-
-clean-reduceTotal : (type : ℕ) (d : List ℕ) (b : Body) (amount : ℕ) → readBody type d ≡ accepted b → amount ≤ b .total
-    → T (clean (reduceTotal d amount))
-unfolding reduceTotal
-clean-reduceTotal type d b amount r h = clean-onTotal type d b (reducedBy amount) r (clean-reduced amount (b .total) h)
+clean-part : (amount standing total : ℕ) → T (clean (loweredByPart amount standing total))
+unfolding loweredByPart allowed
+clean-part amount standing total =
+    clean-ask (leb 1 amount) 10 _ tt (λ _. clean-ask (leb amount standing) 22 _ tt (λ _. tt))
 
 -- 12: what passes 11 is small
 clean-addAt : (b : Body) (r : Ref) (position : RefPosition) → b .total ≤ 4294967296 * 262144 → T (clean (addAt b r position))
@@ -178,14 +166,6 @@ clean-addAt b r position h =
     clean-sure (ltb (b .total + r .weight) (2 ^ 64)) 12 _
     (lt→ltb (b .total + r .weight) 18446744073709551616 k) tt) (λ t _. tt))))
 
-clean-dropInline : (type : ℕ) (d : List ℕ) (b : Body) (kind : ℕ) (fields : List ℕ) → readBody type d ≡ accepted b
-    → T (clean (dropInline type d kind fields))
-unfolding dropInline
-clean-dropInline type d b kind fields r =
-    clean-onBody type d b _ r
-    (clean-bind (found (firstCut (named kind fields) (b .refs))) _ (clean-found (firstCut (named kind fields) (b .refs))) (λ c _.
-    clean-bind (loweredByOne (b .total)) _ (clean-lowered (b .total)) (λ t _. tt)))
-
 -- 16: an item that counts
 clean-dropKeyed : (d : List ℕ) (name : DataRef) → 1 ≤ keyedCount d → T (clean (dropKeyedDataRef d name))
 unfolding dropKeyedDataRef allowed
@@ -195,6 +175,14 @@ clean-dropKeyed d name h =
     clean-sure (leb 1 (keyedCount d)) 16 _ (le→leb 1 (keyedCount d) h) (go (eqb (keyedCount d) 1))))
   where
     go : (c : Bool) → T (clean (cond c remove (accepted (written 24 (leBytes 4 (keyedCount d - 1)) d))))
+    go true = tt
+    go false = tt
+
+clean-lessItem : (standing amount : ℕ) → T (clean (lessItem standing amount))
+unfolding lessItem
+clean-lessItem standing amount = go (ltb amount standing)
+  where
+    go : (c : Bool) → T (clean (cond c (accepted (leBytes 4 (standing - amount))) remove))
     go true = tt
     go false = tt
 
@@ -209,35 +197,6 @@ clean-replaced : (key : Key) (d : List ℕ) (items : List Item) → T (clean (re
 unfolding replaced allowed
 clean-replaced key d items =
     clean-bind (needed 5 (firstCut (hasKey key) items)) _ (clean-needed 5 (firstCut (hasKey key) items) tt) (λ c _. tt)
-
--- ---- 14: a weight under a name is within its record's total
-
-module _ (m : Name) (items : List Item) (c : Cut Item) (b : Body) (H : Here m items c b) (balance : Balanced items)
-    (tidies : T (all tidy items)) where
-  inline-within : Naming (m .kind) → (x : Cut Ref) → b .refs ≡ x .front ++ x .hit ∷ x .back
-      → T (named (m .kind) (m .fields) (x .hit))
-      → x .hit .weight ≤ b .total
-  inline-within naming x e t =
-      let g : Entry → ℕ = ofExtent (m .extent) in
-      let h = named-yes (m .kind) (m .fields) (x .hit) t in
-      let e₁ = total-is m items c b H balance tidies in
-      let e₂ = ap (λ (l : List Item). sum g (entries l)) (H .found .same) ∙ sum-mid g (c .front) (c .hit) (c .back) in
-      let e₃ : sum g (itemEntries (c .hit)) ≡ sum g (refEntries (m .extent) (x .front ++ (x .hit ∷ [] ++ x .back))) =
-      ap (sum g) (record-entries (c .hit) b (H .view) ∙ ap₂ refEntries (H .extent) e) in
-      let e₄ = sum-refs g (m .extent) (x .front) (x .hit ∷ []) (x .back) in
-      let e₅ = ap (sum g) (named-entries m (x .hit) (not-172 (m .kind) naming) (h .0) (h .1)) in
-      let e₆ = extent-self m (some (x .hit .weight)) in
-      omega arith
-
-  item-within : (k : Cut Item) → items ≡ k .front ++ k .hit ∷ k .back → (w : ℕ) → itemEntries (k .hit) ≡ only m (some w)
-      → w ≤ b .total
-  item-within k ek w ew =
-      let g : Entry → ℕ = ofExtent (m .extent) in
-      let e₁ = total-is m items c b H balance tidies in
-      let e₂ = ap (λ (l : List Item). sum g (entries l)) ek ∙ sum-mid g (k .front) (k .hit) (k .back) in
-      let e₃ = ap (sum g) ew in
-      let e₄ = extent-self m (some w) in
-      omega arith
 
 -- ---- the six changes
 
@@ -284,103 +243,55 @@ module _ (items : List Item) (balance : Balanced items) (tidies : T (all tidy it
   unfolding added allowed
   clean-added m amount answer t = clean-also (all (notItsOwn m) items) 9 _ tt (clean-also (leb 1 amount) 10 answer tt t)
 
-  clean-dropTree : (m : Name) (block : BlockRef) (c : Cut Item) (b : Body) → Here m items c b
-      → T (clean (dropTreeRef block false items c))
-  unfolding dropTreeRef dropInlineTreeRef flagged deleted allowed
-  clean-dropTree m block c b H =
+  clean-dropped : (p : Drop) → ((standing total : ℕ) → T (clean (p .lowered standing total)))
+      → ((k : Cut Item) → items ≡ k .front ++ k .hit ∷ k .back → k .hit .key .kind ≡ p .name .kind → T (clean (p .left (k .hit))))
+      → (c : Cut Item) (b : Body) → Here (p .name) items c b → T (clean (dropped p items c))
+  unfolding dropped dropInline allowed
+  clean-dropped p l f c b H =
       clean-ifAbsent _ _
-      (clean-bind (dropInline (c .hit .key .kind) (c .hit .bytes) 176 (one (block .tree))) _
-      (clean-dropInline (c .hit .key .kind) (c .hit .bytes) b 176 (one (block .tree)) (H .reads)) (λ d _.
-      clean-bind (accepted d) _ tt (λ z _. tt)))
-      (clean-bind (deleted (keyOf (c .hit .key .objectid) 176 (block .tree)) items) _
-      (clean-bind (needed 5 (firstCut (hasKey (keyOf (c .hit .key .objectid) 176 (block .tree))) items)) _
-      (clean-needed 5 (firstCut (hasKey (keyOf (c .hit .key .objectid) 176 (block .tree))) items) tt) (λ k _. tt)) (λ others _.
-      clean-bind (lowerTotal (c .hit .bytes)) _ (clean-lowerTotal (c .hit .key .kind) (c .hit .bytes) b (H .reads)) (λ d _.
-      clean-bind (accepted d) _ tt (λ z _. clean-replaced (c .hit .key) z others))))
+      (clean-bind (inBody p c) _
+      (clean-onBody (c .hit .key .kind) (c .hit .bytes) b _ (H .reads)
+      (clean-bind (found (firstCut (named (p .name .kind) (p .name .fields)) (b .refs))) _
+      (clean-found (firstCut (named (p .name .kind) (p .name .fields)) (b .refs))) (λ x _.
+      clean-bind (p .lowered (x .hit .weight) (b .total)) _ (l (x .hit .weight) (b .total)) (λ t _. tt)))) (λ body _. tt))
+      (clean-bind (needed 5 (firstCut (hasKey (itemKey p (c .hit .key .objectid))) items)) _
+      (clean-needed 5 (firstCut (hasKey (itemKey p (c .hit .key .objectid))) items) tt) (λ k e.
+      clean-bind (onTotal (c .hit .bytes) (p .lowered (p .counts (k .hit)))) _
+      (clean-onTotal (c .hit .key .kind) (c .hit .bytes) b (p .lowered (p .counts (k .hit))) (H .reads) (l (p .counts (k .hit)) (b .total))) (λ body _.
+      clean-bind (droppedAt k (p .left (k .hit))) _
+      (clean-droppedAt k (p .left (k .hit))
+      (let (same, key) = key-found (itemKey p (c .hit .key .objectid)) items k e in f k same (ap (λ (z : Key). z .kind) key)))
+      (λ others _. clean-replaced (c .hit .key) body others))))
 
-  clean-dropData : (m : Name) (d : DataRef) (c : Cut Item) (b : Body) → Here m items c b → T (clean (dropDataRef d items c))
-  unfolding dropDataRef dropInlineDataRef allowed
-  clean-dropData m d c b H =
-      clean-ifAbsent _ _
-      (clean-bind (dropInline (c .hit .key .kind) (c .hit .bytes) 178 (triple d)) _
-      (clean-dropInline (c .hit .key .kind) (c .hit .bytes) b 178 (triple d) (H .reads)) (λ z _. tt))
-      (clean-bind (needed 5 (firstCut (hasKey (keyOf (c .hit .key .objectid) 178 (rankOf 178 (triple d)))) items)) _
-      (clean-needed 5 (firstCut (hasKey (keyOf (c .hit .key .objectid) 178 (rankOf 178 (triple d)))) items) tt) (λ k e.
-      clean-bind (lowerTotal (c .hit .bytes)) _ (clean-lowerTotal (c .hit .key .kind) (c .hit .bytes) b (H .reads)) (λ z _.
-      clean-bind (droppedAt k (dropKeyedDataRef (k .hit .bytes) d)) _
-      (clean-droppedAt k _ (clean-dropKeyed (k .hit .bytes) d (count-at k e))) (λ others _.
-      clean-replaced (c .hit .key) z others))))
-    where
-      count-at : (k : Cut Item)
-          → needed 5 (firstCut (hasKey (keyOf (c .hit .key .objectid) 178 (rankOf 178 (triple d)))) items) ≡ accepted k
-          → 1 ≤ keyedCount (k .hit .bytes)
-      count-at k e =
-          let (same, key) = key-found (keyOf (c .hit .key .objectid) 178 (rankOf 178 (triple d))) items k e in
-          let kind : k .hit .key .kind ≡ 178 = ap (λ (key : Key). key .kind) key in
-          let g : T (good (k .hit)) = all-mid good (k .front) (k .hit) (k .back) (rw same at (balance .goods)) in
-          item-counts items balance k same
-          (record { extent = k .hit .key .objectid; kind = 178; fields = words 3 (k .hit .bytes) })
-          (keyedCount (k .hit .bytes)) (data-entry (k .hit) kind g)
+  -- an item of a data reference counts something
+  data-counts : (k : Cut Item) → items ≡ k .front ++ k .hit ∷ k .back → k .hit .key .kind ≡ 178 → 1 ≤ keyedCount (k .hit .bytes)
+  data-counts k same kind =
+      own-of (record { extent = k .hit .key .objectid; kind = 178; fields = words 3 (k .hit .bytes) }) items k
+      (keyedCount (k .hit .bytes)) balance same kind refl
+      (data-entry (k .hit) kind (all-mid good (k .front) (k .hit) (k .back) (rw same at (balance .goods)))) .positive
 
-  clean-dropShared : (extent : ℕ) (s : SharedRef) → T (sharedKind (s .kind)) → (c : Cut Item) (b : Body)
-      → Here (nameOf (DropShared extent s)) items c b → T (clean (dropSharedRef s items c))
-  unfolding dropSharedRef takeInlineShared allowed
-  clean-dropShared extent s sk c b H =
-      clean-ifAbsent _ _
-      (clean-bind (takeInlineShared (c .hit .key .kind) (c .hit .bytes) s) _
-      (clean-ask (sharedKind (s .kind)) 3 _ tt (λ _.
-      clean-onBody (c .hit .key .kind) (c .hit .bytes) b _ (H .reads)
-      (clean-bind (found (firstCut p (b .refs))) _ (clean-found (firstCut p (b .refs))) (λ x _. tt)))) (λ out e.
-      clean-bind (reduceTotal (out .bytes) (out .count)) _ (reduce-at out e) (λ z _. tt)))
-      (clean-bind (needed 5 (firstCut (hasKey (keyOf (c .hit .key .objectid) (s .kind) (s .parent))) items)) _
-      (clean-needed 5 (firstCut (hasKey (keyOf (c .hit .key .objectid) (s .kind) (s .parent))) items) tt) (λ k e.
-      clean-bind (reduceTotal (c .hit .bytes) (sharedCount (k .hit))) _
-      (clean-reduceTotal (c .hit .key .kind) (c .hit .bytes) b (sharedCount (k .hit)) (H .reads) (count-at k e)) (λ z _.
-      clean-replaced (c .hit .key) z _)))
-    where
-      m : Name
-      m = nameOf (DropShared extent s)
-
-      p : Ref → Bool
-      p = named (s .kind) (one (s .parent))
-
-      reduce-at : (out : TakenOut) → takeInlineShared (c .hit .key .kind) (c .hit .bytes) s ≡ accepted out
-          → T (clean (reduceTotal (out .bytes) (out .count)))
-      reduce-at out e =
-          let type : ℕ = c .hit .key .kind in
-          let (x, f, o) = shared-found type (c .hit .bytes) b s out (H .reads) e in
-          let b₁ : Body = bodyWith b (b .total) (x .front ++ x .back) in
-          let S₁ : Sound type b₁ = sound-without type b (named (s .kind) (one (s .parent))) x (H .sound) f in
-          subst (λ (z : TakenOut). T (clean (reduceTotal (z .bytes) (z .count)))) o
-          (clean-reduceTotal type (bodyBytes b₁) b₁ (x .hit .weight) (read-bodyBytes type b₁ S₁)
-          (inline-within m items c b H balance tidies (shared-naming (s .kind) sk) x (f .same) (f .hit)))
-
-      count-at : (k : Cut Item)
-          → needed 5 (firstCut (hasKey (keyOf (c .hit .key .objectid) (s .kind) (s .parent))) items) ≡ accepted k
-          → sharedCount (k .hit) ≤ b .total
-      count-at k e =
-          let (same, key) = key-found (keyOf (c .hit .key .objectid) (s .kind) (s .parent)) items k e in
-          let g : T (good (k .hit)) = all-mid good (k .front) (k .hit) (k .back) (rw same at (balance .goods)) in
-          let key′ : k .hit .key ≡ keyOf extent (s .kind) (s .parent) =
-          key ∙ ap (λ (n : ℕ). keyOf n (s .kind) (s .parent)) (H .extent) in
-          item-within m items c b H balance tidies k same (sharedCount (k .hit))
-          (keyed-entry (k .hit) extent (s .kind) (s .parent) key′ (shared-naming (s .kind) sk) (not-178 (s .kind) sk) g)
-
-  clean-changed : (nodesize : ℕ) (change : Change) → T (kindFits change) → T (clean (changed nodesize change items))
+  clean-changed : (nodesize : ℕ) (change : Change) → T (clean (changed nodesize change items))
   unfolding changed
-  clean-changed nodesize (AddBlock extent name) t =
+  clean-changed nodesize (AddBlock extent name) =
       let m : Name = nameOf (AddBlock extent name) in clean-added m 1 _ (clean-keyedAdd nodesize m (Block name) 1)
-  clean-changed nodesize (AddData extent name amount) t =
+  clean-changed nodesize (AddData extent name amount) =
       let m : Name =
       nameOf (AddData extent name amount) in clean-added m amount _ (clean-keyedAdd nodesize m (Data name) amount)
-  clean-changed nodesize (AddShared extent name amount) t =
+  clean-changed nodesize (AddShared extent name amount) =
       let m : Name = nameOf (AddShared extent name amount) in clean-added m amount _ (clean-sharedAdd nodesize m name amount)
-  clean-changed nodesize (DropBlock extent name) t =
-      let m : Name = nameOf (DropBlock extent name) in clean-onRecord m _ (clean-dropTree m name)
-  clean-changed nodesize (DropData extent name) t =
-      let m : Name = nameOf (DropData extent name) in clean-onRecord m _ (clean-dropData m name)
-  clean-changed nodesize (DropShared extent name) t =
-      clean-onRecord (nameOf (DropShared extent name)) _ (clean-dropShared extent name t)
+  clean-changed nodesize (DropBlock extent name) =
+      let p : Drop = blockDrop extent name in
+      subst (λ r. T (clean r)) (sym (block-changes nodesize extent name items))
+      (clean-onRecord (p .name) _ (clean-dropped p (λ standing. clean-lowered) (λ k same kind. tt)))
+  clean-changed nodesize (DropData extent name) =
+      let p : Drop = dataDrop extent name in
+      subst (λ r. T (clean r)) (sym (data-changes nodesize extent name items))
+      (clean-onRecord (p .name) _
+      (clean-dropped p (λ standing. clean-lowered) (λ k same kind. clean-dropKeyed (k .hit .bytes) name (data-counts k same kind))))
+  clean-changed nodesize (DropShared extent name amount) =
+      let p : Drop = sharedDrop extent name amount in
+      subst (λ r. T (clean r)) (sym (shared-changes nodesize extent name amount items))
+      (clean-onRecord (p .name) _ (clean-dropped p (clean-part amount) (λ k same kind. clean-lessItem (sharedCount (k .hit)) amount)))
 
 -- ---- a posting
 
@@ -397,9 +308,9 @@ impossible sheet p b t number e =
     let read : T (clean (bind (readSheet sheet) (λ (js : List Item).
     ask (nodesizeFits (p .nodesize) && kindFits (p .change)) 3 (ask (balanced js) 4 (changed (p .nodesize) (p .change) js))))) =
     subst (λ x. T (clean x)) (sym (bind-yes (readSheet sheet) _ (o .reads)))
-    (clean-ask (nodesizeFits (p .nodesize) && kindFits (p .change)) 3 _ tt (λ k.
+    (clean-ask (nodesizeFits (p .nodesize) && kindFits (p .change)) 3 _ tt (λ _.
     clean-ask (balanced items) 4 _ tt (λ _.
-    clean-changed items balance tidies most (p .nodesize) (p .change) (and-yes (nodesizeFits (p .nodesize)) (kindFits (p .change)) k .1)))) in
+    clean-changed items balance tidies most (p .nodesize) (p .change)))) in
     let c : T (clean (answerTo sheet p)) =
     clean-bind (held (sheetHolds (p .room)) (post (p .nodesize) sheet (p .change))) _
     (clean-held (sheetHolds (p .room)) (post (p .nodesize) sheet (p .change)) read) (λ js _. tt) in

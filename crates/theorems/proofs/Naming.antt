@@ -5,11 +5,16 @@ use Prim.Native.Nat.{ℕ, _<_}
 use native.Mathlib.Omega.{arith}
 use mathlib.Core.Bool.{false, not}
 use lib.Dec.{T, eqb, eqb→eq}
+use lib.ListN.{length}
 use mir.Facts.{or-yes}
+use Rattle.format.specs.declared.Change.{Change}
+use Rattle.format.specs.declared.Change.the-variants.{AddBlock, AddData, AddShared, DropBlock, DropData, DropShared}
 use Rattle.format.specs.References.{known, payloadLength, countPosition, counted, fieldCount, rowIn, weightOf, rankOf}
 use Rattle.format.specs.Bodies.{one, sharedKind}
 use Rattle.format.specs.Items.{Item}
 use Rattle.format.specs.Apply.{isRecord}
+use Rattle.format.specs.Names.{Name}
+use Rattle.format.specs.Ledger.{nameOf, kindFits}
 
 pub data Naming (kind : ℕ) : Type 0 where
   is176 : kind ≡ 176 → Naming kind
@@ -83,3 +88,18 @@ shared-rank kind parent t = go (or-yes (eqb kind 182) (eqb kind 184) t)
     go : T (eqb kind 182) ⊎ T (eqb kind 184) → rankOf kind (one parent) ≡ parent
     go (inl h) = let e : kind ≡ 182 = eqb→eq _ _ h in rw e refl
     go (inr h) = let e : kind ≡ 184 = eqb→eq _ _ h in rw e refl
+
+-- ---- the name of a change: one of the four types, with as many fields as the type has
+
+pub record Formed (m : Name) : Type 0 where
+  pub naming : Naming (m .kind)
+  pub size : length (m .fields) ≡ fieldCount (m .kind)
+
+pub formed : (c : Change) → T (kindFits c) → Formed (nameOf c)
+unfolding fieldCount payloadLength counted countPosition rowIn
+formed (AddBlock extent name) k = record { naming = is176 refl; size = refl }
+formed (AddData extent name amount) k = record { naming = is178 refl; size = refl }
+formed (AddShared extent name amount) k = record { naming = shared-naming (name .kind) k; size = sym (shared-field (name .kind) k) }
+formed (DropBlock extent name) k = record { naming = is176 refl; size = refl }
+formed (DropData extent name) k = record { naming = is178 refl; size = refl }
+formed (DropShared extent name amount) k = record { naming = shared-naming (name .kind) k; size = sym (shared-field (name .kind) k) }

@@ -269,12 +269,12 @@ module _ (kind : ℕ) (fields : List ℕ) (weight : ℕ) (naming : Naming kind) 
       let h = and-yes (follows r s) _ o in
       yes-and (stops kind (rankOf kind fields) r) _ t (stop-rest s l (h .1) (stop-up r s t (h .0)))
 
-  -- a position for the reference in a list: a gap that keeps the order, where no other has the name, or one that has it
+  -- a position for the reference in a list: a gap that keeps the order, where no other has the name, or the first that has it
   pub data PositionOk (l : List Ref) : RefPosition → Type 0 where
     at-gap : {p q : List Ref} → l ≡ p ++ q → T (ordered (p ++ makeRef kind fields weight ∷ q))
         → T (all (λ r. not (named kind fields r)) l)
         → PositionOk l (gap p q)
-    at-standing : {x : Cut Ref} → l ≡ x .front ++ x .hit ∷ x .back → T (named kind fields (x .hit)) → PositionOk l (standing x)
+    at-standing : {x : Cut Ref} → Found (named kind fields) l x → PositionOk l (standing x)
 
   pass-all : (l : List Ref) → T (all long l) → T (all (λ r. not (named kind fields r)) l)
       → T (all (λ r. not (stops kind (rankOf kind fields) r)) l) → T (all (λ r. follows r (makeRef kind fields weight)) l)
@@ -316,7 +316,7 @@ module _ (kind : ℕ) (fields : List ℕ) (weight : ℕ) (naming : Naming kind) 
       go (some x) q =
           let f = cut-some (stops kind (rankOf kind fields)) l q in
           new-at l x (f .same) o lo (all-left (λ r. not (named kind fields r)) (x .front) (x .hit ∷ x .back) (rw (f .same) at t)) (f .miss) (f .hit)
-  anywhere-ok l o lo (some x) e = let f = cut-some (named kind fields) l e in at-standing (f .same) (f .hit)
+  anywhere-ok l o lo (some x) e = at-standing (cut-some (named kind fields) l e)
 
   pub position-anywhere : (l : List Ref) → T (ordered l) → T (all long l)
       → PositionOk l (positionAnywhere kind fields (rankOf kind fields) l)
@@ -334,18 +334,18 @@ module _ (kind : ℕ) (fields : List ℕ) (weight : ℕ) (naming : Naming kind) 
       (all-map p (λ r. not (stops kind (rankOf kind fields) r)) (λ r h. or-no (named kind fields r) (stops kind (rankOf kind fields) r) h .1) l t)
   scan-ok l o lo (some x) e = go (named kind fields (x .hit)) refl
     where
-      p : Ref → Bool
-      p r = not (named kind fields r || stops kind (rankOf kind fields) r)
-
       f : Found (λ r. named kind fields r || stops kind (rankOf kind fields) r) l x
       f = cut-some (λ r. named kind fields r || stops kind (rankOf kind fields) r) l e
 
+      other : T (all (λ r. not (named kind fields r)) (x .front))
+      other =
+          all-map (λ r. not (named kind fields r || stops kind (rankOf kind fields) r)) (λ r. not (named kind fields r))
+          (λ r h. or-no (named kind fields r) (stops kind (rankOf kind fields) r) h .0) (x .front) (f .miss)
+
       go : (c : Bool) → named kind fields (x .hit) ≡ c → PositionOk l (cond c (standing x) (gap (x .front) (x .hit ∷ x .back)))
-      go true q = at-standing (f .same) (subst T (sym q) tt)
+      go true q = at-standing (record { same = f .same; hit = subst T (sym q) tt; miss = other })
       go false q =
-          new-at l x (f .same) o lo
-          (all-map (λ r. not (named kind fields r || stops kind (rankOf kind fields) r)) (λ r. not (named kind fields r))
-          (λ r h. or-no (named kind fields r) (stops kind (rankOf kind fields) r) h .0) (x .front) (f .miss))
+          new-at l x (f .same) o lo other
           (all-map (λ r. not (named kind fields r || stops kind (rankOf kind fields) r)) (λ r. not (stops kind (rankOf kind fields) r))
           (λ r h. or-no (named kind fields r) (stops kind (rankOf kind fields) r) h .1) (x .front) (f .miss))
           (subst (λ (c : Bool). T (c || stops kind (rankOf kind fields) (x .hit))) q (f .hit))

@@ -62,26 +62,36 @@ posts-out nodesize sheet change room (t, e) =
       holds = h₁ .1;
     }
 
-pub posts-in : (nodesize : ℕ) (sheet : List ℕ) (change : Change) (room : ℕ) → Posts nodesize sheet change room
-    → Accepts nodesize sheet change room
-unfolding posted heldSheet post onSheet nodesizeFits held
-posts-in nodesize sheet change room p =
-    let three : T (nodesizeFits nodesize && kindFits change) =
-    yes-and (nodesizeFits nodesize) (kindFits change)
-    (yes-and (leb 501 nodesize) (leb nodesize 65536) (le→leb 501 nodesize (p .least)) (le→leb nodesize 65536 (p .most)))
-    (p .kind) in
+-- questions 1 to 4 answered yes
+pub post-is : (nodesize : ℕ) (sheet : List ℕ) (change : Change) (items : List Item) → readSheet sheet ≡ accepted items
+    → 501 ≤ nodesize → nodesize ≤ 65536 → T (kindFits change) → T (balanced items)
+    → post nodesize sheet change ≡ changed nodesize change items
+unfolding post onSheet nodesizeFits
+post-is nodesize sheet change items reads least most kind balance =
+    bind-yes (readSheet sheet) _ reads
+    ∙ ask-yes (nodesizeFits nodesize && kindFits change) 3 _
+    (yes-and (nodesizeFits nodesize) (kindFits change)
+    (yes-and (leb 501 nodesize) (leb nodesize 65536) (le→leb 501 nodesize least) (le→leb nodesize 65536 most)) kind)
+    ∙ ask-yes (balanced items) 4 _ balance
+
+pub posts-give : (nodesize : ℕ) (sheet : List ℕ) (change : Change) (room : ℕ) (p : Posts nodesize sheet change room)
+    → posted nodesize sheet change room ≡ accepted (sheetBytes (p .after))
+unfolding posted heldSheet held
+posts-give nodesize sheet change room p =
     let e₁ : post nodesize sheet change ≡ accepted (p .after) =
-    bind-yes (readSheet sheet) _ (p .reads) ∙ ask-yes (nodesizeFits nodesize && kindFits change) 3 _ three
-    ∙ ask-yes (balanced (p .items)) 4 _ (p .balance) ∙ p .done in
+    post-is nodesize sheet change (p .items) (p .reads) (p .least) (p .most) (p .kind) (p .balance) ∙ p .done in
     let e₂ : held (sheetHolds room) (post nodesize sheet change) ≡ accepted (p .after) =
     bind-yes (post nodesize sheet change) _ e₁ ∙ ask-yes (sheetHolds room (p .after)) 21 _ (p .holds) in
-    (sheetBytes (p .after), bind-yes (held (sheetHolds room) (post nodesize sheet change)) _ e₂)
+    bind-yes (held (sheetHolds room) (post nodesize sheet change)) _ e₂
+
+pub posts-in : (nodesize : ℕ) (sheet : List ℕ) (change : Change) (room : ℕ) → Posts nodesize sheet change room
+    → Accepts nodesize sheet change room
+posts-in nodesize sheet change room p = (sheetBytes (p .after), posts-give nodesize sheet change room p)
 
 -- the sheet that it makes
 pub posts-writes : (nodesize : ℕ) (sheet : List ℕ) (change : Change) (room : ℕ) (t : List ℕ)
     → posted nodesize sheet change room ≡ accepted t → (p : Posts nodesize sheet change room) → t ≡ sheetBytes (p .after)
-unfolding posts-in
-posts-writes nodesize sheet change room t e p = accepted-inj (sym e ∙ posts-in nodesize sheet change room p .1)
+posts-writes nodesize sheet change room t e p = accepted-inj (sym e ∙ posts-give nodesize sheet change room p)
 
 pub posts-made : (nodesize : ℕ) (sheet : List ℕ) (change : Change) (room : ℕ) (t : List ℕ)
     → posted nodesize sheet change room ≡ accepted t → Made nodesize sheet change t

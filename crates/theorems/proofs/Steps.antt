@@ -3,7 +3,7 @@ use mathlib.Core.Path.{_≡_, sym, ap, _∙_, subst}
 use Prim.Native.Nat.{ℕ, _+_}
 use native.Mathlib.Omega.{arith}
 use mathlib.Core.Bool.{Bool, not, _&&_, _||_}
-use mathlib.Core.Option.{Option, none, some}
+use mathlib.Core.Option.{Option, some}
 use mathlib.Core.List.{List, _∷_, _++_}
 use lib.ListN.{length}
 use lib.Dec.{T, leb, ltb, eqb→eq, leb→le, ltb→lt, lt→ltb}
@@ -82,16 +82,15 @@ pub record NameOk (m : Name) : Type 0 where
   pub size : length (m .fields) ≡ fieldCount (m .kind)
   pub small : T (all (λ w. ltb w 18446744073709551616) (m .fields))
 
--- ---- a step: under the name m, `given` comes and `out` goes; where `wipe`, nothing is left
+-- ---- a step: under the name m, `given` comes and `out` goes
 
-pub record Step (m : Name) (given out : ℕ) (wipe : Bool) (items after : List Item) : Type 0 where
+pub record Step (m : Name) (given out : ℕ) (items after : List Item) : Type 0 where
   pub old : Option ℕ
   pub new : Option ℕ
   pub edit : Edit m old new items after
   pub moves : worth new + out ≡ worth old + given
   pub nonempty : sum empty (only m new) ≡ 0
   pub free : Fresh old new (sum (stands m) (entries items))
-  pub gone : T wipe → (new ≡ none) × ((v : ℕ) × (old ≡ some v))
   pub tidied : T (all tidy after)
 
 -- ---- the extent's record, and what is known of it
@@ -181,9 +180,8 @@ module _ (m : Name) (items : List Item) (c : Cut Item) (b : Body) (H : Here m it
   pub inline-step : (old new : Option ℕ) (b′ : Body) → Splice m old new b b′ → T (ordered (b′ .refs))
       → b′ .total + worth old ≡ b .total + worth new
       → Sound (c .hit .key .kind) b′ → (out given : ℕ) → worth new + out ≡ worth old + given → sum empty (only m new) ≡ 0
-      → Fresh old new (sum (stands m) (entries items)) → (wipe : Bool) → (T wipe → (new ≡ none) × ((v : ℕ) × (old ≡ some v)))
-      → Step m given out wipe items (putBack c (bodyBytes b′))
-  inline-step old new b′ splice order total sound out given moves nonempty free wipe gone =
+      → Fresh old new (sum (stands m) (entries items)) → Step m given out items (putBack c (bodyBytes b′))
+  inline-step old new b′ splice order total sound out given moves nonempty free =
       let d : List ℕ = bodyBytes b′ in
       record {
         old = old;
@@ -194,7 +192,6 @@ module _ (m : Name) (items : List Item) (c : Cut Item) (b : Body) (H : Here m it
         moves = moves;
         nonempty = nonempty;
         free = free;
-        gone = gone;
         tidied = all-put tidy (c .front) (withBytes (c .hit) d) (c .back) (all-rest tidy (c .front) (c .hit) (c .back) tidy-at)
             (tidy-with (c .hit) d (all-mid tidy (c .front) (c .hit) (c .back) tidy-at) (areBytes-bodyBytes (c .hit .key .kind) b′ sound));
       }

@@ -1,6 +1,7 @@
--- Document 01, "Questions at the door", as they are put to a posting: it is accepted exactly if each of its questions is answered
--- yes. Every answer is a plain fact about the item list (document 01's sheet), beside the number of its question; 6, 7, 8, 12,
--- 14, 15 and 16 ask nothing that the facts do not give. To add is document 01's "give", to drop its "take". Assumes nothing.
+-- Document 01, "Questions at the door", with document 02's ticket 1, as they are put to a posting: it is accepted exactly if each
+-- of its questions is answered yes. Every answer is a plain fact about the item list (document 01's sheet), beside the number of
+-- its question; 6, 7, 8, 12, 15 and 16 ask nothing that the facts do not give. To add is the documents' "give", to drop their
+-- "take". Assumes nothing.
 use mathlib.Core.Path.{_≡_}
 use mathlib.Core.Bool.{cond}
 use mathlib.Core.List.{List, [], _∷_}
@@ -123,13 +124,16 @@ pub record DropsData (nodesize : ℕ) (sheet : List ℕ) (n : Name) (room : ℕ)
   pub two : 2 ≤ totalOf (at .hit .bytes)  -- 13
   pub roomy : length sheet - cond (eqb (count n items) 1) (freed n at dataSize dataItem) 0 ≤ room  -- 21
 
-pub record DropsShared (nodesize : ℕ) (sheet : List ℕ) (n : Name) (room : ℕ) : Type 0 where
+-- a reference that counts more than the amount stays, with that much less
+pub record DropsShared (nodesize : ℕ) (sheet : List ℕ) (n : Name) (amount room : ℕ) : Type 0 where
   pub items : List Item
   pub at : Cut Item
   pub kind : T (sharedKind (n .kind))  -- 3
   pub upToFive : UpToFive nodesize sheet (n .extent) items at  -- 1 to 5
   pub named : 1 ≤ count n items  -- 5
-  pub roomy : length sheet - freed n at (sharedSize (n .kind)) (sharedItem (n .kind)) ≤ room  -- 21
+  pub positive : 1 ≤ amount  -- 10
+  pub within : amount ≤ count n items  -- 22
+  pub roomy : length sheet - cond (eqb (count n items) amount) (freed n at (sharedSize (n .kind)) (sharedItem (n .kind))) 0 ≤ room  -- 21
 
 -- ---- accepted, exactly if
 
@@ -142,7 +146,7 @@ AllYes nodesize sheet (AddData extent name amount) room = AddsData nodesize shee
 AllYes nodesize sheet (AddShared extent name amount) room = AddsShared nodesize sheet (nameOf (AddShared extent name amount)) amount room
 AllYes nodesize sheet (DropBlock extent name) room = DropsBlock nodesize sheet (nameOf (DropBlock extent name)) room
 AllYes nodesize sheet (DropData extent name) room = DropsData nodesize sheet (nameOf (DropData extent name)) room
-AllYes nodesize sheet (DropShared extent name) room = DropsShared nodesize sheet (nameOf (DropShared extent name)) room
+AllYes nodesize sheet (DropShared extent name amount) room = DropsShared nodesize sheet (nameOf (DropShared extent name amount)) amount room
 
 -- the sheet that an accepted change makes: the items that it leaves, as bytes
 pub record Made (nodesize : ℕ) (sheet : List ℕ) (change : Change) (result : List ℕ) : Type 0 where

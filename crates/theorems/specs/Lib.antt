@@ -1,4 +1,5 @@
 pub mod Cases
 pub mod Acceptance
 pub mod Demand
+pub mod PartDrops
 pub mod Calls

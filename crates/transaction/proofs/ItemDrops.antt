@@ -1,13 +1,15 @@
--- One count off a data reference's own item, and one off the total. Assumes nothing.
+-- One count off a data reference's own item, or an amount off a shared one's, and off the total. Assumes nothing.
 use mathlib.Core.Path.{_≡_, refl, sym, ap, ap₂, _∙_, subst}
 use mathlib.Core.Logic.{_⊎_, inl, inr}
 use mathlib.Core.Bool.{Bool, true, false, _&&_, cond}
 use mathlib.Core.List.{List}
-use Prim.Native.Nat.{ℕ, _+_, _-_, _≤_}
+use Prim.Native.Nat.{ℕ, _+_, _-_, _≤_, _<_}
 use native.Mathlib.Omega.{arith}
 use lib.Dec.{leb, eqb, eqb→eq, leb→le}
 use lib.ListN.{length}
+use lib.Seq.{take-all}
 use mir.Facts.{and-yes}
+use borrow.Author.Tests.{lt-ltb, le-ltb}
 use denote.Enum.Declared.{tagOf}
 use Rattle.fields.specs.Lists.{same}
 use Rattle.fields.specs.Numbers.{le, leBytes, words}
@@ -16,7 +18,8 @@ use Rattle.format.specs.declared.DataRef.{DataRef}
 use Rattle.format.specs.declared.Edited.{Edited}
 use Rattle.format.specs.declared.Edited.the-variants.{Absent as NoMatch, Refused as Denied}
 use Rattle.format.specs.Questions.{Answer, absent, refused, remove, accepted, bind, lent, editedOf, Answered}
-use Rattle.format.specs.Bodies.{triple, bodyFits, lowerTotal, keyedCount, dropKeyedDataRef}
+use Rattle.format.specs.Bodies.{triple, bodyFits, loweredByPart, onTotal, lowerTotal, keyedCount, dropKeyedDataRef}
+use Rattle.format.specs.Ledger.{lessItem}
 use Rattle.format.proofs.Answers.{ask-ok, accepted-inj, remove-not}
 use Rattle.format.proofs.Outputs.{answered-refused}
 use Rattle.backref.specs.declared.plan.Outcome.{Outcome}
@@ -48,20 +51,27 @@ keyed-out item d {bytes} e =
     go false f = sym (accepted-inj f)
 
 -- as code reads it
-pub count-is : (s : List ℕ) (from to : ℕ) → from + 21 ≤ to → to ≤ length s → length (dataOf s from to) ≡ 28 → keyedCount (dataOf s from to) ≡ le (part (to - 4) 4 s)
+count-is : (s : List ℕ) (from to : ℕ) → from + 21 ≤ to → to ≤ length s → length (dataOf s from to) ≡ 28 → keyedCount (dataOf s from to) ≡ le (part (to - 4) 4 s)
 unfolding keyedCount
-count-is s from to a b l = ap le (last-four s from to a b l)
+count-is s from to a b l = ap le (last-four s from to 24 a b l)
+
+-- the item of shared data is its count
+pub shared-is : (s : List ℕ) (from to : ℕ) → from + 21 ≤ to → to ≤ length s → length (dataOf s from to) ≡ 4 → le (dataOf s from to) ≡ le (part (to - 4) 4 s)
+shared-is s from to a b l = ap le (sym (take-all 4 (dataOf s from to) (omega arith)) ∙ last-four s from to 0 a b l)
 
 module _ (s : List ℕ) (target : RecordAt) (from to : ℕ) (name : DataRef) (room : ℕ) (p q : Plan)
     (total : Planned p (dataOf s (target .start) (target .end)) (lowerTotal (dataOf s (target .start) (target .end))))
     (item : Planned q (dataOf s from to) (dropKeyedDataRef (dataOf s from to) name)) where
+  abbrev at-item : Answer (List ℕ) → List ℕ → Answer (List ℕ)
+  at-item = heldAt room s target from to (le (part (to - 4) 4 s) - 1)
+
   abbrev answer : Answer (List ℕ)
-  answer = bind (lowerTotal (dataOf s (target .start) (target .end))) (heldAt room s target from to (dropKeyedDataRef (dataOf s from to) name))
+  answer = bind (lowerTotal (dataOf s (target .start) (target .end))) (at-item (dropKeyedDataRef (dataOf s from to) name))
 
   -- as the item's plan answers
-  by-plan : {o : Outcome} → q .outcome ≡ o → bind (planAnswer p (dataOf s (target .start) (target .end))) (heldAt room s target from to (planOutcome o q (dataOf s from to))) ≡ answer
+  by-plan : {o : Outcome} → q .outcome ≡ o → bind (planAnswer p (dataOf s (target .start) (target .end))) (at-item (planOutcome o q (dataOf s from to))) ≡ answer
   by-plan e =
-      ap₂ (λ (a b : Answer (List ℕ)). bind a (heldAt room s target from to b)) (total .says) (sym (plan-is q (dataOf s from to) e) ∙ item .says)
+      ap₂ (λ (a b : Answer (List ℕ)). bind a (at-item b)) (total .says) (sym (plan-is q (dataOf s from to) e) ∙ item .says)
 
   edits : p .outcome ≡ Edit → planAnswer p (dataOf s (target .start) (target .end)) ≡ accepted (edited p (dataOf s (target .start) (target .end)))
   unfolding planOutcome
@@ -70,13 +80,13 @@ module _ (s : List ℕ) (target : RecordAt) (from to : ℕ) (name : DataRef) (ro
   pub item-refused : (k : ℕ) (old : List ℕ) → p .outcome ≡ Edit → q .outcome ≡ Refused k → Answered answer (Denied k) old old
   unfolding planOutcome bind heldAt
   item-refused k old e f =
-      answered-refused old (sym (by-plan f) ∙ ap (λ (a : Answer (List ℕ)). bind a (heldAt room s target from to (refused k))) (edits e))
+      answered-refused old (sym (by-plan f) ∙ ap (λ (a : Answer (List ℕ)). bind a (at-item (refused k))) (edits e))
 
   pub item-absent : (old : List ℕ) → p .outcome ≡ Edit → q .outcome ≡ Absent → Answered answer NoMatch old old
   unfolding planOutcome bind heldAt lent editedOf
   item-absent old e f =
       subst (λ (a : Answer (List ℕ)). Answered a NoMatch old old)
-      (ap (λ (a : Answer (List ℕ)). bind a (heldAt room s target from to absent)) (sym (edits e)) ∙ by-plan f)
+      (ap (λ (a : Answer (List ℕ)). bind a (at-item absent)) (sym (edits e)) ∙ by-plan f)
       (record { result = refl; output = refl })
 
   pub item-goes : (r : Edited) (old new : List ℕ) → q .outcome ≡ Remove → Answered (heldPlan room (target .«item_count» - 1) s target p (gone from to)) r old new
@@ -120,3 +130,34 @@ one-counted s from to count name q a b h e is =
     let c = count-is s from to a b (k .0) in
     let one = k .1 in
     omega arith
+
+-- ---- an item of another reference: the total is lowered, then the item goes or counts what is left
+
+module _ (s : List ℕ) (target : RecordAt) (from to room : ℕ) (p : Plan) (r : Edited) (old new : List ℕ) where
+  pub block-goes : Planned p (dataOf s (target .start) (target .end)) (lowerTotal (dataOf s (target .start) (target .end)))
+      → Answered (heldPlan room (target .«item_count» - 1) s target p (gone from to)) r old new
+      → Answered (bind (lowerTotal (dataOf s (target .start) (target .end))) (heldAt room s target from to 0 remove)) r old new
+  unfolding heldAt
+  block-goes total w =
+      subst (λ (a : Answer (List ℕ)). Answered a r old new) (ap (λ (a : Answer (List ℕ)). bind a (heldAt room s target from to 0 remove)) (total .says)) w
+
+  module _ (amount standing : ℕ)
+      (total : Planned p (dataOf s (target .start) (target .end)) (onTotal (dataOf s (target .start) (target .end)) (loweredByPart amount standing))) where
+    abbrev answered : Type 0
+    answered =
+        Answered (bind (onTotal (dataOf s (target .start) (target .end)) (loweredByPart amount standing))
+        (heldAt room s target from to (standing - amount) (lessItem standing amount))) r old new
+
+    by-rest : (rest : Answer (List ℕ)) → lessItem standing amount ≡ rest
+        → Answered (bind (planAnswer p (dataOf s (target .start) (target .end))) (heldAt room s target from to (standing - amount) rest)) r old new → answered
+    by-rest rest e w =
+        subst (λ (a : Answer (List ℕ)). Answered a r old new)
+        (ap₂ (λ (a b : Answer (List ℕ)). bind a (heldAt room s target from to (standing - amount) b)) (total .says) (sym e)) w
+
+    pub part-goes : standing ≤ amount → Answered (heldPlan room (target .«item_count» - 1) s target p (gone from to)) r old new → answered
+    unfolding heldAt lessItem
+    part-goes h w = by-rest remove (simp (le-ltb _ _ h)) w
+
+    pub part-counts : amount < standing → Answered (heldPlan room (target .«item_count») s target p (newCount to (standing - amount))) r old new → answered
+    unfolding heldAt lessItem
+    part-counts h w = by-rest (accepted (leBytes 4 (standing - amount))) (simp (lt-ltb _ _ h)) w

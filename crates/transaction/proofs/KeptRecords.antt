@@ -72,7 +72,7 @@ module _ (s : List ℕ) (bytenr level : ℕ) (name : BlockRef) (own : Bool) wher
         (ap (λ (b : Bool). onKey key (listItems s) (dropTreeRef name b (listItems s))) (sym e) ∙ sym kept-is) w
 
     pub kept-plain : (room : ℕ) (r : Edited) (old new : List ℕ) → own ≡ false
-        → Answered (heldSheet room (onKey key (listItems s) (dropRef (Block name) (listItems s)))) r old new
+        → Answered (heldSheet room (onKey key (listItems s) (dropRef (Block name) 1 (listItems s)))) r old new
         → Answered (heldSheet room (dropKeptTreeRefFrom s bytenr level name own)) r old new
     unfolding dropRef
     kept-plain room r old new e w = kept-told false room r old new e w

@@ -172,7 +172,7 @@ module _ {s : List ℕ} {c : Cut Item} {target : RecordAt} (st : Stands s c targ
 
 -- at the record's key
 pub key-owned : {s : List ℕ} {target : RecordAt} → T (areBytes s) → StandsAt s target → (name : BlockRef) (room : ℕ)
-    → Owned (target .start + 37) (heldSheet room (onKey (target .key) (listItems s) (dropRef (Block name) (listItems s))))
+    → Owned (target .start + 37) (heldSheet room (onKey (target .key) (listItems s) (dropRef (Block name) 1 (listItems s))))
     (heldSheet room (onKey (target .key) (listItems s) (dropTreeRef name true (listItems s))))
 unfolding dropRef
 key-owned bytes h name room =

@@ -55,13 +55,13 @@ part-inside p n at m all h k =
     ∙ ap (take m) (drop-at (part p at all) (part (p + at) (n - at) all) at (length-part at p all k))
     ∙ take-take m (n - at) (drop (p + at) all) m≤
 
--- the last four bytes of 28
-pub last-four : (s : List ℕ) (from to : ℕ) → from + 21 ≤ to → to ≤ length s → length (dataOf s from to) ≡ 28
-    → part 24 4 (dataOf s from to) ≡ part (to - 4) 4 s
-last-four s from to a b l =
+-- the last four bytes of an item's data
+pub last-four : (s : List ℕ) (from to at : ℕ) → from + 21 ≤ to → to ≤ length s → length (dataOf s from to) ≡ at + 4
+    → part at 4 (dataOf s from to) ≡ part (to - 4) 4 s
+last-four s from to at a b l =
     let long : length (dataOf s from to) ≡ to - (from + 21) = length-part (to - (from + 21)) (from + 21) s (omega arith) in
-    let at : from + 21 + 24 ≡ to - 4 = omega arith in
-    part-inside (from + 21) (to - (from + 21)) 24 4 s (omega arith) (omega arith) ∙ ap (λ (k : ℕ). part k 4 s) at
+    let there : from + 21 + at ≡ to - 4 = omega arith in
+    part-inside (from + 21) (to - (from + 21)) at 4 s (omega arith) (omega arith) ∙ ap (λ (k : ℕ). part k 4 s) there
 
 -- a number of four bytes over four zeros
 pub four-bytes : (count : ℕ) → written 0 (leBytes 4 count) (replicate 4 0) ≡ leBytes 4 count

@@ -10,13 +10,12 @@ use lib.ListN.{length, replicate}
 use Rattle.fields.specs.Lists.{all, Cut}
 use Rattle.fields.specs.Numbers.{le, leBytes}
 use Rattle.fields.specs.Parts.{part, written}
-use Rattle.format.specs.declared.SharedRef.{SharedRef}
 use Rattle.format.specs.Questions.{Answer, refused, absent, remove, accepted, bind}
-use Rattle.format.specs.Bodies.{lowerTotal, reduceTotal, dropInlineTreeRef, dropInlineDataRef, takeInlineShared, dropKeyedDataRef}
+use Rattle.format.specs.Bodies.{loweredByPart, onTotal, lowerTotal, dropKeyedDataRef}
 use Rattle.format.specs.Items.{Item}
 use Rattle.format.specs.Apply.{dropTreeRef}
 use Rattle.format.specs.Names.{good}
-use Rattle.format.specs.Ledger.{dropDataRef, dropSharedRef}
+use Rattle.format.specs.Ledger.{dropDataRef, lessItem, dropSharedRef}
 use Rattle.inline_refs.specs.declared.ref_name.RefName.{RefName}
 use Rattle.inline_refs.specs.declared.ref_name.RefName.the-variants.{Block, Data, SharedBlock, SharedData}
 use Rattle.backref.specs.declared.plan.Plan.{Plan}
@@ -39,14 +38,14 @@ heldPlan room count s target plan b =
     bind (planAnswer plan (dataOf s (target .start) (target .end))) (λ body.
     heldRecord room count (length body) (editedSheet s target b body))
 
--- the same by the answer of an item's own drop: the item goes, or counts one less
-unfoldable pub heldAt : ℕ → List ℕ → RecordAt → ℕ → ℕ → Answer (List ℕ) → List ℕ → Answer (List ℕ)
-heldAt room s target from to (refused refusal) body = refused refusal
-heldAt room s target from to absent body = absent
-heldAt room s target from to remove body =
+-- the same by the answer of an item's own drop: the item goes, or counts what is left
+unfoldable pub heldAt : ℕ → List ℕ → RecordAt → ℕ → ℕ → ℕ → Answer (List ℕ) → List ℕ → Answer (List ℕ)
+heldAt room s target from to left (refused refusal) body = refused refusal
+heldAt room s target from to left absent body = absent
+heldAt room s target from to left remove body =
     heldRecord room (target .«item_count» - 1) (length body) (editedSheet s target (gone from to) body)
-heldAt room s target from to (accepted item) body =
-    heldRecord room (target .«item_count») (length body) (editedSheet s target (newCount to (le (part (to - 4) 4 s) - 1)) body)
+heldAt room s target from to left (accepted item) body =
+    heldRecord room (target .«item_count») (length body) (editedSheet s target (newCount to left) body)
 
 -- the own-flag, 256, in the flags that stand at a position
 abbrev pub withOwnFlag : ℕ → List ℕ → List ℕ
@@ -54,12 +53,12 @@ withOwnFlag at bytes = written at (leBytes 8 (bitOr (le (part at 8 bytes)) 256))
 
 -- ---- by the name
 
--- the drop, without the own-flag
-unfoldable pub dropRef : RefName → List Item → Cut Item → Answer (List Item)
-dropRef (Block name) items c = dropTreeRef name false items c
-dropRef (Data name) items c = dropDataRef name items c
-dropRef (SharedBlock parent) items c = dropSharedRef (sharedRef 182 parent) items c
-dropRef (SharedData parent) items c = dropSharedRef (sharedRef 184 parent) items c
+-- the drop, without the own-flag: one of a block or of data, the amount of a shared reference
+unfoldable pub dropRef : RefName → ℕ → List Item → Cut Item → Answer (List Item)
+dropRef (Block name) amount items c = dropTreeRef name false items c
+dropRef (Data name) amount items c = dropDataRef name items c
+dropRef (SharedBlock parent) amount items c = dropSharedRef (sharedRef 182 parent) amount items c
+dropRef (SharedData parent) amount items c = dropSharedRef (sharedRef 184 parent) amount items c
 
 -- what it asks of the items: that of shared data is in its form, as in a balanced list
 abbrev pub SharedInForm : RefName → List Item → Type 0
@@ -68,30 +67,26 @@ SharedInForm (Data name) items = Unit {0}
 SharedInForm (SharedBlock parent) items = Unit {0}
 SharedInForm (SharedData parent) items = T (all good items)
 
--- the reference out of the body, and its own count off the total
-abbrev pub takenWhole : ℕ → List ℕ → SharedRef → Answer (List ℕ)
-takenWhole type body name = bind (takeInlineShared type body name) (λ out. reduceTotal (out .bytes) (out .count))
-
--- the record's body without the reference, or with one count less
-unfoldable pub droppedInline : RefName → ℕ → List ℕ → Answer (List ℕ)
-droppedInline (Block name) type body = dropInlineTreeRef type body name
-droppedInline (Data name) type body = dropInlineDataRef type body name
-droppedInline (SharedBlock parent) type body = takenWhole type body (sharedRef 182 parent)
-droppedInline (SharedData parent) type body = takenWhole type body (sharedRef 184 parent)
-
 -- the record's body with a lower total, where the reference's own item has those bytes
-unfoldable pub loweredTotal : RefName → List ℕ → List ℕ → Answer (List ℕ)
-loweredTotal (Block name) item body = lowerTotal body
-loweredTotal (Data name) item body = lowerTotal body
-loweredTotal (SharedBlock parent) item body = reduceTotal body 1
-loweredTotal (SharedData parent) item body = reduceTotal body (le item)
+unfoldable pub loweredTotal : RefName → ℕ → List ℕ → List ℕ → Answer (List ℕ)
+loweredTotal (Block name) amount item body = lowerTotal body
+loweredTotal (Data name) amount item body = lowerTotal body
+loweredTotal (SharedBlock parent) amount item body = onTotal body (loweredByPart amount 1)
+loweredTotal (SharedData parent) amount item body = onTotal body (loweredByPart amount (le item))
 
 -- what is left of the item
-unfoldable pub itemDrop : RefName → List ℕ → Answer (List ℕ)
-itemDrop (Block name) item = remove
-itemDrop (Data name) item = dropKeyedDataRef item name
-itemDrop (SharedBlock parent) item = remove
-itemDrop (SharedData parent) item = remove
+unfoldable pub itemDrop : RefName → ℕ → List ℕ → Answer (List ℕ)
+itemDrop (Block name) amount item = remove
+itemDrop (Data name) amount item = dropKeyedDataRef item name
+itemDrop (SharedBlock parent) amount item = lessItem 1 amount
+itemDrop (SharedData parent) amount item = lessItem (le item) amount
+
+-- and the count that it has then, where its last four bytes are that number
+unfoldable pub itemLeft : RefName → ℕ → ℕ → ℕ
+itemLeft (Block name) amount last = 0
+itemLeft (Data name) amount last = last - 1
+itemLeft (SharedBlock parent) amount last = 1 - amount
+itemLeft (SharedData parent) amount last = last - amount
 
 -- the item of shared data is its count
 abbrev pub CountFits : RefName → List ℕ → Type 0

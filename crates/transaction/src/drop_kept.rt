@@ -33,7 +33,7 @@ fn drop_owned(sheet: &[u8], target: RecordAt, name: BlockRef, out: &mut [u8]) ->
     requires { ⌜ StandsAt (now sheet) target ⌝ }
     ensures { λ r. ⌜ Answered (heldSheet (length (now (out .entry))) (onKey (target .key) (listItems (now (sheet .entry))) (dropTreeRef name true (listItems (now (sheet .entry)))))) r (now (out .entry)) (now (out .exit)) ⌝ }
 {
-    let edited = drop_refs::drop_ref(sheet, target, RefName::Block(name), out);
+    let edited = drop_refs::drop_ref(sheet, target, RefName::Block(name), 1, out);
     match edited {
         Edited::Absent => return Edited::Absent,
         Edited::Remove => return Edited::Remove,
@@ -83,7 +83,7 @@ pub fn drop_kept_tree_ref(
             if own {
                 return drop_owned(sheet, target, name, out);
             }
-            return drop_refs::drop_ref(sheet, target, RefName::Block(name), out);
+            return drop_refs::drop_ref(sheet, target, RefName::Block(name), 1, out);
         }
     }
 }

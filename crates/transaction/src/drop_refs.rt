@@ -1,80 +1,59 @@
 // A reference dropped: inline, or else at its own item.
 use super::drop_edits;
 use backref::Outcome;
-use backref::Plan;
 use backref::TotalChange;
 use format::DataRef;
 use format::Edited;
 use format::ITEM_HEAD;
 use format::Key;
-use format::SHARED_BLOCK_REF;
-use format::SHARED_DATA_REF;
-use format::SharedRef;
 use inline_refs::RefName;
 use item_list::Sought;
 use record_edit::RecordAt;
-ghost use Prim.Native.Nat.{_+_, _≤_};
+ghost use Prim.Native.Nat.{_+_, _-_, _≤_};
 ghost use lib.ListN.{length};
+ghost use Rattle.fields.specs.Numbers.{le};
+ghost use Rattle.fields.specs.Parts.{part};
 ghost use Rattle.format.specs.Constants.{itemHead, mostSheet};
-ghost use Rattle.format.specs.Questions.{Answered, bind};
-ghost use Rattle.format.specs.Bodies.{lowerTotal, dropKeyedDataRef};
+ghost use Rattle.format.specs.Questions.{Answered, bind, remove};
+ghost use Rattle.format.specs.Bodies.{loweredByPart, onTotal, lowerTotal, dropKeyedDataRef};
 ghost use Rattle.format.specs.Items.{heldSheet};
+ghost use Rattle.format.specs.Ledger.{lessItem};
 ghost use Rattle.item_list.specs.Steps.{listItems};
-ghost use Rattle.backref.specs.Plans.{Planned};
+ghost use Rattle.backref.specs.ByName.{OneOff};
 ghost use Rattle.record_edit.specs.Records.{dataOf, StandsAt, onKey};
-ghost use Rattle.transaction.specs.Drops.{heldAt, dropRef, SharedInForm, takenWhole, droppedInline, loweredTotal, itemDrop, CountFits};
+ghost use Rattle.transaction.specs.Drops.{heldAt, dropRef, SharedInForm, loweredTotal, itemDrop, itemLeft, CountFits};
 
-// A shared reference out of the body, and its own count off the total.
-fn plan_taken(item_type: u8, body: &[u8], name: SharedRef) -> Plan
-    ensures { λ r. ⌜ Planned r (now (body .entry)) (takenWhole «item_type» (now (body .entry)) name) ⌝ }
+// One off the record's total; the block reference's item goes.
+fn drop_block_item(sheet: &[u8], target: RecordAt, from: usize, to: usize, out: &mut [u8]) -> Edited
+    requires { ⌜ (target .start + itemHead ≤ target .end) × (target .end ≤ from) × (from + itemHead ≤ to) × (to ≤ length (now sheet)) × (length (now sheet) ≤ mostSheet) ⌝ }
+    ensures { λ r. ⌜ Answered (bind (lowerTotal (dataOf (now (sheet .entry)) (target .start) (target .end))) (heldAt (length (now (out .entry))) (now (sheet .entry)) target from to 0 remove)) r (now (out .entry)) (now (out .exit)) ⌝ }
 {
-    let taken = backref::plan_take_shared(item_type, body, name);
-    let count = taken.count as u64;
-    backref::plan_reduced(taken, count)
+    let start = target.start;
+    let end = target.end;
+    let lowered = backref::plan_total(&sheet[start + ITEM_HEAD..end], TotalChange::LowerByOne);
+    drop_edits::put_without(sheet, target, lowered, from, to, out)
 }
 
-// The record's body without the reference, or with one count less.
-fn plan_inline(item_type: u8, body: &[u8], name: RefName) -> Plan
-    ensures { λ r. ⌜ Planned r (now (body .entry)) (droppedInline name «item_type» (now (body .entry))) ⌝ }
+// The amount off the record's total, then off the shared reference's item, which counts `standing`: with its last count it goes.
+fn drop_part(
+    sheet: &[u8],
+    target: RecordAt,
+    from: usize,
+    to: usize,
+    standing: u32,
+    amount: u32,
+    out: &mut [u8],
+) -> Edited
+    requires { ⌜ (target .start + itemHead ≤ target .end) × (target .end ≤ from) × (from + itemHead ≤ to) × (to ≤ length (now sheet)) × (length (now sheet) ≤ mostSheet) ⌝ }
+    ensures { λ r. ⌜ Answered (bind (onTotal (dataOf (now (sheet .entry)) (target .start) (target .end)) (loweredByPart amount standing)) (heldAt (length (now (out .entry))) (now (sheet .entry)) target from to (standing - amount) (lessItem standing amount))) r (now (out .entry)) (now (out .exit)) ⌝ }
 {
-    match name {
-        RefName::Block(_) => backref::plan_drop(item_type, body, name),
-        RefName::Data(_) => backref::plan_drop(item_type, body, name),
-        RefName::SharedBlock(parent) => {
-            plan_taken(
-                item_type,
-                body,
-                SharedRef {
-                    kind: SHARED_BLOCK_REF,
-                    parent,
-                },
-            )
-        }
-        RefName::SharedData(parent) => plan_taken(
-            item_type,
-            body,
-            SharedRef {
-                kind: SHARED_DATA_REF,
-                parent,
-            },
-        ),
+    let start = target.start;
+    let end = target.end;
+    let reduced = backref::plan_total_part(&sheet[start + ITEM_HEAD..end], amount, standing);
+    if amount < standing {
+        return drop_edits::put_count(sheet, target, reduced, to, standing - amount, out);
     }
-}
-
-// The record's body with a lower total: by one, or by all that an item of shared data counts.
-fn plan_lowered(item: &[u8], body: &[u8], name: RefName) -> Plan
-    requires { ⌜ CountFits name (now item) ⌝ }
-    ensures { λ r. ⌜ Planned r (now (body .entry)) (loweredTotal name (now (item .entry)) (now (body .entry))) ⌝ }
-{
-    match name {
-        RefName::Block(_) => backref::plan_total(body, TotalChange::LowerByOne),
-        RefName::Data(_) => backref::plan_total(body, TotalChange::LowerByOne),
-        RefName::SharedBlock(_) => backref::plan_total(body, TotalChange::Reduce(1)),
-        RefName::SharedData(_) => {
-            let count = fields::get_u32_le(item, 0);
-            backref::plan_total(body, TotalChange::Reduce(count as u64))
-        }
-    }
+    drop_edits::put_without(sheet, target, reduced, from, to, out)
 }
 
 // One off the record's total, then one count off the data reference's item: at count 1 the item goes.
@@ -87,7 +66,7 @@ fn drop_count(
     out: &mut [u8],
 ) -> Edited
     requires { ⌜ (target .start + itemHead ≤ target .end) × (target .end ≤ from) × (from + itemHead ≤ to) × (to ≤ length (now sheet)) × (length (now sheet) ≤ mostSheet) ⌝ }
-    ensures { λ r. ⌜ Answered (bind (lowerTotal (dataOf (now (sheet .entry)) (target .start) (target .end))) (heldAt (length (now (out .entry))) (now (sheet .entry)) target from to (dropKeyedDataRef (dataOf (now (sheet .entry)) from to) name))) r (now (out .entry)) (now (out .exit)) ⌝ }
+    ensures { λ r. ⌜ Answered (bind (lowerTotal (dataOf (now (sheet .entry)) (target .start) (target .end))) (heldAt (length (now (out .entry))) (now (sheet .entry)) target from to (le (part (to - 4) 4 (now (sheet .entry))) - 1) (dropKeyedDataRef (dataOf (now (sheet .entry)) from to) name))) r (now (out .entry)) (now (out .exit)) ⌝ }
 {
     let start = target.start;
     let end = target.end;
@@ -109,42 +88,52 @@ fn drop_count(
     }
 }
 
-// The drop at the reference's own item, which stands from `from` up to `to`. But for data, which is counted, it goes.
+// The drop at the reference's own item, which stands from `from` up to `to`.
 fn drop_at_item(
     sheet: &[u8],
     target: RecordAt,
     from: usize,
     to: usize,
     name: RefName,
+    amount: u32,
     out: &mut [u8],
 ) -> Edited
     requires { ⌜ CountFits name (dataOf (now sheet) from to) ⌝ }
     requires { ⌜ (target .start + itemHead ≤ target .end) × (target .end ≤ from) × (from + itemHead ≤ to) × (to ≤ length (now sheet)) × (length (now sheet) ≤ mostSheet) ⌝ }
-    ensures { λ r. ⌜ Answered (bind (loweredTotal name (dataOf (now (sheet .entry)) from to) (dataOf (now (sheet .entry)) (target .start) (target .end))) (heldAt (length (now (out .entry))) (now (sheet .entry)) target from to (itemDrop name (dataOf (now (sheet .entry)) from to)))) r (now (out .entry)) (now (out .exit)) ⌝ }
+    ensures { λ r. ⌜ Answered (bind (loweredTotal name amount (dataOf (now (sheet .entry)) from to) (dataOf (now (sheet .entry)) (target .start) (target .end))) (heldAt (length (now (out .entry))) (now (sheet .entry)) target from to (itemLeft name amount (le (part (to - 4) 4 (now (sheet .entry))))) (itemDrop name amount (dataOf (now (sheet .entry)) from to)))) r (now (out .entry)) (now (out .exit)) ⌝ }
 {
-    let RefName::Data(data) = name else {
-        let start = target.start;
-        let end = target.end;
-        let rest = plan_lowered(
-            &sheet[from + ITEM_HEAD..to],
-            &sheet[start + ITEM_HEAD..end],
-            name,
-        );
-        return drop_edits::put_without(sheet, target, rest, from, to, out);
-    };
-    drop_count(sheet, target, from, to, data, out)
+    match name {
+        RefName::Block(_) => drop_block_item(sheet, target, from, to, out),
+        RefName::Data(data) => drop_count(sheet, target, from, to, data, out),
+        RefName::SharedBlock(_) => drop_part(sheet, target, from, to, 1, amount, out),
+        RefName::SharedData(_) => {
+            let standing = fields::get_u32_le(sheet, to - 4);
+            drop_part(sheet, target, from, to, standing, amount, out)
+        }
+    }
 }
 
-// One reference: a shared one with all its count, another with one. The plan goes on whole: to look at its outcome here would
-// copy it.
-pub fn drop_ref(sheet: &[u8], target: RecordAt, name: RefName, out: &mut [u8]) -> Edited
+// So much of a shared reference, or one of another. The plan goes on whole: to look at its outcome here would copy it.
+pub fn drop_ref(
+    sheet: &[u8],
+    target: RecordAt,
+    name: RefName,
+    amount: u32,
+    out: &mut [u8],
+) -> Edited
     requires { ⌜ StandsAt (now sheet) target ⌝ }
+    requires { ⌜ OneOff name amount ⌝ }
     requires { ⌜ SharedInForm name (listItems (now sheet)) ⌝ }
-    ensures { λ r. ⌜ Answered (heldSheet (length (now (out .entry))) (onKey (target .key) (listItems (now (sheet .entry))) (dropRef name (listItems (now (sheet .entry)))))) r (now (out .entry)) (now (out .exit)) ⌝ }
+    ensures { λ r. ⌜ Answered (heldSheet (length (now (out .entry))) (onKey (target .key) (listItems (now (sheet .entry))) (dropRef name amount (listItems (now (sheet .entry)))))) r (now (out .entry)) (now (out .exit)) ⌝ }
 {
     let start = target.start;
     let end = target.end;
-    let plan = plan_inline(target.key.kind, &sheet[start + ITEM_HEAD..end], name);
+    let plan = backref::plan_drop(
+        target.key.kind,
+        &sheet[start + ITEM_HEAD..end],
+        name,
+        amount,
+    );
     let edited = record_edit::put_record(sheet, target, plan, crate::NO_LIMIT, out);
     let Edited::Absent = edited else {
         return edited;
@@ -162,5 +151,5 @@ pub fn drop_ref(sheet: &[u8], target: RecordAt, name: RefName, out: &mut [u8]) -
     else {
         return Edited::Refused(5);
     };
-    drop_at_item(sheet, target, from, to, name, out)
+    drop_at_item(sheet, target, from, to, name, amount, out)
 }

@@ -105,7 +105,7 @@ fn real_leaves(b: &mut Bench) {
                     );
                     let there = &given[..*len as usize];
                     let back =
-                        lent::ledger_post(NODE, there, 6, extent, kind, PARENT, 0, 0, out, len);
+                        lent::ledger_post(NODE, there, 6, extent, kind, PARENT, 0, 1, out, len);
                     if code + back != 0 || *len as usize != sheet.len() {
                         return 1;
                     }

@@ -3,10 +3,11 @@ use crate::bodies;
 use crate::collide::collide;
 use crate::random::Random;
 use crate::sheets;
+use model::apply;
 use model::asked::le64;
 use model::body::{keyed_data_ref_body, Body, Reference, BLOCK, DATA, SHARED_BLOCK, SHARED_DATA};
 use model::calls::Arg;
-use model::ledger::Name;
+use model::ledger::{self, Name};
 use model::sheet::{space, unordered, Item};
 use model::table::{Call, CALLS};
 
@@ -133,8 +134,7 @@ impl Draw<'_> {
             1 + self.r.below(6) as u64
         };
         self.extent = sheets::extent(self.r);
-        let records: Vec<Item> =
-            self.items.iter().filter(|i| [168, 169].contains(&i.key.1)).cloned().collect();
+        let records = self.records();
         if !self.items.is_empty() {
             self.key = self.items[self.r.below(self.items.len())].key;
             if self.r.chance(1, 2) {
@@ -163,6 +163,28 @@ impl Draw<'_> {
         };
         self.data = vec![self.r.next() as u8; length];
         self.keyed_item();
+    }
+
+    /// The records of the list; where a shared reference is dropped, mostly of extents that have one.
+    fn records(&mut self) -> Vec<Item> {
+        let items = self.items.iter();
+        let records: Vec<Item> =
+            items.clone().filter(|i| [168, 169].contains(&i.key.1)).cloned().collect();
+        if self.call != "ledger_post" || self.change != 6 || self.r.chance(1, 4) {
+            return records;
+        }
+        let shared = |kind: u8| [SHARED_BLOCK, SHARED_DATA].contains(&kind);
+        let has = |record: &&Item| {
+            let inline = bodies::references(record.key.1, &record.data);
+            inline.iter().any(|x| shared(x.kind))
+                || items.clone().any(|i| i.key.0 == record.key.0 && shared(i.key.1))
+        };
+        let with: Vec<Item> = records.iter().filter(has).cloned().collect();
+        if with.is_empty() {
+            records
+        } else {
+            with
+        }
     }
 
     fn args(mut self) -> Vec<Arg> {
@@ -320,6 +342,12 @@ impl Draw<'_> {
         u64::from(count)
     }
 
+    /// The amount of a drop of the focus, beside what it counts in the list.
+    fn part(&mut self) -> u64 {
+        let name = (self.focus.kind, self.focus.fields.clone());
+        part(self.r, &self.items, self.extent, &name)
+    }
+
     fn number(&mut self, name: &str) -> u64 {
         let field = |d: &Draw, at: usize| d.focus.fields.get(at).copied();
         match name {
@@ -345,6 +373,7 @@ impl Draw<'_> {
             "tree" | "root" | "owner" | "parent" => field(self, 0).unwrap_or(0),
             "objectid" | "ino" => field(self, 1).unwrap_or_else(|| self.r.field()),
             "offset" => field(self, 2).unwrap_or_else(|| self.r.field()),
+            "amount" if self.change == 6 => self.part(),
             "count" | "amount" => self.count(),
             "total_count" => {
                 let total = if self.body.len() < 8 { 0 } else { le64(&self.body) };
@@ -422,6 +451,37 @@ pub fn ample(args: &[Arg]) -> usize {
     bytes + 64
 }
 
+/// What a drop takes of a shared reference: nothing, one, a part of what stands, all of it, one
+/// more, more than the extent's total, and the most that an amount can be.
+pub fn part(r: &mut Random, items: &[Item], extent: u64, name: &Name) -> u64 {
+    let stands = ledger::count(items, extent, name) as u64;
+    let amount = match r.below(10) {
+        0 => 0,
+        1 | 2 => 1,
+        3 | 4 => 1 + r.next() % stands.max(1),
+        5 | 6 => stands,
+        7 => stands.saturating_add(1),
+        8 => total(items, extent).saturating_add(1),
+        _ => u64::from(u32::MAX),
+    };
+    amount.min(u32::MAX.into())
+}
+
+/// The total of an extent's record, 0 where there is none or it is too short.
+pub fn total(items: &[Item], extent: u64) -> u64 {
+    let record = apply::record(items, extent).map(|at| &items[at].data);
+    record.filter(|data| data.len() >= 8).map_or(0, |data| le64(data))
+}
+
+/// A case of the ledger without its output: which change, the extent, the name's three fields and
+/// the amount.
+pub fn posting(nodesize: u64, sheet: &[u8], numbers: [u64; 6]) -> Vec<Arg> {
+    let mut args = vec![Arg::Number(nodesize), Arg::Bytes(sheet.to_vec())];
+    args.extend(numbers.map(Arg::Number));
+    args.extend([Arg::Out(vec![]), Arg::Lent(0)]);
+    args
+}
+
 /// The name that a case of the ledger carries, for reports.
 pub fn name_of(change: u64, a: u64, b: u64, c: u64) -> Name {
     match change {
@@ -444,4 +504,31 @@ fn hundreds_of_references_are_held_or_not() {
         }
     }
     assert!(said.iter().all(|&cases| cases > 2), "{said:?}");
+}
+
+/// What a drop of a shared reference came to: its code, and where it is accepted, whether the
+/// reference is an item and whether some of it is left.
+#[cfg(test)]
+fn dropped(bare: &[Arg]) -> Option<(u64, bool, bool)> {
+    let number = |at: usize| if let Arg::Number(n) = bare[at] { n } else { 0 };
+    let [change, extent, a, b, c, amount] = std::array::from_fn(|at| number(2 + at));
+    let Arg::Bytes(sheet) = &bare[1] else { return None };
+    let code = model::calls::outcome("ledger_post", &lent(bare, ample(bare))).code;
+    let items = unordered(sheet).unwrap_or_default();
+    let own = items.iter().any(|i| i.key == (extent, a as u8, b));
+    let left = ledger::count(&items, extent, &name_of(change, a, b, c)) > amount.into();
+    (change == 6).then_some((code, code == 0 && own, code == 0 && left))
+}
+
+#[test]
+fn drops_of_shared_references_meet_what_stands() {
+    let mut r = Random::new(1);
+    let cases = (0..20_000).filter_map(|_| dropped(&random("ledger_post", &mut r)));
+    let cases: Vec<_> = cases.collect();
+    let accepted = [(false, false), (false, true), (true, false), (true, true)];
+    let ways = accepted.map(|(own, left)| (0, own, left)).into_iter();
+    for way in ways.chain([5, 10, 22].map(|code| (code, false, false))) {
+        let often = cases.iter().filter(|case| **case == way).count();
+        assert!(often >= 20, "{way:?} came up {often} times in {}", cases.len());
+    }
 }

@@ -1,36 +1,41 @@
 //! Histories: lists of changes posted to a balanced sheet, held to a plain tally.
 use crate::archive::{self, Archive};
-use crate::generate::{lent, name_of};
+use crate::generate::{lent, name_of, part, posting};
 use crate::random::Random;
 use crate::sheets;
 use crate::spent::Spent;
 use model::calls::{outcome, Arg, Outcome};
 use model::ledger::{balanced, count, Name};
-use model::sheet::{bytes, read};
+use model::sheet::{bytes, read, Item};
 use std::collections::{BTreeMap, BTreeSet};
 use std::time::Duration;
 
 /// Of each change, how often it was accepted and refused.
 type Answers = [[usize; 2]; 6];
 
-/// Opening, given and taken of one name.
-type Row = (i128, i128, i128);
+/// Opening, given and taken of each name.
+type Rows = BTreeMap<(u64, Name), (i128, i128, i128)>;
 
-type Poster<'a> = &'a dyn Fn(&[Arg]) -> Option<Outcome>;
+/// What answers a posting.
+pub type Poster<'a> = &'a dyn Fn(&[Arg]) -> Option<Outcome>;
 
 /// So many lists whatever the time.
 const LEAST: usize = 200;
 
-/// By the model, and by the archive where it has the call.
 pub fn histories(time: Duration) -> Vec<String> {
+    by_each("histories", |what, post| run(what, post, time / 2))
+}
+
+/// A line by the model, and one by the archive where it has the call.
+pub fn by_each(runs: &str, run: impl Fn(&str, Poster) -> String) -> Vec<String> {
     let model = |args: &[Arg]| Some(outcome("ledger_post", args));
-    let mut lines = vec![run("model", &model, time / 2)];
+    let mut lines = vec![run("model", &model)];
     if archive::has("ledger_post") {
         let archive = Archive::default();
         let posted = |args: &[Arg]| archive.run("ledger_post", args, true).ok();
-        lines.push(run("archive", &posted, time / 2));
+        lines.push(run("archive", &posted));
     } else {
-        lines.push("FAIL histories archive: ledger_post is not in the archive".into());
+        lines.push(format!("FAIL {runs} archive: ledger_post is not in the archive"));
     }
     lines
 }
@@ -58,27 +63,34 @@ fn run(what: &str, post: Poster, time: Duration) -> String {
     format!("ok   histories {what}: {lists} lists, {accepted} accepted changes, {refused} refused")
 }
 
-/// What an accepted change leaves: a balanced list, each name at opening plus given minus taken,
-/// and the old items of every extent that no accepted change named.
+/// The numbers of a posting to these items: which change, the extent, the name's fields, the amount.
+fn drawn(r: &mut Random, items: &[Item]) -> [u64; 6] {
+    let change = 1 + r.below(6) as u64;
+    let extent = sheets::extent(r);
+    let kind = r.pick(&[182, 184]);
+    let (a, b, c) = match change {
+        3 | 6 => (kind, r.below(4) as u64, 0),
+        _ => (r.below(4) as u64, r.below(2) as u64, r.below(2) as u64),
+    };
+    let amount = match change {
+        3 if kind == 182 => 1,
+        6 => part(r, items, extent, &name_of(change, a, b, c)),
+        _ => u64::from(r.count()),
+    };
+    [change, extent, a, b, c, amount]
+}
+
+/// Forty postings, each to the list that the last accepted one made.
 fn history(r: &mut Random, post: Poster, answers: &mut Answers) -> Result<(), String> {
     let mut sheet = bytes(&sheets::balanced(r));
     let opening = read(&sheet).map_err(|_| "a list that does not read")?;
-    let mut rows: BTreeMap<(u64, Name), Row> = BTreeMap::new();
+    let mut items = opening.clone();
+    let mut rows = Rows::new();
     let mut named = BTreeSet::new();
     for _ in 0..40 {
-        let change = 1 + r.below(6) as u64;
-        let extent = sheets::extent(r);
-        let kind = r.pick(&[182, 184]);
-        let (a, b, c) = match change {
-            3 | 6 => (kind, r.below(4) as u64, 0),
-            _ => (r.below(4) as u64, r.below(2) as u64, r.below(2) as u64),
-        };
-        let amount = if change == 3 && kind == 182 { 1 } else { u64::from(r.count()) };
-        let numbers = [change, extent, a, b, c, amount].map(Arg::Number);
-        let mut args = vec![Arg::Number(16_384), Arg::Bytes(sheet.clone())];
-        args.extend(numbers);
-        args.extend([Arg::Out(vec![]), Arg::Lent(0)]);
-        let args = lent(&args, sheet.len() + 64);
+        let numbers = drawn(r, &items);
+        let [change, extent, a, b, c, amount] = numbers;
+        let args = lent(&posting(16_384, &sheet, numbers), sheet.len() + 64);
         let said = post(&args).ok_or("no answer")?;
         let name = (extent, name_of(change, a, b, c));
         let row = rows
@@ -93,26 +105,35 @@ fn history(r: &mut Random, post: Poster, answers: &mut Answers) -> Result<(), St
             1 => row.1 += 1,
             2 | 3 => row.1 += i128::from(amount),
             4 | 5 => row.2 += 1,
-            _ => row.2 += row.0 + row.1 - row.2,
+            _ => row.2 += i128::from(amount),
         }
         sheet = crate::verdict::written("ledger_post", &said).bytes;
-        let items =
+        items =
             read(&sheet).map_err(|_| format!("change {change} gave a sheet that does not read"))?;
-        if !balanced(&items) {
-            return Err(format!("change {change} gave a sheet that is not balanced"));
-        }
-        if !opening
-            .iter()
-            .filter(|i| !named.contains(&i.key.0))
-            .eq(items.iter().filter(|i| !named.contains(&i.key.0)))
-        {
-            return Err(format!("change {change} moved an item of an extent that it did not name"));
-        }
-        for ((extent, name), (opening, given, taken)) in &rows {
-            let stands = count(&items, *extent, name) as i128;
-            if stands + taken != opening + given {
-                return Err(format!("{name:?} of {extent} counts {stands}: opening {opening}, given {given}, taken {taken}"));
-            }
+        left(&opening, &items, &named, &rows).map_err(|text| format!("change {change} {text}"))?;
+    }
+    Ok(())
+}
+
+/// What accepted changes leave: a balanced list, each name at opening plus given minus taken, and
+/// the old items of every extent that none of them named.
+fn left(
+    opening: &[Item],
+    items: &[Item],
+    named: &BTreeSet<u64>,
+    rows: &Rows,
+) -> Result<(), String> {
+    if !balanced(items) {
+        return Err("gave a sheet that is not balanced".into());
+    }
+    let other = |i: &&Item| !named.contains(&i.key.0);
+    if !opening.iter().filter(other).eq(items.iter().filter(other)) {
+        return Err("moved an item of an extent that it did not name".into());
+    }
+    for ((extent, name), (opening, given, taken)) in rows {
+        let stands = count(items, *extent, name) as i128;
+        if stands + taken != opening + given {
+            return Err(format!("left {name:?} of {extent} at {stands}: opening {opening}, given {given}, taken {taken}"));
         }
     }
     Ok(())
@@ -146,6 +167,8 @@ mod tests {
             changed(args, |said| said.code = if args[2] == Arg::Number(6) { 5 } else { 0 })
         };
         assert!(line(&no_drop).starts_with("FAIL"));
+        // One that drops all of a shared reference, whatever the amount.
+        assert!(line(&crate::parts::wrong::drops_all).starts_with("FAIL"));
         // One that hands the list back.
         let back = |args: &[Arg]| {
             let mut after = args.to_vec();

@@ -22,6 +22,8 @@ mod collide;
 mod differences;
 mod guarded;
 mod ledger_history;
+mod part_cases;
+mod parts;
 mod questions;
 mod sheets;
 mod swap;
@@ -30,4 +32,5 @@ mod swap_private;
 
 pub use differences::differences;
 pub use ledger_history::histories;
+pub use parts::parts;
 pub use swap::swapped;

@@ -6,7 +6,7 @@
 //!     differential --record      writes recorded/answers.txt from the original
 //!
 //! Each call runs in a process of its own: a read past a lent slice ends that process alone.
-use differential::{compare, differences, generate, histories, recorded, swapped, verdict};
+use differential::{compare, differences, generate, histories, parts, recorded, swapped, verdict};
 use std::process::{Command, ExitCode, Output};
 use std::sync::atomic::{AtomicUsize, Ordering};
 use std::sync::Mutex;
@@ -59,9 +59,9 @@ fn all(seconds: f64) -> ExitCode {
             .into()]);
     }
     count.lines(archive_faults(extent_refs::LINKED, extent_refs::MISSING));
-    // A share for each call, and one each for the recorded answers, the histories and the swap. As many calls are
-    // compared at once as there are processors, each in a process of its own.
-    let share = seconds / (calls.len() + 3) as f64;
+    // A share for each call, and one each for the recorded answers, the histories, the parts and the swap. As many
+    // calls are compared at once as there are processors, each in a process of its own.
+    let share = seconds / (calls.len() + 4) as f64;
     for (call, run) in calls.iter().zip(side_by_side(&calls, share)) {
         let text = String::from_utf8_lossy(&run.stdout).into_owned();
         count.lines(text.lines().map(str::to_string));
@@ -73,6 +73,7 @@ fn all(seconds: f64) -> ExitCode {
     count.lines(recorded::current());
     count.lines(recorded::replay());
     count.lines(histories(Duration::from_secs_f64(share)));
+    count.lines(parts(Duration::from_secs_f64(share)));
     count.lines(swapped(Duration::from_secs_f64(share)));
     count.sum()
 }

@@ -326,14 +326,35 @@ pub fn verdict(call: &str, args: &[Arg]) -> Verdict {
             if change == 2 && amount > ROUNDS {
                 return NotAsked;
             }
+            if change == 6 && stands(&items, extent, a as u8, b).is_some_and(|all| all != amount) {
+                return NotAsked;
+            }
             listed(post(size, items, change, extent, [a, b, c], amount))
         }
         other => panic!("no call {other}"),
     }
 }
 
+/// What a shared reference counts, inline or as an item: that much is a take in the original,
+/// which knows no other amount.
+fn stands(items: &[OwnedItem], extent: u64, kind: u8, parent: u64) -> Option<u32> {
+    let record = public::record_of(items, extent)?;
+    let taken = backref::take_inline_shared(record.key.key_type, &record.data, kind, parent);
+    if let Ok(Some((_, count))) = taken {
+        return Some(count);
+    }
+    let key = DiskKey { objectid: extent, key_type: kind, offset: parent };
+    items.iter().find(|i| i.key == key).map(|item| own_count(&item.data))
+}
+
+/// The count of a shared reference's item: a shared block's has no data, and counts 1.
+fn own_count(data: &[u8]) -> u32 {
+    data.try_into().map_or(1, u32::from_le_bytes)
+}
+
 /// A posting to a balanced sheet, put together from the original's functions as document 01
 /// says. What only the books ask (9 for an item of its own, 10 for an amount of 0) stands here.
+/// A shared reference is taken whole, whatever the amount.
 pub fn post(
     size: u32,
     items: Vec<OwnedItem>,
@@ -397,7 +418,7 @@ pub fn post(
                     Some((body, count)) => (body, count, items.clone()),
                     None => {
                         let item = at(key(a as u8, b)).ok_or_else(no)?;
-                        let count = item.data.try_into().map_or(1, u32::from_le_bytes);
+                        let count = own_count(&item.data);
                         let rest = leaf_edit::delete(&items, &key(a as u8, b))?;
                         (record.data.clone(), count, rest)
                     }

@@ -14,6 +14,9 @@ pub struct Reached {
     truths: BTreeSet<u64>,
 }
 
+/// The highest number of a question.
+const LAST: u64 = 22;
+
 /// The lent numbers that are 0 or 1.
 const TRUTHS: [&str; 3] = ["holds", "names", "fits"];
 
@@ -101,7 +104,7 @@ impl Reached {
                     if condition.is_empty() { String::new() } else { format!("{condition}: ") };
                 faults.push(format!("{which}{code} {text}"));
             };
-            for code in (0..=21).chain([100, 101]) {
+            for code in (0..=LAST).chain([100, 101]) {
                 let said = says(questions, code);
                 if any.contains(&code) && said == Says::Never {
                     fault(code, "comes up, which the table does not list");
@@ -140,6 +143,7 @@ impl Reached {
 #[cfg(test)]
 mod tests {
     use super::*;
+    use model::table::CALLS;
 
     fn line(call: &str, seen: &[(u64, u64, bool)]) -> String {
         let mut reached = Reached::new(call);
@@ -192,20 +196,38 @@ mod tests {
             (3, &[0, 1, 2, 3, 4, 5, 9, 10, 11, 17, 21]),
             (4, &[0, 1, 2, 3, 4, 5, 13]),
             (5, &[0, 1, 2, 3, 4, 5, 13, 15]),
-            (6, &[0, 1, 2, 3, 4, 5]),
+            (6, &[0, 1, 2, 3, 4, 5, 10, 22]),
             (7, &[1, 2, 3]),
         ] {
             seen.extend(codes.iter().map(|&code| (change, code, true)));
         }
         seen.extend([4, 5, 6].map(|change| (change, 21, false)));
         assert!(line("ledger_post", &seen).starts_with("ok"), "{}", line("ledger_post", &seen));
-        // No other change is accepted, and 12 cannot come.
-        for (change, code) in [(7, 0), (2, 12), (6, 13)] {
+        // No other change is accepted, 12 cannot come, and neither 13 nor 14 is put to a drop of a
+        // shared reference.
+        for (change, code) in [(7, 0), (2, 12), (6, 13), (6, 14), (5, 22)] {
             seen.push((change, code, true));
             assert!(line("ledger_post", &seen).starts_with("FAIL"));
             seen.pop();
         }
-        seen.retain(|s| *s != (5, 15, true));
-        assert!(line("ledger_post", &seen).contains("change=5: 15 was not reached"));
+        for (change, code) in [(5, 15), (6, 10), (6, 22)] {
+            let mut seen = seen.clone();
+            seen.retain(|s| *s != (change, code, true));
+            let missing = format!("change={change}: {code} was not reached");
+            assert!(line("ledger_post", &seen).contains(&missing));
+        }
+    }
+
+    #[test]
+    fn each_refusal_has_a_sentence_of_its_own() {
+        let listed = |code| {
+            let mut asks = CALLS.iter().flat_map(|call| call.asks);
+            asks.any(|(_, questions)| says(questions, code) != Says::Never)
+        };
+        let refusals: Vec<u64> = (1..=LAST).filter(|&code| listed(code)).collect();
+        let sentence = |number| extent_refs::error::Error { number }.sentence();
+        let own: BTreeSet<_> = refusals.iter().map(|&code| sentence(code as u32)).collect();
+        assert_eq!(own.len(), refusals.len());
+        assert!(!own.contains(sentence(0)));
     }
 }

@@ -112,6 +112,8 @@ pub struct Given {
     pub kind: u8,
     pub triple: [u64; 3],
     pub count: u32,
+    /// What the shared reference of `kind` and the first field counts in the list, 0 for none.
+    pub stands: u32,
     pub nodesize: u32,
     pub items: Vec<model::sheet::Item>,
     pub extent: u64,
@@ -139,13 +141,16 @@ fn given(r: &mut Random) -> Given {
     let triple: [u64; 3] =
         std::array::from_fn(|i| fields.get(i).copied().unwrap_or_else(|| r.field()));
     let kind = named.map_or(0, |x| x.kind);
+    let kind = if kind > 178 { kind } else { r.pick(&[182, 184]) };
+    let extent = record.map_or(4096, |i| i.key.0);
     Given {
         item_type,
-        kind: if kind > 178 { kind } else { r.pick(&[182, 184]) },
+        kind,
         triple,
         count: r.pick(&[0, 1, 1, 1, 2, 3]),
+        stands: model::ledger::count(&items, extent, &(kind, vec![triple[0]])) as u32,
         nodesize: r.pick(&[501, 600, 1024, 4096, 65_536]),
-        extent: record.map_or(4096, |i| i.key.0),
+        extent,
         level: record.map_or(0, |i| i.key.2 as u8),
         key: match items.first() {
             Some(first) if r.chance(1, 2) => first.key,

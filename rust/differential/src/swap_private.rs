@@ -101,7 +101,8 @@ pub fn over_archive(g: &Given) -> Vec<String> {
         Change::AddShared { name: shared, amount: count },
         Change::DropBlock { tree: a },
         Change::DropData { name: data },
-        Change::DropShared { name: shared },
+        // The original's take is all that stands.
+        Change::DropShared { name: shared, amount: g.stands },
     ] {
         texts.push(format!("{:?}", ledger::post(size, &items, bytenr, change).ok()));
     }

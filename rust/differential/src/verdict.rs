@@ -72,6 +72,7 @@ pub fn agreement(call: &str, verdict: &Verdict, outcome: &Outcome) -> Agreement 
         (Verdict::Accepted(w), 0) => *w == written(call, outcome),
         (Verdict::Absent, code) => code == 100,
         (Verdict::Remove, code) => code == 101,
+        // 22 is document 02's: the original is not asked for the amounts that it refuses.
         (Verdict::Refused, code) => (5..=20).contains(&code),
         _ => false,
     };

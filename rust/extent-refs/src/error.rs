@@ -1,4 +1,4 @@
-//! A refusal: document 01's number and a sentence.
+//! A refusal: the number of documents 01 and 02, and a sentence.
 use std::fmt;
 
 #[derive(Debug, Clone, Copy, PartialEq, Eq, Hash)]
@@ -21,7 +21,7 @@ impl Error {
             7 => "the extent item has an inline reference of an unknown type",
             8 => "the extent item ends inside an inline reference",
             9 => "the key or reference to add stands already",
-            10 => "this reference may not be added so",
+            10 => "the amount is 0, or the reference may not be added so",
             11 => "a reference's count is at its limit",
             12 => "the extent's total is at its limit",
             13 => "the reference is its extent's last",
@@ -33,6 +33,7 @@ impl Error {
             19 => "fewer than two items cannot be split",
             20 => "a leaf would be empty",
             21 => "the result does not fit in the output or the limits",
+            22 => "the amount is above what stands",
             _ => "an unknown code",
         }
     }

@@ -20,14 +20,36 @@ pub struct SharedRef {
     pub parent: u64,
 }
 
+/// One of the six changes. An amount of 0 is refused 10.
 #[derive(Debug, Clone, Copy, PartialEq, Eq)]
 pub enum Change {
-    AddBlock { tree: u64 },
-    AddData { name: DataRef, amount: u32 },
-    AddShared { name: SharedRef, amount: u32 },
-    DropBlock { tree: u64 },
-    DropData { name: DataRef },
-    DropShared { name: SharedRef },
+    AddBlock {
+        tree: u64,
+    },
+    AddData {
+        name: DataRef,
+        amount: u32,
+    },
+    /// A shared block (182) is added once: another amount is refused 10.
+    AddShared {
+        name: SharedRef,
+        amount: u32,
+    },
+    DropBlock {
+        tree: u64,
+    },
+    /// One count of it.
+    DropData {
+        name: DataRef,
+    },
+    /// So much of what stands, inline or as an item, and off the extent's total, which may reach 0.
+    /// With all of it the reference goes; an amount above it is refused 22. Of a shared block (182)
+    /// 1 stands. What an accepted [`Change::AddShared`] added, the same amount takes off again, and
+    /// the list is the old one byte for byte.
+    DropShared {
+        name: SharedRef,
+        amount: u32,
+    },
 }
 
 impl Change {
@@ -41,7 +63,7 @@ impl Change {
             Change::AddShared { name, amount } => (3, shared(name), amount),
             Change::DropBlock { tree } => (4, [tree, 0, 0], 1),
             Change::DropData { name } => (5, data(name), 1),
-            Change::DropShared { name } => (6, shared(name), 0),
+            Change::DropShared { name, amount } => (6, shared(name), amount),
         }
     }
 }

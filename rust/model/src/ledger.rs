@@ -1,5 +1,5 @@
-//! Document 01, the entry: balanced sheets and posting a change.
-use crate::apply::{always_within, grown_within, record};
+//! Document 01, the entry, with document 02's ticket 1: balanced sheets and posting a change.
+use crate::apply::{always_within, grown_within, record, shared_add_item};
 use crate::asked::{ask, le32, le64, want, Asked, Stop};
 use crate::body::{Body, Reference, BLOCK, DATA, OWNER, SHARED_BLOCK, SHARED_DATA};
 use crate::hash::data_ref_hash;
@@ -13,7 +13,7 @@ pub enum Change {
     GiveShared { kind: u8, parent: u64, amount: u32 },
     TakeBlock { tree: u64 },
     TakeData { triple: [u64; 3] },
-    TakeShared { kind: u8, parent: u64 },
+    TakeShared { kind: u8, parent: u64, amount: u32 },
 }
 
 /// A name within its extent: the type and its fields.
@@ -31,7 +31,7 @@ impl Change {
             3 => Change::GiveShared { kind: a as u8, parent: b, amount },
             4 => Change::TakeBlock { tree: a },
             5 => Change::TakeData { triple: [a, b, c] },
-            6 => Change::TakeShared { kind: a as u8, parent: b },
+            6 => Change::TakeShared { kind: a as u8, parent: b, amount },
             _ => return Err(Stop::Refused(3)),
         })
     }
@@ -42,7 +42,7 @@ impl Change {
             Change::GiveData { triple, .. } | Change::TakeData { triple } => {
                 (DATA, triple.to_vec())
             }
-            Change::GiveShared { kind, parent, .. } | Change::TakeShared { kind, parent } => {
+            Change::GiveShared { kind, parent, .. } | Change::TakeShared { kind, parent, .. } => {
                 (kind, vec![parent])
             }
         }
@@ -142,6 +142,40 @@ fn own_item(items: &[Item], extent: u64, name: &Name) -> Option<Key> {
         .map(|i| i.key)
 }
 
+/// What is left of a reference with an amount off, from 1 up to what stands; `None` once that was
+/// all of it.
+fn less(reference: &Reference, amount: u32) -> Asked<Option<Reference>> {
+    ask(10, amount > 0)?;
+    let left = want(22, reference.weight().checked_sub(u64::from(amount)))?;
+    let count = Some(left as u32);
+    Ok((left > 0).then(|| Reference { count, ..reference.clone() }))
+}
+
+/// An amount off the shared reference under a key's name, inline or else the item, and off the
+/// total: a balanced extent has no less than stands there, so 14 is not put.
+fn take_shared(items: &mut Vec<Item>, body: &mut Body, key: Key, amount: u32) -> Asked<()> {
+    let (_, kind, parent) = key;
+    if let Some(at) = body.references.iter().position(|r| r.is(kind, &[parent])) {
+        match less(&body.references[at], amount)? {
+            Some(left) => body.references[at] = left,
+            None => {
+                body.references.remove(at);
+            }
+        }
+    } else {
+        let at = want(5, items.iter().position(|i| i.key == key))?;
+        let stands = item_reference(&items[at]).expect("a balanced sheet's reference item");
+        match less(&stands, amount)? {
+            Some(left) => items[at].data = shared_add_item(kind, left.count.unwrap_or(0))?,
+            None => {
+                items.remove(at);
+            }
+        }
+    }
+    body.total -= u64::from(amount);
+    Ok(())
+}
+
 /// Posts a change, after questions 1 to 3.
 pub fn post_change(size: u32, items: &[Item], extent: u64, change: Change) -> Asked<Vec<Item>> {
     let mut items = items.to_vec();
@@ -194,15 +228,8 @@ pub fn post_change(size: u32, items: &[Item], extent: u64, change: Change) -> As
             }
             dropped => dropped?,
         },
-        Change::TakeShared { kind, parent } => {
-            let weight = match body.take(kind, &[parent]) {
-                Some(taken) => taken.weight(),
-                None => {
-                    let item = want(5, remove(&mut items, (extent, kind, parent)))?;
-                    item_reference(&item).map_or(0, |r| r.weight())
-                }
-            };
-            body.total = want(14, body.total.checked_sub(weight))?;
+        Change::TakeShared { kind, parent, amount } => {
+            take_shared(&mut items, &mut body, (extent, kind, parent), amount)?;
         }
     }
     // The record stands before its reference items, so it has kept its number.

@@ -3,6 +3,8 @@
 //! The variable STANDIN_FAULT names the fault.
 #![allow(clippy::missing_safety_doc, clippy::too_many_arguments)]
 use model::calls::{outcome, Arg, Outcome};
+use model::ledger::count;
+use model::sheet::read;
 use std::slice::{from_raw_parts, from_raw_parts_mut};
 use std::sync::OnceLock;
 
@@ -15,13 +17,17 @@ fn fault() -> &'static str {
 
 /// The model's outcome, or one that is wrong in the way asked for.
 fn faulty(call: &str, args: &[Arg]) -> Outcome {
-    let mut said = outcome(call, args);
+    let mut said = match fault() {
+        "drops all" if call == "ledger_post" => outcome(call, &of_all(args)),
+        _ => outcome(call, args),
+    };
     let length = said.args.iter().find_map(|a| if let Arg::Lent(n) = a { Some(*n) } else { None });
     let length = length.unwrap_or(0) as usize;
     match fault() {
         "refuses" if said.code == 0 => said = Outcome { code: 5, args: said.args },
         "absent" if said.code == 0 => return blank(args, 100),
         "other number" if said.code == 12 => said.code = 11,
+        "other number" if said.code == 22 => said.code = 14,
         "no room" if said.code == 0 && length > 0 => return blank(args, 21),
         "hands back" if said.code == 0 => {
             let given =
@@ -69,6 +75,19 @@ fn faulty(call: &str, args: &[Arg]) -> Outcome {
         _ => {}
     }
     said
+}
+
+/// A posting that drops all of a shared reference, whatever amount was asked for.
+fn of_all(args: &[Arg]) -> Vec<Arg> {
+    let number = |at: usize| if let Arg::Number(n) = args[at] { n } else { 0 };
+    let mut all = args.to_vec();
+    if let (Arg::Bytes(sheet), 6) = (&args[1], number(2)) {
+        let [extent, kind, parent] = [3, 4, 5].map(number);
+        let name = (kind as u8, vec![parent]);
+        let stands = read(sheet).map_or(0, |items| count(&items, extent, &name));
+        all[7] = Arg::Number(stands.min(u32::MAX.into()) as u64);
+    }
+    all
 }
 
 fn blank(args: &[Arg], code: u64) -> Outcome {

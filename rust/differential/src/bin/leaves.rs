@@ -4,7 +4,7 @@
 //! The leaves are in ../shared/leaves beside the repository, or where EXTENT_REFS_LEAVES says.
 use differential::archive::{self, Archive};
 use differential::dump_tree::{self, Leaf};
-use differential::generate::{ample, lent};
+use differential::generate::{ample, lent, posting};
 use model::asked::le64;
 use model::body::{Body, BLOCK, DATA, OWNER, SHARED_BLOCK, SHARED_DATA};
 use model::calls::{outcome, Arg, Outcome};
@@ -41,6 +41,10 @@ fn main() -> ExitCode {
         "{} leaves balance alone; {} extents balance by themselves, {} do not or have no record; {} postings, {} accepted",
         run.leaves_balanced, run.extents, run.unbalanced, run.posted, run.accepted
     );
+    println!(
+        "{} shared references added and dropped again, {} of them in two parts: the old bytes each time",
+        run.restored, run.in_parts
+    );
     println!("{} calls put to the archive too", run.archived);
     println!("{passed} passed, {} failed", run.faults.len());
     if run.faults.is_empty() {
@@ -63,6 +67,8 @@ struct Run {
     unbalanced: usize,
     posted: usize,
     accepted: usize,
+    restored: usize,
+    in_parts: usize,
     archived: usize,
 }
 
@@ -79,6 +85,8 @@ impl Run {
             (self.extents, "extent that balances"),
             (self.unbalanced, "extent that does not balance"),
             (self.accepted, "accepted posting"),
+            (self.restored, "shared reference added and dropped again"),
+            (self.in_parts, "shared reference dropped in two parts"),
             (self.archived, "call put to the archive"),
         ];
         let none = counts.iter().filter(|(count, _)| *count == 0);
@@ -183,12 +191,13 @@ impl Run {
         }
     }
 
-    /// Every reference of the extent dropped and added again, and new ones added.
+    /// Every reference of the extent dropped and added again, new ones added, and shared ones added
+    /// and dropped again.
     fn extent(&mut self, extent: u64, own: &[Item], nodesize: u64) -> Fault<()> {
         if !own.iter().any(|i| [168, 169].contains(&i.key.1)) || !balanced(own) {
             self.unbalanced += 1;
             // What does not balance is refused, whatever is posted.
-            let said = self.post(nodesize, own, extent, [4, 5, 0, 0])?;
+            let said = self.post(nodesize, own, extent, [4, 5, 0, 0], 1)?;
             let refused = if balanced(own) { 5 } else { 4 };
             return if said.code == refused { Ok(()) } else { Err(format!("code {}", said.code)) };
         }
@@ -209,23 +218,69 @@ impl Run {
             };
             names.extend(named(item.key.1, &f));
         }
-        for [change, a, b, c] in names {
-            let dropped = self.post(nodesize, own, extent, [change, a, b, c])?;
-            let from = if dropped.code == 0 { items_of(&dropped)? } else { own.to_vec() };
-            let added = self.post(nodesize, &from, extent, [change - 3, a, b, c])?;
-            for said in [&dropped, &added] {
-                if said.code == 0 && !balanced(&items_of(said)?) {
-                    return Err(format!("change {change} of {extent} unbalances"));
-                }
+        for drop in names {
+            self.dropped_and_added(nodesize, own, extent, drop)?;
+            if let [6, kind, parent, _] = drop {
+                self.added_and_dropped(nodesize, own, extent, [kind, parent])?;
             }
-            // Drop, then add: the whole of a block, one count of a data reference.
-            if dropped.code == 0 && added.code == 0 && change != 6 {
-                let name = differential::generate::name_of(change, a, b, c);
-                let (before, after) =
-                    (count(own, extent, &name), count(&items_of(&added)?, extent, &name));
-                if before != after {
-                    return Err(format!("{name:?} counts {after} and not {before}"));
-                }
+        }
+        Ok(())
+    }
+
+    /// A drop, then the add: the whole of a block, one count of another reference.
+    fn dropped_and_added(
+        &mut self,
+        nodesize: u64,
+        own: &[Item],
+        extent: u64,
+        drop: [u64; 4],
+    ) -> Fault<()> {
+        let [change, a, b, c] = drop;
+        let dropped = self.post(nodesize, own, extent, drop, 1)?;
+        let from = if dropped.code == 0 { items_of(&dropped)? } else { own.to_vec() };
+        let added = self.post(nodesize, &from, extent, [change - 3, a, b, c], 1)?;
+        for said in [&dropped, &added] {
+            if said.code == 0 && !balanced(&items_of(said)?) {
+                return Err(format!("change {change} of {extent} unbalances"));
+            }
+        }
+        if dropped.code == 0 && added.code == 0 {
+            let name = differential::generate::name_of(change, a, b, c);
+            let (before, after) =
+                (count(own, extent, &name), count(&items_of(&added)?, extent, &name));
+            if before != after {
+                return Err(format!("{name:?} counts {after} and not {before}"));
+            }
+        }
+        Ok(())
+    }
+
+    /// A shared reference added, then dropped at once and in two parts: the old bytes, each time.
+    fn added_and_dropped(
+        &mut self,
+        nodesize: u64,
+        own: &[Item],
+        extent: u64,
+        [kind, parent]: [u64; 2],
+    ) -> Fault<()> {
+        let ways: &[&[u64]] = match kind == u64::from(SHARED_DATA) {
+            true => &[&[3], &[2, 1]],
+            false => &[&[1]],
+        };
+        let added = self.post(nodesize, own, extent, [3, kind, parent, 0], ways[0][0])?;
+        if added.code != 0 {
+            return Ok(());
+        }
+        self.restored += 1;
+        self.in_parts += ways.len() - 1;
+        for way in ways {
+            let mut items = items_of(&added)?;
+            for &part in *way {
+                let said = self.post(nodesize, &items, extent, [6, kind, parent, 0], part)?;
+                items = items_of(&said)?;
+            }
+            if bytes(&items) != bytes(own) {
+                return Err(format!("{kind} {parent} of {extent} is not as before"));
             }
         }
         Ok(())
@@ -237,11 +292,10 @@ impl Run {
         items: &[Item],
         extent: u64,
         [change, a, b, c]: [u64; 4],
+        amount: u64,
     ) -> Fault<Outcome> {
         self.posted += 1;
-        let mut args = vec![Arg::Number(nodesize), Arg::Bytes(bytes(items))];
-        args.extend([change, extent, a, b, c, 1].map(Arg::Number));
-        args.extend([Arg::Out(vec![]), Arg::Lent(0)]);
+        let args = posting(nodesize, &bytes(items), [change, extent, a, b, c, amount]);
         let said = self.ask("ledger_post", &args)?;
         self.accepted += usize::from(said.code == 0);
         Ok(said)
@@ -292,7 +346,7 @@ fn kind_name(kind: u8) -> &'static str {
 
 #[test]
 fn an_empty_folder_fails() {
-    assert_eq!(Run::default().nothing().len(), 8);
+    assert_eq!(Run::default().nothing().len(), 10);
     let whole = Run {
         leaves: 1,
         records: 1,
@@ -301,6 +355,8 @@ fn an_empty_folder_fails() {
         extents: 1,
         unbalanced: 1,
         accepted: 1,
+        restored: 1,
+        in_parts: 1,
         archived: 1,
         ..Run::default()
     };

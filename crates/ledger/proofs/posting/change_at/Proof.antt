@@ -7,7 +7,7 @@ use Rattle.fields.proofs.Lists.{T-eq}
 use Rattle.inline_refs.specs.Scans.{kindOf}
 use Rattle.item_list.specs.Steps.{listItems}
 use Rattle.ledger.specs.Posting.{addChange}
-use Rattle.ledger.proofs.Postings.{drop-block, drop-data, drop-shared, shared-add, as-drop, as-change, entered-as, fits-as, not-block}
+use Rattle.ledger.proofs.Postings.{drop-block, drop-data, drop-shared, shared-add, shared-off, as-drop, as-change, entered-as, fits-as, not-block}
 use Rattle.inline_refs.specs.declared.ref_name.RefName.the-variants.{Block, Data}
 use Rattle.theorems.proofs.Edit.{balanced-out}
 use Rattle.transaction.specs.Drops.{dropRef}
@@ -59,26 +59,26 @@ returns-3 c =
 drop-ref-requires : tie.Need-drop-ref-requires
 drop-ref-requires c κs =
     let s = c .before .before .before .before .before .before in
-    (entered-as (s .args .change) (c .before .before .change4 .given .1) (s .pre .0) .stands, tt)
+    (entered-as (s .args .change) (c .before .before .change4 .given .1) (s .pre .0) .stands, (refl, tt))
 
 returns-4 : tie.Need-returns-4
 returns-4 c =
     let s = c .before .before .before .before .before .before .before .before .before in
     let a = s .args in
     as-drop (a .nodesize) (length (now (a .out))) (listItems (now (a .sheet))) (a .change) _ _ (c .before .before .before .before .before .change4 .given .1) (drop-block (a .nodesize) _ (listItems (now (a .sheet))) _)
-    (drop-answered (entered-as (a .change) (c .before .before .before .before .before .change4 .given .1) (s .pre .0)) (dropRef (Block _) (listItems (now (a .sheet)))) (length (now (a .out))) _ (now (a .out)) _ (c .before .before .drop-ref .ensures))
+    (drop-answered (entered-as (a .change) (c .before .before .before .before .before .change4 .given .1) (s .pre .0)) (dropRef (Block _) 1 (listItems (now (a .sheet)))) (length (now (a .out))) _ (now (a .out)) _ (c .before .before .drop-ref .ensures))
 
 drop-ref-requires-2 : tie.Need-drop-ref-requires-2
 drop-ref-requires-2 c κs =
     let s = c .before .before .before .before .before .before in
-    (entered-as (s .args .change) (c .before .before .change5 .given .1) (s .pre .0) .stands, tt)
+    (entered-as (s .args .change) (c .before .before .change5 .given .1) (s .pre .0) .stands, (refl, tt))
 
 returns-5 : tie.Need-returns-5
 returns-5 c =
     let s = c .before .before .before .before .before .before .before .before .before in
     let a = s .args in
     as-drop (a .nodesize) (length (now (a .out))) (listItems (now (a .sheet))) (a .change) _ _ (c .before .before .before .before .before .change5 .given .1) (drop-data (a .nodesize) _ (listItems (now (a .sheet))) _)
-    (drop-answered (entered-as (a .change) (c .before .before .before .before .before .change5 .given .1) (s .pre .0)) (dropRef (Data _) (listItems (now (a .sheet)))) (length (now (a .out))) _ (now (a .out)) _ (c .before .before .drop-ref2 .ensures))
+    (drop-answered (entered-as (a .change) (c .before .before .before .before .before .change5 .given .1) (s .pre .0)) (dropRef (Data _) 1 (listItems (now (a .sheet)))) (length (now (a .out))) _ (now (a .out)) _ (c .before .before .drop-ref2 .ensures))
 
 shared-name-requires-2 : tie.Need-shared-name-requires-2
 shared-name-requires-2 c κs =
@@ -87,15 +87,15 @@ shared-name-requires-2 c κs =
 drop-ref-requires-3 : tie.Need-drop-ref-requires-3
 drop-ref-requires-3 c κs =
     let s = c .before .before .before .before .before .before .before in
-    (entered-as (s .args .change) (c .before .before .before .change6 .given .1) (s .pre .0) .stands, in-form (c .before .shared-name2 .result) _ (balanced-out _ (s .pre .1 .0) .goods))
+    (entered-as (s .args .change) (c .before .before .before .change6 .given .1) (s .pre .0) .stands, (shared-off _ (c .before .shared-name2 .result) _ (c .before .shared-name2 .ensures), in-form (c .before .shared-name2 .result) _ (balanced-out _ (s .pre .1 .0) .goods)))
 
 returns-6 : tie.Need-returns-6
 returns-6 c =
     let s = c .before .before .before .before .before .before .before .before .before .before in
     let a = s .args in
     let w = c .before .before .before .before .shared-name2 .result in
-    as-drop (a .nodesize) (length (now (a .out))) (listItems (now (a .sheet))) (a .change) _ _ (c .before .before .before .before .before .before .change6 .given .1) (drop-shared (a .nodesize) _ (listItems (now (a .sheet))) _ w (c .before .before .before .before .shared-name2 .ensures))
-    (drop-answered (entered-as (a .change) (c .before .before .before .before .before .before .change6 .given .1) (s .pre .0)) (dropRef w (listItems (now (a .sheet)))) (length (now (a .out))) _ (now (a .out)) _ (c .before .before .drop-ref3 .ensures))
+    as-drop (a .nodesize) (length (now (a .out))) (listItems (now (a .sheet))) (a .change) _ _ (c .before .before .before .before .before .before .change6 .given .1) (drop-shared (a .nodesize) _ (listItems (now (a .sheet))) _ w (c .before .before .before .before .shared-name2 .ensures) _)
+    (drop-answered (entered-as (a .change) (c .before .before .before .before .before .before .change6 .given .1) (s .pre .0)) (dropRef w _ (listItems (now (a .sheet)))) (length (now (a .out))) _ (now (a .out)) _ (c .before .before .drop-ref3 .ensures))
 
 pub change-at-spec : {M : Type 1} → statement M
 change-at-spec =

@@ -1,3 +1,4 @@
+use mathlib.Core.Path.{refl}
 use native.Mathlib.Omega.{arith}
 use denote.Ref.{now}
 use lib.ListN.{length}
@@ -10,7 +11,7 @@ use Rattle.transaction.proofs.drop_kept.drop_owned.Statement.{statement
 use Rattle.transaction.proofs.drop_kept.drop_owned.Tie as tie
 
 drop-ref-requires : tie.Need-drop-ref-requires
-drop-ref-requires c κs = (c .before .before .before .pre, tt)
+drop-ref-requires c κs = (c .before .before .before .pre, (refl, tt))
 
 returns : tie.Need-returns
 returns c =
