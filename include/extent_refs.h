@@ -24,6 +24,13 @@
 extern "C" {
 #endif
 
+/* crc32c: the table of a checksum */
+
+/* Asks 21.
+ * Gives the text of the polynomial's table: 256 lines of eight lower-case hexadecimal digits,
+ * 2,304 bytes. */
+uint32_t crc32c_table_text(uint32_t polynomial, uint8_t *out, size_t out_len, uint64_t *len);
+
 /* extent_write: hash and allocation bodies */
 
 /* Asks nothing.

@@ -9,7 +9,8 @@ use lib.Bits.{bitXor, xor-zero-r, xor-comm, xor-shr, xor-mod, xor-lt}
 use Rattle.fields.specs.Numbers.{leBytes}
 use Rattle.crc32c.specs.Register.{crc32c, feed, step, steps, byteStep, crcRun}
 use Rattle.crc32c.proofs.Xor.{xor-assoc}
-use Rattle.crc32c.proofs.Steps.{steps-add, steps-split, byte-by-table}
+use Rattle.crc32c_steps.proofs.Steps.{steps-add}
+use Rattle.crc32c.proofs.Steps.{steps-split, byte-by-table}
 
 -- the last two change places
 xor-last : (a b c : ℕ) → bitXor (bitXor a b) c ≡ bitXor (bitXor a c) b

@@ -4,11 +4,12 @@ use mathlib.Core.Path.{_≡_, refl, sym, ap, ap₂, _∙_}
 use mathlib.Core.List.{List, [], _∷_, _++_}
 use Prim.Native.Nat.{ℕ, zero, suc, _+_, _*_, _/_, _%_, _^_, _≤_, _<_}
 use native.Mathlib.Numerals.{add-one}
-use native.Mathlib.Nat.{mod-lt, div-eq-of-lt, zero-add, suc-add, mul-one}
+use native.Mathlib.Nat.{mod-lt, div-eq-of-lt, mul-one}
 use lib.ListN.{length, drop, getD, drop-of-length-le}
 use lib.Seq.{drop-cons}
 use lib.Pow.{pow-pos, split}
 use lib.Bits.{bitXor, xor-zero-r, xor-self, xor-shr, xor-shifted, shifted-half, shifted-even}
+use Rattle.crc32c_steps.proofs.Steps.{steps-add}
 use Rattle.crc32c.specs.Register.{feed, step, steps, byteStep, crcRun}
 use Rattle.crc32c.proofs.Xor.{Bit, b0, b1, bit, xor-half, xor-bit, xor-swap}
 
@@ -32,11 +33,6 @@ module _ (p : ℕ) where
   steps-xor zero a b = refl
   steps-xor (suc n) a b = ap (steps p n) (step-xor a b) ∙ steps-xor n (step p a) (step p b)
 
-  pub steps-add : (m n r : ℕ) → steps p (m + n) r ≡ steps p n (steps p m r)
-  unfolding steps
-  steps-add zero n r = ap (λ (k : ℕ). steps p k r) (zero-add n)
-  steps-add (suc m) n r = ap (λ (k : ℕ). steps p k r) (suc-add m n) ∙ steps-add m n (step p r)
-
   step-shifted : (a k : ℕ) → step p (a * 2 ^ suc k) ≡ a * 2 ^ k
   unfolding step
   step-shifted a k =
@@ -54,7 +50,7 @@ module _ (p : ℕ) where
       ap (steps p (k + n)) (sym (split x k) ∙ sym (xor-shifted (x / 2 ^ k) k (x % 2 ^ k) (mod-lt x (pow-pos k))))
       ∙ steps-xor (k + n) (x / 2 ^ k * 2 ^ k) (x % 2 ^ k)
       ∙ ap (λ (y : ℕ). bitXor y (steps p (k + n) (x % 2 ^ k)))
-      (steps-add k n (x / 2 ^ k * 2 ^ k) ∙ ap (steps p n) (steps-shifted k (x / 2 ^ k)))
+      (steps-add p k n (x / 2 ^ k * 2 ^ k) ∙ ap (steps p n) (steps-shifted k (x / 2 ^ k)))
 
   -- a byte step by a table of eight steps
   pub byte-by-table : (r b : ℕ) → b < 2 ^ 8 → byteStep p r b ≡ bitXor (r / 2 ^ 8) (steps p 8 (bitXor r b % 2 ^ 8))

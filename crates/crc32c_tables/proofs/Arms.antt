@@ -5,7 +5,7 @@ use mathlib.Core.List.{[], _∷_}
 use Prim.Native.Nat.{ℕ, zero, suc, _+_, _-_, _≤_, _<_}
 use native.Mathlib.Omega.{arith}
 use types.Run.{OneOf}
-use Rattle.crc32c_tables.specs.Steps.{crc32c, steps}
+use Rattle.crc32c_steps.specs.Steps.{crc32c, steps}
 
 -- an arm's key is a numeral, so the steps of its byte can be computed; they are those of n
 pub at : (k n : ℕ) {key : ℕ} → n + 256 ≡ key → steps crc32c k (key - 256) ≡ steps crc32c k n

@@ -3,9 +3,11 @@
 // function is as long as the table. The arms are numbered from 256 on: LLVM narrows a `match` on a byte to a signed byte, and
 // then spends an instruction on each read to move the number up by 128; numbers from 256 on fit in no byte, and it does not. So
 // the last arm is never taken.
-use crate::TABLE;
+//
+// Written by tools/tables from what the program crc_table prints: do not edit.
+use crate::constants::TABLE;
 ghost use mathlib.Core.Path.{_≡_};
-ghost use Rattle.crc32c_tables.specs.Steps.{crc32c, steps};
+ghost use Rattle.crc32c_steps.specs.Steps.{crc32c, steps};
 
 const E000: u32 = TABLE[0];
 

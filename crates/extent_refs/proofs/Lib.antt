@@ -2,3 +2,4 @@ pub mod Answers
 pub mod Postings
 pub mod Posts
 pub mod Instance
+pub mod Texts

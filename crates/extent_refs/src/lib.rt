@@ -4,6 +4,7 @@
 mod backref_calls;
 mod changes;
 mod codes;
+mod crc32c_calls;
 mod extent_write_calls;
 mod leaf_edit_calls;
 mod ledger_calls;

@@ -1,23 +1,13 @@
--- Document 01, "The reference lister": the text for a type byte and a body. Assumes nothing.
+-- Document 01, "The reference lister": the text for a type byte and a body, of numbers in decimal and lines of them as `text` has
+-- them. Assumes nothing.
 use mathlib.Core.Bool.{cond}
 use mathlib.Core.List.{List, [], _∷_, _++_}
-use Prim.Native.Nat.{ℕ, zero, suc, _+_, _/_, _%_}
-use lib.Dec.{ltb}
+use Prim.Native.Nat.{ℕ}
 use lib.ListN.{length}
+unfoldable pub use Rattle.text.specs.Numbers.{digits, line}
 use Rattle.format.specs.Questions.{Answer, refused, accepted, resultOrCode}
 use Rattle.format.specs.References.{counted, Ref, flagsOf, startOf}
 use Rattle.format.specs.Bodies.{onBody}
-
--- a number in decimal, in at most so many digits; 64 bits take 20
-unfoldable pub digits : ℕ → ℕ → List ℕ
-digits zero number = []
-digits (suc most) number = cond (ltb number 10) [] (digits most (number / 10)) ++ (48 + number % 10) ∷ []
-
--- numbers with a space between, and a line feed
-unfoldable pub line : List ℕ → List ℕ
-line [] = 10 ∷ []
-line (number ∷ []) = digits 20 number ++ 10 ∷ []
-line (number ∷ next ∷ numbers) = digits 20 number ++ 32 ∷ line (next ∷ numbers)
 
 -- "per reference its type and fields in payload order"
 unfoldable pub refLine : Ref → List ℕ

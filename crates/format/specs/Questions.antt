@@ -91,6 +91,10 @@ also false number (accepted result) = refused number
 unfoldable pub held : {A : Type 0} → (A → Bool) → Answer A → Answer A
 held holds answer = bind answer (λ result. ask (holds result) 21 (accepted result))
 
+-- of a text, the lent output alone
+abbrev pub heldText : ℕ → List ℕ → Answer (List ℕ)
+heldText room text = held (λ bytes. leb (length bytes) room) (accepted text)
+
 -- ---- what is made of an answer
 
 -- of its result; the other where it has none

@@ -14,7 +14,12 @@ fn main() {
         Input::Bytes(n) => {
             let mut text = [0u8; 327775];
             let m = lister_text::list_in_full(&bytes[..n], &mut text);
-            io::write_all(STDOUT_FILENO, &text[..m]);
+            if !io::write_all(STDOUT_FILENO, &text[..m]) {
+                io::write_all(
+                    STDERR_FILENO,
+                    b"lister: standard output could not be written\n",
+                );
+            }
         }
     }
 }

@@ -1,5 +1,4 @@
-pub mod Numbers
-pub mod Writes
+pub mod Fields
 pub mod Texts
 pub mod Listings
 pub mod Example

@@ -1,31 +1,31 @@
 -- Laws of the whole text: what it is where a body is refused, and where its references are read; and what a lent output holds.
 -- Assumes nothing.
-use mathlib.Core.Path.{_≡_, refl, sym, ap, ap₂, subst, _∙_}
+use mathlib.Core.Path.{_≡_, refl, sym, ap, ap₂, _∙_}
 use mathlib.Core.Logic.{_⊎_, inl, inr}
 use mathlib.Core.Bool.{Bool, true, false}
 use mathlib.Core.List.{List, [], _∷_, _++_}
 use Prim.Native.Nat.{ℕ, _+_, _-_, _≤_, _<_}
 use native.Mathlib.Omega.{arith}
-use lib.Dec.{leb}
 use lib.ListN.{length, take, drop, getD}
 use lib.Seq.{take-all, length-take-le}
-use borrow.Author.Tests.{le-leb, lt-leb}
+use borrow.Author.Tests.{lt-leb}
 use Rattle.fields.specs.Parts.{part, written}
 use Rattle.fields.proofs.Lists.{lt-or}
 use Rattle.fields.proofs.Parts.{part-rest, stores}
 use Rattle.format.specs.declared.Edited.the-variants.{Written, Refused as Denied}
-use Rattle.format.specs.Questions.{Answer, refused, absent, remove, accepted, ask, bind, held, Answered}
+use Rattle.format.specs.Questions.{Answer, refused, absent, remove, accepted, ask, bind, heldText, Answered}
 use Rattle.format.specs.References.{Ref, Body, totalOf, flagsOf, startOf, readBody}
 use Rattle.format.specs.Bodies.{bodyFits, onBody}
 use Rattle.format.specs.Lister.{line, refLines, listing, printed, listed}
-use Rattle.format.proofs.Outputs.{answered-refused, answered-written}
+use Rattle.format.proofs.Outputs.{text-refused, text-written}
 use Rattle.format.proofs.Refs.{readRefs-decides}
 use Rattle.inline_refs.specs.Steps.{readFrom}
 use Rattle.inline_refs.specs.Scans.{refsIn, refCountOf}
 use Rattle.inline_refs.proofs.Notes.{Opens}
 use Rattle.inline_refs.specs.declared.count.Counted.the-variants.{Count, Refused}
 use Rattle.inline_refs.proofs.Counts.{count-reads, fault-reads}
-use Rattle.lister_text.specs.Puts.{Put, refsOf}
+use Rattle.text.specs.Puts.{Put}
+use Rattle.lister_text.specs.Refs.{refsOf}
 
 -- ---- what the text is
 
@@ -85,22 +85,12 @@ module _ (text old : List ℕ) where
   pub put-fits : (n : ℕ) (new : List ℕ) → Put text 0 old n new → n ≤ length old → new ≡ written 0 text old
   put-fits n new p h = p .bytes ∙ stores text old 0 (omega (arith, p .further))
 
-  pub text-short : (n : ℕ) → n ≡ 0 + length text → length old < n
-      → Answered (held (λ l. leb (length l) (length old)) (accepted text)) (Denied 21) old old
-  unfolding held bind ask
-  text-short n e h =
-      let l : length old < length text = omega arith in
-      answered-refused old (simp (lt-leb _ _ l))
+  pub text-short : (n : ℕ) → n ≡ 0 + length text → length old < n → Answered (heldText (length old) text) (Denied 21) old old
+  text-short n e h = text-refused text old (omega arith)
 
   pub text-writes : (n m : ℕ) (new : List ℕ) → n ≡ 0 + length text → n ≤ length old → Put text 0 old m new
-      → Answered (held (λ l. leb (length l) (length old)) (accepted text)) (Written n) old new
-  unfolding held bind ask
-  text-writes n m new e h p =
-      let l : length text ≤ length old = omega arith in
-      let z : length text ≡ n = omega arith in
-      let fits : held (λ l. leb (length l) (length old)) (accepted text) ≡ accepted text = simp (le-leb _ _ l) in
-      subst (λ (k : ℕ). Answered (held (λ l. leb (length l) (length old)) (accepted text)) (Written k) old new) z
-      (answered-written fits (put-fits m new p (omega (arith, p .further))))
+      → Answered (heldText (length old) text) (Written n) old new
+  text-writes n m new e h p = text-written text old n new (omega arith) h (put-fits m new p (omega (arith, p .further)))
 
 -- ---- how much of an input decides its text
 

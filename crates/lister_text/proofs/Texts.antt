@@ -18,9 +18,11 @@ use Rattle.format.proofs.Answers.{bind-ok}
 use Rattle.format.proofs.Rows.{payload-fields, some-field}
 use Rattle.inline_refs.specs.Steps.{readFrom}
 use Rattle.inline_refs.proofs.Steps.{At}
-use Rattle.lister_text.specs.Puts.{Put, spaced, refsOf}
-use Rattle.lister_text.proofs.Numbers.{digits-short, spaced-append, spaced-short, line-is}
-use Rattle.lister_text.proofs.Writes.{put-is, put-then}
+use Rattle.text.specs.Numbers.{spaced}
+use Rattle.text.specs.Puts.{Put}
+use Rattle.lister_text.specs.Refs.{refsOf}
+use Rattle.text.proofs.Numbers.{digits-short, spaced-append, spaced-short, line-is}
+use Rattle.text.proofs.Writes.{put-is, put-then}
 
 -- ---- the line of a refusal
 

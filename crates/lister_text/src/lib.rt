@@ -1,18 +1,16 @@
 // The text of the reference lister (document 01, "The reference lister"), for a type byte and a body.
 mod lines;
-mod puts;
 
 use format::Edited;
 use inline_refs::Counted;
 use inline_refs::Start;
 ghost use mathlib.Core.Path.{_≡_};
 ghost use Prim.Native.Nat.{_≤_};
-ghost use lib.Dec.{leb};
 ghost use lib.ListN.{length, take};
 ghost use Rattle.fields.specs.Parts.{written};
-ghost use Rattle.format.specs.Questions.{Answered, accepted, held};
+ghost use Rattle.format.specs.Questions.{Answered, heldText};
 ghost use Rattle.format.specs.Lister.{listing, printed, listed};
-ghost use Rattle.lister_text.specs.Puts.{Put};
+ghost use Rattle.text.specs.Puts.{Put};
 
 // The text of a body of that type.
 fn put_body(out: &mut [u8], item_type: u8, body: &[u8]) -> usize
@@ -45,7 +43,7 @@ fn put_text(out: &mut [u8], input: &[u8]) -> usize
 
 // The text, where the output holds it; else refusal 21, which writes nothing, so it is measured first.
 pub fn list(input: &[u8], out: &mut [u8]) -> Edited
-    ensures { λ r. ⌜ Answered (held (λ text. leb (length text) (length (now (out .entry)))) (accepted (listed (now (input .entry))))) r (now (out .entry)) (now (out .exit)) ⌝ }
+    ensures { λ r. ⌜ Answered (heldText (length (now (out .entry))) (listed (now (input .entry)))) r (now (out .entry)) (now (out .exit)) ⌝ }
 {
     let mut measured = [0u8; 1];
     let n = put_text(&mut measured, input);

@@ -7,20 +7,23 @@ ghost use mathlib.Core.List.{[], _∷_};
 ghost use Prim.Native.Nat.{_+_, _*_, _≤_};
 ghost use lib.Dec.{T};
 ghost use lib.ListN.{length, drop};
+ghost use Rattle.fields.specs.Numbers.{words};
 ghost use Rattle.format.specs.Questions.{refused};
 ghost use Rattle.format.specs.References.{kinds, known, payloadLength, countPosition, counted, fieldCount, refAt, totalOf, flagsOf};
 ghost use Rattle.format.specs.Lister.{line, refLine, refLines, printed};
 ghost use Rattle.inline_refs.specs.Steps.{readFrom};
 ghost use Rattle.inline_refs.specs.Scans.{refCountOf};
-ghost use Rattle.lister_text.specs.Puts.{Put, spaced, refsOf};
+ghost use Rattle.text.specs.Numbers.{spaced};
+ghost use Rattle.text.specs.Puts.{Put};
+ghost use Rattle.lister_text.specs.Refs.{refsOf};
 
 // The only line of a refusal.
 pub fn put_refused(out: &mut [u8], number: u32) -> usize
     ensures { λ r. ⌜ Put (printed (refused number)) 0 (now (out .entry)) r (now (out .exit)) × (r ≤ 100) ⌝ }
 {
-    let a = crate::puts::put_bytes(out, 0, b"refused ");
-    let b = crate::puts::put_digits(out, a, number as u64);
-    crate::puts::put_byte(out, b, 10)
+    let a = text::put_bytes(out, 0, b"refused ");
+    let b = text::put_digits(out, a, number as u64);
+    text::put_byte(out, b, 10)
 }
 
 // The first line: start, total, flags, number of references.
@@ -28,11 +31,27 @@ pub fn put_head(out: &mut [u8], body: &[u8], start: usize, count: usize) -> usiz
     requires { ⌜ 24 ≤ length (now body) ⌝ }
     ensures { λ r. ⌜ Put (line (start ∷ totalOf (now (body .entry)) ∷ flagsOf (now (body .entry)) ∷ count ∷ [])) 0 (now (out .entry)) r (now (out .exit)) × (r ≤ 100) ⌝ }
 {
-    let a = crate::puts::put_digits(out, 0, start as u64);
-    let b = crate::puts::put_field(out, a, fields::get_u64_le(body, 0));
-    let c = crate::puts::put_field(out, b, fields::get_u64_le(body, 16));
-    let d = crate::puts::put_field(out, c, count as u64);
-    crate::puts::put_byte(out, d, 10)
+    let a = text::put_digits(out, 0, start as u64);
+    let b = text::put_field(out, a, fields::get_u64_le(body, 0));
+    let c = text::put_field(out, b, fields::get_u64_le(body, 16));
+    let d = text::put_field(out, c, count as u64);
+    text::put_byte(out, d, 10)
+}
+
+// So many fields of 8 bytes from `start` on.
+fn put_fields(out: &mut [u8], at: usize, body: &[u8], start: usize, many: usize) -> usize
+    requires { ⌜ (start + 8 * many ≤ length (now body)) × (at + 21 * many ≤ 1000000) ⌝ }
+    ensures { λ r. ⌜ Put (spaced (words many (drop start (now (body .entry))))) at (now (out .entry)) r (now (out .exit)) × (r ≤ 1000000) ⌝ }
+{
+    let mut next = at;
+    let mut field = start;
+    let mut left = many;
+    while 0 < left {
+        next = text::put_field(out, next, fields::get_u64_le(body, field));
+        field += 8;
+        left -= 1;
+    }
+    next
 }
 
 // How many fields stand before the count, or fill the payload.
@@ -55,7 +74,7 @@ fn put_count(out: &mut [u8], at: usize, body: &[u8], kind: u8, start: usize, cou
         return at;
     }
     let weight = inline_refs::weight_at(body, kind, start, count);
-    crate::puts::put_field(out, at, weight as u64)
+    text::put_field(out, at, weight as u64)
 }
 
 // The line of the reference of this kind whose payload starts at `start`.
@@ -71,11 +90,11 @@ fn put_ref(
     requires { ⌜ T (known kind) × (start + size ≤ length (now body)) × (size ≡ payloadLength kind) × (count ≡ countPosition kind) × (length (now body) ≤ 65535) × (at ≤ 500000) ⌝ }
     ensures { λ r. ⌜ Put (refLine (refAt kind (drop start (now (body .entry))))) at (now (out .entry)) r (now (out .exit)) ⌝ }
 {
-    let a = crate::puts::put_digits(out, at, kind as u64);
+    let a = text::put_digits(out, at, kind as u64);
     let many = field_count(kind, size, count);
-    let b = crate::puts::put_fields(out, a, body, start, many);
+    let b = put_fields(out, a, body, start, many);
     let c = put_count(out, b, body, kind, start, count);
-    crate::puts::put_byte(out, c, 10)
+    text::put_byte(out, c, 10)
 }
 
 // The lines of the references from `start` on, which were counted before: at most five bytes of text for each byte that is read.

@@ -1,7 +1,7 @@
 //! The archive's calls, on guarded memory.
 use crate::guarded::Guarded;
 use extent_refs::by_name::{call as linked, Value};
-use model::calls::{Arg, Outcome};
+use model::calls::{outcome, Arg, Outcome};
 use std::slice::{from_raw_parts, from_raw_parts_mut};
 
 pub struct Archive {
@@ -11,6 +11,21 @@ pub struct Archive {
 /// Whether the linked archive defines the call.
 pub fn has(call: &str) -> bool {
     !extent_refs::MISSING.contains(&call)
+}
+
+/// What answers one call.
+pub type Caller<'a> = &'a dyn Fn(&[Arg]) -> Option<Outcome>;
+
+/// A run's line by the model, and one by the archive where it has the call.
+pub fn by_each(call: &str, runs: &str, run: impl Fn(&str, Caller) -> String) -> Vec<String> {
+    let mut lines = vec![run("model", &|args| Some(outcome(call, args)))];
+    if has(call) {
+        let archive = Archive::default();
+        lines.push(run("archive", &|args| archive.run(call, args, true).ok()));
+    } else {
+        lines.push(format!("FAIL {runs} archive: {call} is not in the archive"));
+    }
+    lines
 }
 
 impl Default for Archive {

@@ -5,7 +5,9 @@ use crate::questions::Reached;
 use crate::random::Random;
 use crate::show;
 use crate::spent::Spent;
-use crate::verdict::{agreement, inside, of_original, written, Agreement, Verdict, ORIGINAL_HERE};
+use crate::verdict::{
+    agreement, has_original, inside, of_original, written, Agreement, Verdict, ORIGINAL_HERE,
+};
 use model::calls::{outcome, Arg, Outcome};
 use std::collections::BTreeMap;
 use std::time::Duration;
@@ -182,7 +184,8 @@ impl Both {
 
     fn lines(&self) -> Vec<String> {
         let mut lines = vec![self.reached.line()];
-        if ORIGINAL_HERE {
+        let beside_original = ORIGINAL_HERE && has_original(self.call);
+        if beside_original {
             lines.push(self.model_original.line(self.call, "original/model"));
         }
         if self.archive.is_none() {
@@ -190,7 +193,7 @@ impl Both {
             return lines;
         }
         lines.push(self.archive_model.line(self.call, "archive/model"));
-        if ORIGINAL_HERE {
+        if beside_original {
             lines.push(self.archive_original.line(self.call, "archive/original"));
         }
         lines

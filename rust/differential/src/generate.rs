@@ -3,6 +3,7 @@ use crate::bodies;
 use crate::collide::collide;
 use crate::random::Random;
 use crate::sheets;
+use crate::tables;
 use model::apply;
 use model::asked::le64;
 use model::body::{keyed_data_ref_body, Body, Reference, BLOCK, DATA, SHARED_BLOCK, SHARED_DATA};
@@ -88,6 +89,13 @@ pub fn edges(call: &'static str, r: &mut Random) -> Vec<Vec<Arg>> {
         }
         let short = sheets::short().into_iter();
         cases.extend(short.map(|sheet| drawn(call, r, 168, vec![], Some(sheet)).args()));
+    }
+    if names[0] == "polynomial" {
+        for polynomial in tables::special() {
+            let mut args = drawn(call, r, 168, vec![], None).args();
+            args[0] = Arg::Number(polynomial.into());
+            cases.push(args);
+        }
     }
     cases
 }
@@ -348,6 +356,16 @@ impl Draw<'_> {
         part(self.r, &self.items, self.extent, &name)
     }
 
+    /// What the outputs have to hold, where the inputs' length does not tell: a table's text with
+    /// one byte to spare, or with some.
+    fn room(&mut self) -> usize {
+        match self.call {
+            "crc32c_table_text" if self.r.chance(3, 4) => self.r.pick(&[2_305, 2_306, 3_000]),
+            "crc32c_table_text" => 2_305 + self.r.below(5_000),
+            _ => 0,
+        }
+    }
+
     fn number(&mut self, name: &str) -> u64 {
         let field = |d: &Draw, at: usize| d.focus.fields.get(at).copied();
         match name {
@@ -407,6 +425,8 @@ impl Draw<'_> {
             "a" => field(self, 0).unwrap_or(0),
             "b" => field(self, 1).unwrap_or_else(|| self.r.field()),
             "c" => field(self, 2).unwrap_or_else(|| self.r.field()),
+            "polynomial" if self.r.chance(1, 4) => self.r.pick(&tables::special()).into(),
+            "polynomial" => self.r.next(),
             _ => self.r.field(),
         }
     }
@@ -421,7 +441,7 @@ impl Draw<'_> {
                 other => panic!("no bytes are known for {other}"),
             }),
             "words" => Arg::Words(self.offsets.clone()),
-            "out" => Arg::Out(vec![]),
+            "out" => Arg::Out(vec![0; self.room()]),
             "cuts" => Arg::Cuts(vec![]),
             "lent" => Arg::Lent(0),
             "bool" => Arg::Number(self.r.below(2) as u64),
@@ -445,10 +465,11 @@ pub fn lent(args: &[Arg], room: usize) -> Vec<Arg> {
         .collect()
 }
 
-/// Room enough for any result of this case.
+/// Room enough for any result of this case: more than its inputs, or what it was drawn with.
 pub fn ample(args: &[Arg]) -> usize {
     let bytes: usize = args.iter().map(|a| if let Arg::Bytes(b) = a { b.len() } else { 0 }).sum();
-    bytes + 64
+    let drawn = args.iter().map(|a| if let Arg::Out(out) = a { out.len() } else { 0 }).max();
+    drawn.unwrap_or(0).max(bytes + 64)
 }
 
 /// What a drop takes of a shared reference: nothing, one, a part of what stands, all of it, one

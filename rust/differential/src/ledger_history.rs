@@ -1,10 +1,9 @@
 //! Histories: lists of changes posted to a balanced sheet, held to a plain tally.
-use crate::archive::{self, Archive};
+use crate::archive::{by_each, Caller};
 use crate::generate::{lent, name_of, part, posting};
 use crate::random::Random;
 use crate::sheets;
 use crate::spent::Spent;
-use model::calls::{outcome, Arg, Outcome};
 use model::ledger::{balanced, count, Name};
 use model::sheet::{bytes, read, Item};
 use std::collections::{BTreeMap, BTreeSet};
@@ -17,27 +16,13 @@ type Answers = [[usize; 2]; 6];
 type Rows = BTreeMap<(u64, Name), (i128, i128, i128)>;
 
 /// What answers a posting.
-pub type Poster<'a> = &'a dyn Fn(&[Arg]) -> Option<Outcome>;
+pub type Poster<'a> = Caller<'a>;
 
 /// So many lists whatever the time.
 const LEAST: usize = 200;
 
 pub fn histories(time: Duration) -> Vec<String> {
-    by_each("histories", |what, post| run(what, post, time / 2))
-}
-
-/// A line by the model, and one by the archive where it has the call.
-pub fn by_each(runs: &str, run: impl Fn(&str, Poster) -> String) -> Vec<String> {
-    let model = |args: &[Arg]| Some(outcome("ledger_post", args));
-    let mut lines = vec![run("model", &model)];
-    if archive::has("ledger_post") {
-        let archive = Archive::default();
-        let posted = |args: &[Arg]| archive.run("ledger_post", args, true).ok();
-        lines.push(run("archive", &posted));
-    } else {
-        lines.push(format!("FAIL {runs} archive: ledger_post is not in the archive"));
-    }
-    lines
+    by_each("ledger_post", "histories", |what, post| run(what, post, time / 2))
 }
 
 /// One line that begins with `ok` or `FAIL`: each of the six changes was accepted and refused.
@@ -142,6 +127,7 @@ fn left(
 #[cfg(test)]
 mod tests {
     use super::*;
+    use model::calls::{outcome, Arg, Outcome};
 
     fn line(post: Poster) -> String {
         run("test", post, Duration::ZERO)

@@ -3,19 +3,23 @@
 //! `generate` makes the inputs, `archive` runs the linked call on guarded memory, `verdict`
 //! says what the original answers, `recorded` replays its answers where it is not here, and
 //! `compare` holds them together. A new call of the table needs a line in `model::calls` and one
-//! in `original`; the inputs follow from the names of its parameters.
+//! in `original`, or its name in `verdict` where the original has none; the inputs follow from the
+//! names of its parameters.
 pub mod archive;
 pub mod compare;
 pub mod dump_tree;
 pub mod generate;
 #[cfg(original_here)]
 mod original;
+pub mod program;
 pub mod random;
 pub mod read_errors;
 pub mod recorded;
 pub mod show;
 pub mod spent;
+pub mod tables;
 pub mod verdict;
+pub mod write_errors;
 
 mod bodies;
 mod collide;
@@ -34,3 +38,4 @@ pub use differences::differences;
 pub use ledger_history::histories;
 pub use parts::parts;
 pub use swap::swapped;
+pub use tables::tables;

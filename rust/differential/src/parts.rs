@@ -1,8 +1,9 @@
 //! Document 02, ticket 1: shared references dropped whole and in parts. Its laws on random balanced
 //! lists, and its cases (`part_cases`), by the model and by the archive.
+use crate::archive::by_each;
 use crate::bodies;
 use crate::generate::{lent, part, posting, total};
-use crate::ledger_history::{by_each, Poster};
+use crate::ledger_history::Poster;
 use crate::part_cases;
 use crate::random::Random;
 use crate::sheets;
@@ -41,7 +42,7 @@ const WAYS: [&str; 14] = [
 type Ways = BTreeMap<&'static str, usize>;
 
 pub fn parts(time: Duration) -> Vec<String> {
-    by_each("parts", |what, post| run(what, post, time / 2))
+    by_each("ledger_post", "parts", |what, post| run(what, post, time / 2))
 }
 
 /// One line that begins with `ok` or `FAIL`.

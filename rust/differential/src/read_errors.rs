@@ -3,6 +3,7 @@
 //! One end of a pair of sockets is the program's input. The other end is sent a byte that it does
 //! not read, and is closed: then the program's reads give what was sent to it, and after that
 //! `ECONNRESET`. A directory fails at the first read.
+use crate::program::{says, Case};
 use std::fs::File;
 use std::io::{ErrorKind, Read, Result, Write};
 use std::os::fd::OwnedFd;
@@ -10,17 +11,17 @@ use std::os::unix::net::UnixStream;
 use std::path::Path;
 use std::process::{Command, Stdio};
 
-/// A name, and what was wrong.
-pub type Case = (String, std::result::Result<(), String>);
-
 /// Runs the lister on E with a second reference behind it, whose reading fails after so many
 /// bytes; on zeros; on a directory; and on the same descriptors where nothing fails.
 pub fn read_errors(lister: &Path) -> Vec<Case> {
     let whole = two_references();
     let zeros = vec![0; 65_537];
     let mut cases = vec![("a descriptor that fails".to_string(), fails(&whole[..54]))];
+    // The text on standard output and nothing else; or, without one, one line on standard error.
     let mut case = |name: String, stdin: Result<Stdio>, text: Option<&str>| {
-        cases.push((name, stdin.map_err(|f| f.to_string()).and_then(|s| says(lister, s, text))));
+        let errors = text.map_or("lister: standard input could not be read\n", |_| "");
+        let said = |stdin| says(Command::new(lister).stdin(stdin), text.unwrap_or(""), errors);
+        cases.push((name, stdin.map_err(|f| f.to_string()).and_then(said)));
     };
     for n in 0..=whole.len() {
         case(format!("a read error after {n} of 83 bytes"), input(&whole[..n], true), None);
@@ -54,7 +55,8 @@ fn two_references() -> Vec<u8> {
     bytes
 }
 
-fn pair(bytes: &[u8], failing: bool) -> Result<UnixStream> {
+/// The end from which these bytes are read, and then an error or the end.
+pub fn pair(bytes: &[u8], failing: bool) -> Result<UnixStream> {
     let (mut writer, mut reader) = UnixStream::pair()?;
     writer.write_all(bytes)?;
     if failing {
@@ -63,7 +65,7 @@ fn pair(bytes: &[u8], failing: bool) -> Result<UnixStream> {
     Ok(reader)
 }
 
-fn input(bytes: &[u8], failing: bool) -> Result<Stdio> {
+pub fn input(bytes: &[u8], failing: bool) -> Result<Stdio> {
     Ok(Stdio::from(OwnedFd::from(pair(bytes, failing)?)))
 }
 
@@ -74,21 +76,5 @@ fn fails(bytes: &[u8]) -> std::result::Result<(), String> {
     match end {
         Err(fault) if fault.kind() == ErrorKind::ConnectionReset && read == bytes => Ok(()),
         other => Err(format!("it gives {} bytes and then {other:?}", read.len())),
-    }
-}
-
-/// The text on standard output and nothing else; or, without one, one line on standard error.
-fn says(lister: &Path, stdin: Stdio, text: Option<&str>) -> std::result::Result<(), String> {
-    let run = Command::new(lister).stdin(stdin).output().map_err(|fault| fault.to_string())?;
-    let printed = String::from_utf8_lossy(&run.stdout).into_owned();
-    let error = String::from_utf8_lossy(&run.stderr).into_owned();
-    if printed != text.unwrap_or("") {
-        return Err(format!("it prints {printed:?}"));
-    }
-    let one_line = error.len() > 1 && error.find('\n') == Some(error.len() - 1);
-    if text.map_or(one_line, |_| error.is_empty()) {
-        Ok(())
-    } else {
-        Err(format!("standard error has {error:?}"))
     }
 }

@@ -6,7 +6,7 @@
 use crate::archive::{self, Archive};
 use crate::generate::{ample, calls, lent, random};
 use crate::random::Random;
-use crate::verdict::{inside, of_original, written, Verdict, ORIGINAL_HERE};
+use crate::verdict::{has_original, inside, of_original, written, Verdict, ORIGINAL_HERE};
 use model::calls::{outcome, Arg, Outcome, Written};
 use std::path::PathBuf;
 
@@ -84,10 +84,15 @@ fn line(call: &'static str) -> String {
     format!("{call} {all:016x} {}", words.join(" "))
 }
 
+/// The calls that the original can answer.
+fn answered() -> impl Iterator<Item = &'static str> {
+    calls().filter(|call| has_original(call))
+}
+
 /// The whole list, as the original here answers.
 pub fn made() -> String {
     assert!(ORIGINAL_HERE, "the original's folder is missing");
-    calls().map(|call| line(call) + "\n").collect()
+    answered().map(|call| line(call) + "\n").collect()
 }
 
 fn text() -> Result<String, String> {
@@ -110,7 +115,7 @@ pub fn current() -> Option<String> {
 /// Holds model and archive to the recorded list; lines that begin with `ok` or `FAIL`.
 pub fn replay() -> Vec<String> {
     match text() {
-        Ok(text) => calls().flat_map(|call| held(&text, call)).collect(),
+        Ok(text) => answered().flat_map(|call| held(&text, call)).collect(),
         Err(line) => vec![line],
     }
 }

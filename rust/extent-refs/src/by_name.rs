@@ -16,6 +16,7 @@ pub enum Value<'a> {
 
 /// Every declared call.
 pub const NAMES: &[&str] = &[
+    "crc32c_table_text",
     "extent_write_data_ref_hash",
     "extent_write_tree_block_key",
     "extent_write_tree_block_body",
@@ -65,6 +66,9 @@ pub const NAMES: &[&str] = &[
 pub fn call(name: &str, args: &mut [Value<'_>]) -> Option<u64> {
     use Value::*;
     Some(match (name, args) {
+        ("crc32c_table_text", [Number(polynomial), Out(out), Lent(len)]) => {
+            u64::from(lent::crc32c_table_text(*polynomial as u32, out, len))
+        }
         ("extent_write_data_ref_hash", [Number(tree), Number(objectid), Number(offset)]) => {
             lent::extent_write_data_ref_hash(*tree, *objectid, *offset)
         }

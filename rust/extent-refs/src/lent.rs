@@ -7,6 +7,10 @@
 #![allow(clippy::too_many_arguments)]
 use crate::raw;
 
+pub fn crc32c_table_text(polynomial: u32, out: &mut [u8], len: &mut u64) -> u32 {
+    unsafe { raw::crc32c_table_text(polynomial, out.as_mut_ptr(), out.len(), len) }
+}
+
 pub fn extent_write_data_ref_hash(tree: u64, objectid: u64, offset: u64) -> u64 {
     unsafe { raw::extent_write_data_ref_hash(tree, objectid, offset) }
 }

@@ -3,14 +3,16 @@
 //! [`backref`], [`leaf_edit`], [`extent_write`] and [`transaction`] have the signatures of the
 //! driver's own modules, so that a driver swaps a module and keeps its callers: it re-exports
 //! [`chunk::DiskKey`] in place of its own key and gives its error type a
-//! `From<extent_refs::error::Error>`. [`ledger`] posts a change to a balanced item list.
-//! [`lent`] has every call in its plain form, which allocates nothing.
+//! `From<extent_refs::error::Error>`. [`ledger`] posts a change to a balanced item list, [`crc32c`]
+//! writes the table of a checksum. [`lent`] has every call in its plain form, which allocates
+//! nothing.
 //!
 //! Every result comes from the archive; this crate turns lists into bytes and codes into errors.
 pub mod backref;
 #[rustfmt::skip]
 pub mod by_name;
 pub mod chunk;
+pub mod crc32c;
 pub mod error;
 pub mod extent_write;
 pub mod leaf_edit;

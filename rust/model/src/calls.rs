@@ -101,6 +101,8 @@ impl<'a> Given<'a> {
 pub fn answer(call: &str, args: &[Arg]) -> Asked<Written> {
     let mut g = Given(args.iter());
     Ok(match call {
+        "crc32c_table_text" => bytes(hash::table_text(g.u32()).into_bytes()),
+
         "extent_write_tree_block_key" => {
             let (bytenr, level) = (g.u64(), g.u8());
             numbers(&[bytenr, 169, u64::from(level)])

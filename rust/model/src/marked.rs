@@ -1,4 +1,5 @@
-//! Document 01's marked cases, and its lister example, on the model.
+//! Document 01's marked cases, its lister example, and the tables of document 02's ticket 2, on the
+//! model.
 use crate::asked::Stop::{Refused, Remove};
 use crate::body::*;
 use crate::sheet::{bytes, insert, split_to_fit, Item};
@@ -73,4 +74,18 @@ fn vectors() {
     assert_eq!(hash::checksum(&[255; 32]), 0x62a8_ab43);
     assert_eq!(hash::checksum(&(0..32).collect::<Vec<u8>>()), 0x46dd_794e);
     assert_eq!(hash::checksum(&(0..32).rev().collect::<Vec<u8>>()), 0x113f_db5c);
+}
+
+#[test]
+fn tables() {
+    let lines = |p| hash::table_text(p).lines().map(str::to_string).collect::<Vec<_>>();
+    let crc32c = lines(hash::CRC32C);
+    assert_eq!((&crc32c[0][..], &crc32c[1][..]), ("00000000", "f26b8303"));
+    assert_eq!((&crc32c[128][..], &crc32c[255][..]), ("82f63b78", "ad7d5351"));
+    assert_eq!(hash::table_text(0), "00000000\n".repeat(256));
+    assert_eq!(lines(1)[250..].concat(), "000000000000000100000000000000010000000100000000");
+    let other = lines(0xedb8_8320);
+    assert_eq!((&other[1][..], &other[255][..]), ("77073096", "2d02ef8d"));
+    let ones = lines(u32::MAX);
+    assert_eq!((&ones[1][..], &ones[255][..]), ("02000000", "01ffffff"));
 }

@@ -12,6 +12,12 @@ pub struct Call {
 /// Every call, in the order of the table.
 pub const CALLS: &[Call] = &[
     Call {
+        name: "crc32c_table_text",
+        parameters: &[("polynomial", "u32"), ("out", "out"), ("len", "lent")],
+        result: "u32",
+        asks: &[("", "21")],
+    },
+    Call {
         name: "extent_write_data_ref_hash",
         parameters: &[("tree", "u64"), ("objectid", "u64"), ("offset", "u64")],
         result: "u64",

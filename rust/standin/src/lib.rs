@@ -8,6 +8,8 @@ use model::sheet::read;
 use std::slice::{from_raw_parts, from_raw_parts_mut};
 use std::sync::OnceLock;
 
+mod texts;
+
 include!(concat!(env!("OUT_DIR"), "/exports.rs"));
 
 fn fault() -> &'static str {
@@ -19,7 +21,7 @@ fn fault() -> &'static str {
 fn faulty(call: &str, args: &[Arg]) -> Outcome {
     let mut said = match fault() {
         "drops all" if call == "ledger_post" => outcome(call, &of_all(args)),
-        _ => outcome(call, args),
+        _ => wrong_text(call, args).unwrap_or_else(|| outcome(call, args)),
     };
     let length = said.args.iter().find_map(|a| if let Arg::Lent(n) = a { Some(*n) } else { None });
     let length = length.unwrap_or(0) as usize;
@@ -29,6 +31,7 @@ fn faulty(call: &str, args: &[Arg]) -> Outcome {
         "other number" if said.code == 12 => said.code = 11,
         "other number" if said.code == 22 => said.code = 14,
         "no room" if said.code == 0 && length > 0 => return blank(args, 21),
+        "no room to the byte" if said.code == 0 && length == room(args) => return blank(args, 21),
         "hands back" if said.code == 0 => {
             let given =
                 args.iter()
@@ -88,6 +91,29 @@ fn of_all(args: &[Arg]) -> Vec<Arg> {
         all[7] = Arg::Number(stands.min(u32::MAX.into()) as u64);
     }
     all
+}
+
+/// A table's text that is wrong in the way asked for.
+fn wrong_text(call: &str, args: &[Arg]) -> Option<Outcome> {
+    let ("crc32c_table_text", Arg::Number(polynomial)) = (call, &args[0]) else { return None };
+    let text = texts::wrong(fault(), *polynomial as u32)?;
+    if text.len() > room(args) {
+        return Some(blank(args, 21));
+    }
+    let mut said = Outcome { code: 0, args: args.to_vec() };
+    for arg in &mut said.args {
+        match arg {
+            Arg::Out(out) => out[..text.len()].copy_from_slice(text.as_bytes()),
+            Arg::Lent(length) => *length = text.len() as u64,
+            _ => {}
+        }
+    }
+    Some(said)
+}
+
+/// How many bytes are lent for the result.
+fn room(args: &[Arg]) -> usize {
+    args.iter().map(|arg| if let Arg::Out(out) = arg { out.len() } else { 0 }).sum()
 }
 
 fn blank(args: &[Arg], code: u64) -> Outcome {

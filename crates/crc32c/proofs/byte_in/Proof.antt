@@ -6,7 +6,7 @@ use lib.Bits.{bitXor}
 use borrow.Author.Needs.{needs}
 use Rattle.crc32c.specs.Register.{crc32c}
 use Rattle.crc32c.proofs.Steps.{byte-by-table}
-use Rattle.crc32c_tables.proofs.Entries.{table-at}
+use Rattle.crc32c_steps.proofs.Entries.{table-at}
 use Rattle.crc32c.proofs.byte_in.Statement.{statement}
 use Rattle.crc32c.proofs.byte_in.Tie as tie
 

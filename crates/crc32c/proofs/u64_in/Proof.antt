@@ -6,7 +6,7 @@ use native.Mathlib.Omega.{arith}
 use lib.Bits.{bitXor}
 use borrow.Author.Needs.{needs}
 use Rattle.crc32c.specs.Register.{crc32c, steps}
-use Rattle.crc32c.proofs.Steps.{steps-add}
+use Rattle.crc32c_steps.proofs.Steps.{steps-add}
 use Rattle.crc32c.proofs.AtOnce.{eight-bytes}
 use Rattle.crc32c.proofs.u64_in.Statement.{statement}
 use Rattle.crc32c.proofs.u64_in.Tie as tie

@@ -2,7 +2,7 @@ use mathlib.Core.Path.{sym, _∙_}
 use native.Mathlib.Omega.{arith}
 use borrow.Author.Needs.{needs}
 use Rattle.inline_refs.proofs.Notes.{opens}
-use Rattle.lister_text.proofs.Writes.{put-is, put-then}
+use Rattle.text.proofs.Writes.{put-is, put-then}
 use Rattle.lister_text.proofs.Listings.{text-shut, text-fault, text-is}
 use Rattle.lister_text.proofs.put_body.Statement.{statement}
 use Rattle.lister_text.proofs.put_body.Tie as tie

@@ -1,7 +1,7 @@
 use denote.Ref.{now}
 use native.Mathlib.Omega.{arith}
 use borrow.Author.Needs.{needs}
-use Rattle.lister_text.proofs.Writes.{put-is}
+use Rattle.text.proofs.Writes.{put-is}
 use Rattle.lister_text.proofs.Listings.{text-empty, text-some}
 use Rattle.lister_text.proofs.put_text.Statement.{statement}
 use Rattle.lister_text.proofs.put_text.Tie as tie

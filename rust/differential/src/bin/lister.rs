@@ -8,8 +8,10 @@
 //!     lister [MOST]    no more than that many generated bodies
 use differential::dump_tree::{self, Leaf};
 use differential::generate::{edges, random};
+use differential::program::{self, Program};
 use differential::random::Random;
 use differential::read_errors::read_errors;
+use differential::write_errors::write_errors;
 use model::calls::Arg;
 use model::lister::listed;
 use model::sheet::Item;
@@ -28,25 +30,23 @@ fn main() -> ExitCode {
             return ExitCode::from(2);
         }
     };
-    let path = std::env::var("EXTENT_REFS_LISTER").map(PathBuf::from).unwrap_or_else(|_| {
-        PathBuf::from(env!("CARGO_MANIFEST_DIR")).join("../../target/bin/lister")
-    });
-    if !path.is_file() {
-        println!("FAIL target/bin/lister is not there: `rt check lister` makes it");
-        println!("0 passed, 1 failed");
-        return ExitCode::FAILURE;
-    }
-    let mut run = Run { path, passed: 0, failed: 0 };
+    let mut run = match Program::find("lister") {
+        Ok(program) => Run { program },
+        Err(missing) => return missing,
+    };
     for (name, cases) in table() {
         run.all(name, &cases);
     }
     // What arrives in parts is read to its end.
     let parts = run.prints(&[&e()[..20], &e()[20..]], E_TEXT);
-    run.count("E in two parts", parts);
-    let said =
-        |(name, said): (String, Result<(), String>)| said.map_err(|f| format!("{name}: {f}"));
-    let broken = read_errors(&run.path).into_iter().try_for_each(said);
-    run.count("inputs whose reading fails", broken);
+    run.program.count("E in two parts", parts);
+    let unread = read_errors(&run.program.path);
+    run.program.count_all("inputs whose reading fails", unread);
+    // A listing, and a refusal.
+    for input in [e(), vec![]] {
+        let unwritten = write_errors(&run.program.path, "lister", &input);
+        run.program.count_all("outputs that cannot be written", unwritten);
+    }
     run.all("generated bodies", &generated(most));
     let paths = dump_tree::leaves();
     if let Some(paths) = &paths {
@@ -54,18 +54,11 @@ fn main() -> ExitCode {
     } else {
         println!("{}", dump_tree::LEFT_OUT);
     }
-    println!("{} passed, {} failed", run.passed, run.failed);
-    if run.failed == 0 {
-        ExitCode::SUCCESS
-    } else {
-        ExitCode::FAILURE
-    }
+    run.program.sum()
 }
 
 struct Run {
-    path: PathBuf,
-    passed: usize,
-    failed: usize,
+    program: Program,
 }
 
 impl Run {
@@ -75,32 +68,19 @@ impl Run {
             [] => Err("nothing was compared".into()),
             _ => cases.iter().try_for_each(|(input, text)| self.prints(&[input], text)),
         };
-        self.count(name, said);
-    }
-
-    fn count(&mut self, name: &str, said: Result<(), String>) {
-        match said {
-            Ok(()) => self.passed += 1,
-            Err(fault) => {
-                println!("FAIL {name}: {fault}");
-                self.failed += 1;
-            }
-        }
+        self.program.count(name, said);
     }
 
     fn prints(&self, parts: &[&[u8]], text: &str) -> Result<(), String> {
-        let printed = self.print(parts).map_err(|fault| fault.to_string())?;
-        if printed == text {
-            return Ok(());
-        }
-        let (a, b) = differing(&printed, text);
-        Err(format!("it prints {a:?}, and {b:?} is expected"))
+        program::prints(&self.print(parts).map_err(|fault| fault.to_string())?, text)
     }
 
     /// The program reads all of its input before it writes, so one pipe after the other will do.
     fn print(&self, parts: &[&[u8]]) -> std::io::Result<String> {
-        let mut child =
-            Command::new(&self.path).stdin(Stdio::piped()).stdout(Stdio::piped()).spawn()?;
+        let mut child = Command::new(&self.program.path)
+            .stdin(Stdio::piped())
+            .stdout(Stdio::piped())
+            .spawn()?;
         if let Some(mut stdin) = child.stdin.take() {
             for (number, part) in parts.iter().enumerate() {
                 if number > 0 {
@@ -132,11 +112,11 @@ impl Run {
                     records += cases.len();
                     self.all(&name, &cases);
                 }
-                Err(fault) => self.count(&name, Err(fault)),
+                Err(fault) => self.program.count(&name, Err(fault)),
             }
         }
         if records == 0 {
-            self.count("real leaves", Err("not one record was compared".into()));
+            self.program.count("real leaves", Err("not one record was compared".into()));
         }
         println!("{records} records of {} leaves as dump-tree lists them", paths.len());
     }
@@ -196,14 +176,6 @@ fn of_dump_tree(item_type: u8, lines: &[String]) -> String {
         text += "\n";
     }
     text
-}
-
-/// The first line in which two texts differ.
-fn differing<'a>(a: &'a str, b: &'a str) -> (&'a str, &'a str) {
-    let mut lines = a.lines().zip(b.lines());
-    lines
-        .find(|(x, y)| x != y)
-        .unwrap_or((a.lines().last().unwrap_or(""), b.lines().last().unwrap_or("")))
 }
 
 const E_TEXT: &str = "24 1 1 1\n178 5 257 0 1\n";
@@ -324,12 +296,13 @@ fn kind(byte: u8) -> (Vec<u8>, String) {
 
 #[test]
 fn nothing_compared_fails() {
-    let mut run = Run { path: PathBuf::new(), passed: 0, failed: 0 };
+    let mut run = Run { program: Program::at(PathBuf::new()) };
+    let failed = |run: &Run| (run.program.passed, run.program.failed);
     run.all("no inputs", &[]);
-    assert_eq!((run.passed, run.failed), (0, 1));
+    assert_eq!(failed(&run), (0, 1));
     run.leaves(&[]);
-    assert_eq!((run.passed, run.failed), (0, 2));
+    assert_eq!(failed(&run), (0, 2));
     // Nor does a program that is not there pass.
     run.all("E", &[(e(), E_TEXT.into())]);
-    assert_eq!((run.passed, run.failed), (0, 3));
+    assert_eq!(failed(&run), (0, 3));
 }

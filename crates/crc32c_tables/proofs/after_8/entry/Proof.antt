@@ -1,7 +1,7 @@
--- `crc32c_tables::after_8::entry` meets its contract: antt computes the eight steps of each number and compares them with its constant.
--- Assumes nothing.
+-- `crc32c_tables::after_8::entry` meets its contract: antt computes the eight steps of each number and compares them with its
+-- constant. Written by tools/tables from what the program crc_table prints: do not edit. Assumes nothing.
 use borrow.Author.Needs.{needs}
-use Rattle.crc32c_tables.specs.Steps.{step, steps}
+use Rattle.crc32c_steps.specs.Steps.{step, steps}
 use Rattle.crc32c_tables.proofs.Arms.{at, never}
 use Rattle.crc32c_tables.proofs.after_8.entry.Statement.{statement}
 use Rattle.crc32c_tables.proofs.after_8.entry.Tie as tie

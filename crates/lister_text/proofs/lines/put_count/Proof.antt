@@ -2,9 +2,9 @@ use mathlib.Core.Path.{ap, _∙_}
 use mathlib.Core.List.{[], _∷_}
 use Prim.Native.Nat.{ℕ}
 use native.Mathlib.Omega.{arith}
-use Rattle.lister_text.specs.Puts.{spaced}
+use Rattle.text.specs.Numbers.{spaced}
 use borrow.Author.Needs.{needs}
-use Rattle.lister_text.proofs.Writes.{put-none, put-is}
+use Rattle.text.proofs.Writes.{put-none, put-is}
 use Rattle.lister_text.proofs.Texts.{no-count, some-count}
 use Rattle.lister_text.proofs.lines.put_count.Statement.{statement}
 use Rattle.lister_text.proofs.lines.put_count.Tie as tie

@@ -10,8 +10,8 @@ use Rattle.inline_refs.specs.Steps.{readFrom}
 use Rattle.inline_refs.proofs.Steps.{seen}
 use Rattle.inline_refs.proofs.Moves.{stands-behind}
 use Rattle.inline_refs.proofs.Counts.{count-reads}
-use Rattle.lister_text.specs.Puts.{refsOf}
-use Rattle.lister_text.proofs.Writes.{Makes, makes-all, makes-is, makes-next, makes-done}
+use Rattle.lister_text.specs.Refs.{refsOf}
+use Rattle.text.proofs.Writes.{Makes, makes-all, makes-is, makes-next, makes-done}
 use Rattle.lister_text.proofs.Texts.{Readable, readable, readable-next, lines-next, lines-end, ref-short}
 use Rattle.lister_text.proofs.lines.put_refs.Statement.{statement}
 use Rattle.lister_text.proofs.lines.put_refs.Tie as tie

@@ -1,0 +1,23 @@
+// The table of a checksum's polynomial, as text.
+ghost use lib.ListN.{length};
+ghost use Rattle.format.specs.Questions.{Answered, heldText};
+ghost use Rattle.crc32c_text.specs.Text.{tableText};
+ghost use Rattle.extent_refs.specs.Exports.{Coded};
+use format::Edited;
+
+fn table_text(polynomial: u32, out: &mut [u8]) -> Edited
+    ensures { λ r. ⌜ Answered (heldText (length (now (out .entry))) (tableText polynomial)) r (now (out .entry)) (now (out .exit)) ⌝ }
+{
+    if crc32c_text::table_text(polynomial, out) {
+        return Edited::Written(crc32c_text::LENGTH);
+    }
+    Edited::Refused(21)
+}
+
+#[no_mangle]
+pub extern "C" fn crc32c_table_text(polynomial: u32, out: &mut [u8], len: &mut u64) -> u32
+    ensures { λ r. ⌜ Coded (heldText (length (now (out .entry))) (tableText polynomial)) r (now (len .exit)) (now (out .entry)) (now (out .exit)) ⌝ }
+{
+    let answer = table_text(polynomial, out);
+    crate::put_edited(answer, len)
+}

@@ -1,0 +1,18 @@
+//! The table of a checksum's polynomial, worked out and written as text.
+use crate::answer::written;
+use crate::lent;
+
+/// The polynomial of CRC32C, reflected.
+pub const CRC32C: u32 = 0x82f6_3b78;
+
+/// How long the text is, whatever the polynomial.
+pub const TABLE_TEXT_BYTES: usize = 2_304;
+
+/// The table of a reflected polynomial: 256 lines of eight lower-case hexadecimal digits, entry 0
+/// first.
+pub fn table_text(polynomial: u32) -> String {
+    written(TABLE_TEXT_BYTES, |out, len| lent::crc32c_table_text(polynomial, out, len))
+        .ok()
+        .and_then(|text| String::from_utf8(text).ok())
+        .expect("2,304 bytes of digits fit in 2,304")
+}
