@@ -1,8 +1,9 @@
 /* Written by tools/declarations from calls.txt: do not edit.
  *
- * A call returns 0 where it is accepted, else the number of the question that refused it, 100
- * where a search found nothing and 101 where an item is to be removed. On anything but 0 every
- * lent number is 0 and every other lent byte keeps its value; past an accepted result too.
+ * A call of which "Returns" is said returns that value and refuses nothing. Any other returns 0
+ * where it is accepted, else the number of the question that refused it, 100 where a search found
+ * nothing and 101 where an item is to be removed. On anything but 0 every lent number is 0 and
+ * every other lent byte keeps its value; past an accepted result too.
  * A slice is a pointer, never null, and its number of elements. Lent buffers never overlap.
  *
  * "Asks" has the questions in the order in which they are put; the first "no" is the refusal.
@@ -24,17 +25,21 @@
 extern "C" {
 #endif
 
-/* crc32c: the table of a checksum */
+/* crc32c: the register and the table of a checksum */
 
 /* Asks 21.
  * Gives the text of the polynomial's table: 256 lines of eight lower-case hexadecimal digits,
  * 2,304 bytes. */
 uint32_t crc32c_table_text(uint32_t polynomial, uint8_t *out, size_t out_len, uint64_t *len);
 
+/* Asks nothing.
+ * Returns the register after the four bytes of the word, the lowest first. */
+uint32_t crc32c_word_step(uint32_t register_, uint32_t word);
+
 /* extent_write: hash and allocation bodies */
 
 /* Asks nothing.
- * Gives the hash. */
+ * Returns the hash. */
 uint64_t extent_write_data_ref_hash(uint64_t tree, uint64_t objectid, uint64_t offset);
 
 /* Asks nothing.

@@ -6,6 +6,7 @@ fn main() {
     println!("cargo:rerun-if-changed=build.rs");
     let mut text = String::new();
     for model::table::Call { name: call, parameters, result, .. } in model::table::CALLS {
+        let result = if *result == "code" { "u32" } else { result };
         let (mut head, mut args, mut back) = (String::new(), String::new(), String::new());
         for (at, (name, kind)) in parameters.iter().enumerate() {
             let slice =

@@ -1,55 +1,80 @@
--- A run over the bytes of a number at once: the number is xored into the register, and as many steps follow as it has bits, 32 of
--- them at a time by four tables. For any polynomial `p`. Assumes nothing.
-use mathlib.Core.Path.{_≡_, sym, ap, ap₂, subst⁻¹, _∙_}
+-- A run over the bytes of a number at once: the number is xored into the register, and as many steps follow as it has bits, by as many
+-- rows as it has bytes. For any polynomial `p` and any number of rows. Assumes nothing.
+use mathlib.Core.Path.{_≡_, refl, sym, ap, ap₂, subst⁻¹, _∙_}
+use mathlib.Core.List.{List, [], _∷_}
 use Prim.Native.Nat.{ℕ, zero, suc, _+_, _*_, _/_, _%_, _^_, _≤_, _<_}
 use native.Mathlib.Omega.{arith}
-use native.Mathlib.Nat.{mod-lt, mod-mod, mod-eq-of-lt, pow-succ', add-suc, lt-of-lt-of-le}
-use lib.Pow.{pow-pos, pow-add}
+use native.Mathlib.Nat.{mod-lt, mod-mod, mod-eq-of-lt, pow-succ', div-one, add-suc, lt-of-lt-of-le}
+use lib.ListN.{length, getD}
+use lib.Pow.{pow-pos, pow-add, shr-shr}
 use lib.Bits.{bitXor, xor-zero-r, xor-comm, xor-shr, xor-mod, xor-lt}
 use Rattle.fields.specs.Numbers.{leBytes}
+use Rattle.crc32c_steps.specs.Steps.{rowsOf, tableEntries}
+use Rattle.crc32c_steps.proofs.Entries.{entries-at}
+use Rattle.crc32c_steps.proofs.Rows.{stepRows, rows-of}
+use Rattle.crc32c_steps.proofs.Steps.{steps-add}
 use Rattle.crc32c.specs.Register.{crc32c, feed, step, steps, byteStep, crcRun}
 use Rattle.crc32c.proofs.Xor.{xor-assoc}
-use Rattle.crc32c_steps.proofs.Steps.{steps-add}
 use Rattle.crc32c.proofs.Steps.{steps-split, byte-by-table}
 
 -- the last two change places
 xor-last : (a b c : ℕ) → bitXor (bitXor a b) c ≡ bitXor (bitXor a c) b
 xor-last a b c = xor-assoc a b c ∙ ap (bitXor a) (xor-comm b c) ∙ sym (xor-assoc a c b)
 
+-- each low byte of a number looked up in its row, the lowest in the last, and all of them xored
+abbrev pub lookUp : List (List ℕ) → ℕ → ℕ
+lookUp [] y = 0
+lookUp (row ∷ rows) y = bitXor (getD row (y / 2 ^ (8 * length rows) % 256) 0) (lookUp rows y)
+
 module _ (p : ℕ) where
-  -- eight steps by a table of eight steps
-  eight-by-table : (y : ℕ) → steps p 8 y ≡ bitXor (y / 2 ^ 8) (steps p 8 (y % 2 ^ 8))
+  length-stepRows : (n m : ℕ) → length (stepRows p n m) ≡ n
+  length-stepRows zero m = refl
+  length-stepRows (suc n) m = ap suc (length-stepRows n (m + 8))
+
+  -- what is above the bytes goes on by itself
+  lookUp-from : (n j y : ℕ) → steps p (8 * (n + j)) y ≡ bitXor (steps p (8 * j) (y / 2 ^ (8 * n))) (lookUp (stepRows p n (8 * (j + 1))) y)
+  lookUp-from zero j y =
+      let none : 0 + j ≡ j = omega arith in
+      ap₂ (λ (k z : ℕ). steps p (8 * k) z) none (sym (div-one y)) ∙ sym (xor-zero-r (steps p (8 * j) (y / 1)))
+  lookUp-from (suc n) j y =
+      let z = y / 2 ^ (8 * n) in
+      let rows = stepRows p n (8 * (j + 1) + 8) in
+      let byte = getD (tableEntries (steps p (8 * (j + 1))) 256 0) (z % 256) 0 in
+      let count : 8 * (suc n + j) ≡ 8 * (n + (j + 1)) = omega arith in
+      let later : 8 * (j + 1 + 1) ≡ 8 * (j + 1) + 8 = omega arith in
+      let eight : 8 * (j + 1) ≡ 8 + 8 * j = omega arith in
+      let more : 8 * n + 8 ≡ 8 * suc n = omega arith in
+      let down : z / 2 ^ 8 ≡ y / 2 ^ (8 * suc n) = shr-shr y (8 * n) 8 ∙ ap (λ (k : ℕ). y / 2 ^ k) more in
+      let top : steps p (8 * (j + 1)) z ≡ bitXor (steps p (8 * j) (y / 2 ^ (8 * suc n))) byte =
+      ap (λ (k : ℕ). steps p k z) eight
+      ∙ steps-split p 8 (8 * j) z
+      ∙ ap₂ bitXor (ap (steps p (8 * j)) down) (ap (λ (k : ℕ). steps p k (z % 256)) (sym eight) ∙ sym (entries-at (steps p (8 * (j + 1))) 256 (z % 256) (mod-lt z (pow-pos 8)))) in
+      ap (λ (k : ℕ). steps p k y) count
+      ∙ lookUp-from n (j + 1) y
+      ∙ ap₂ bitXor top (ap (λ (m : ℕ). lookUp (stepRows p n m) y) later)
+      ∙ xor-assoc (steps p (8 * j) (y / 2 ^ (8 * suc n))) byte (lookUp rows y)
+      ∙ ap (λ (l : ℕ). bitXor (steps p (8 * j) (y / 2 ^ (8 * suc n))) (bitXor (getD (tableEntries (steps p (8 * (j + 1))) 256 0) (y / 2 ^ (8 * l) % 256) 0) (lookUp rows y)))
+      (sym (length-stepRows n (8 * (j + 1) + 8)))
+
+  -- so many steps by rows, one for each low byte
+  pub by-rows : (n y : ℕ) → steps p (8 * n) y ≡ bitXor (y / 2 ^ (8 * n)) (lookUp (rowsOf p n) y)
   unfolding steps
-  eight-by-table y = steps-split p 8 0 y
-
-  -- the n steps of the upper part came out as `q` with `s` xored in: eight steps more add what becomes of the low byte
-  eight-more : (n y q s : ℕ) → steps p n (y / 2 ^ 8) ≡ bitXor q s → steps p (8 + n) y ≡ bitXor q (bitXor s (steps p (8 + n) (y % 2 ^ 8)))
-  eight-more n y q s e =
-      steps-split p 8 n y
-      ∙ ap (λ (z : ℕ). bitXor z (steps p (8 + n) (y % 2 ^ 8))) e
-      ∙ xor-assoc q s (steps p (8 + n) (y % 2 ^ 8))
-
-  -- 32 steps by four tables, one for each low byte
-  pub by-four-tables : (y : ℕ)
-      → steps p 32 y
-      ≡ bitXor (y / 2 ^ 32)
-      (bitXor (bitXor (bitXor (steps p 8 (y / 16777216 % 256)) (steps p 16 (y / 65536 % 256))) (steps p 24 (y / 256 % 256))) (steps p 32 (y % 256)))
-  by-four-tables y =
-      let twice : y / 256 / 256 ≡ y / 65536 = omega arith in
-      let thrice : y / 65536 / 256 ≡ y / 16777216 = omega arith in
-      let whole : y / 16777216 / 256 ≡ y / 2 ^ 32 = omega arith in
-      let q = y / 256 / 256 / 256 / 256 in
-      let s₁ = steps p 8 (y / 256 / 256 / 256 % 256) in
-      let s₂ = bitXor s₁ (steps p 16 (y / 256 / 256 % 256)) in
-      let s₃ = bitXor s₂ (steps p 24 (y / 256 % 256)) in
-      rw (← whole, ← thrice, ← twice)
-      (eight-more 24 y q s₃ (eight-more 16 (y / 256) q s₂ (eight-more 8 (y / 256 / 256) q s₁ (eight-by-table (y / 256 / 256 / 256)))))
+  by-rows n y =
+      let all : 8 * n ≡ 8 * (n + 0) = omega arith in
+      ap (λ (k : ℕ). steps p k y) all
+      ∙ lookUp-from n 0 y
+      ∙ ap (λ (rows : List (List ℕ)). bitXor (y / 2 ^ (8 * n)) (lookUp rows y)) (sym (rows-of p n))
 
   low-byte : (r x : ℕ) → bitXor r (x % 256) % 2 ^ 8 ≡ bitXor r x % 2 ^ 8
   low-byte r x =
       xor-mod r (x % 256) 8
       ∙ ap (bitXor (r % 2 ^ 8)) (mod-mod x 256)
       ∙ sym (xor-mod r x 8)
+
+  -- eight steps by a table of eight steps
+  eight-by-table : (y : ℕ) → steps p 8 y ≡ bitXor (y / 2 ^ 8) (steps p 8 (y % 2 ^ 8))
+  unfolding steps
+  eight-by-table y = steps-split p 8 0 y
 
   -- a byte at the low end goes in, and the others move down with the register
   byte-more : (r x : ℕ) → bitXor (byteStep p r (x % 256)) (x / 256) ≡ steps p 8 (bitXor r x)
@@ -72,6 +97,10 @@ module _ (p : ℕ) where
       ∙ ap (steps p (8 * n)) (byte-more r x)
       ∙ sym (steps-add p 8 (8 * n) (bitXor r x))
       ∙ ap (λ (k : ℕ). steps p k (bitXor r x)) count
+
+  -- n bytes at once by n rows are n byte steps
+  pub run-by-rows : (n r x : ℕ) → x < 256 ^ n → crcRun p r (leBytes n x) ≡ bitXor (bitXor r x / 2 ^ (8 * n)) (lookUp (rowsOf p n) (bitXor r x))
+  run-by-rows n r x h = run-at-once n r x h ∙ by-rows n (bitXor r x)
 
 module _ (p : ℕ) (small : p < 2 ^ 32) where
   feed-lt : (bit n : ℕ) → feed bit p < 2 ^ (32 + n)

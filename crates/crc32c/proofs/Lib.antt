@@ -1,3 +1,4 @@
 pub mod Xor
 pub mod Steps
 pub mod AtOnce
+pub mod Words

@@ -1,6 +1,6 @@
 -- The steps of the CRC32C register of RFC 3720, bit by bit, on natural numbers, and the tables of a polynomial, each with the
 -- polynomial as a parameter. Document 01, section "The leaves: hash and table", takes the polynomial 82f63b78, reflected; document
--- 02, ticket 2, takes any. Assumes nothing.
+-- 02, ticket 2, takes any. The rows are ticket 3's. Assumes nothing.
 use mathlib.Core.List.{List, [], _∷_}
 use Prim.Native.Nat.{ℕ, zero, suc, _/_, _%_}
 use lib.Bits.{bitXor}
@@ -45,3 +45,7 @@ nextRow polynomial (entry ∷ entries) = byteStep polynomial entry 0 ∷ nextRow
 unfoldable pub rowsFrom : ℕ → ℕ → List ℕ → List (List ℕ)
 rowsFrom polynomial zero row = []
 rowsFrom polynomial (suc count) row = row ∷ rowsFrom polynomial count (nextRow polynomial row)
+
+-- the rows of a polynomial: its table first
+unfoldable pub rowsOf : ℕ → ℕ → List (List ℕ)
+rowsOf polynomial count = rowsFrom polynomial count (tableOf polynomial)

@@ -9,4 +9,4 @@ use Rattle.crc32c_tables.specs.declared.standing.Tables.{Tables}
 pub record Generated (tables : Tables) : Type 0 where
   pub generated : tables .generated ≡ tableOf crc32c
   pub lent : tables .lent ≡ tables .generated
-  pub read : tables .after_8 ∷ tables .after_16 ∷ tables .after_24 ∷ tables .after_32 ∷ [] ≡ rowsFrom crc32c 4 (tables .generated)
+  pub read : tables .row_0 ∷ tables .row_1 ∷ tables .row_2 ∷ tables .row_3 ∷ [] ≡ rowsFrom crc32c 4 (tables .generated)

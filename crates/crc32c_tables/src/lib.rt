@@ -1,19 +1,32 @@
-// Tables of the CRC32C register: what each byte is after 8, 16, 24 and 32 steps, so that four bytes can be taken at once. The table
-// of eight steps stands as an array, to be lent, and in after_8.rt entry by entry. Their constants are the generator's (standing.rt).
-pub mod after_16;
-pub mod after_24;
-pub mod after_32;
-pub mod after_8;
+// Four rows of constants, by which a word of four bytes goes into the CRC32C register at once. Row 0 is the polynomial's table; each
+// later entry is the one above it run on over a zero byte. They stand once, in constants.rt.
+//
+// A constant array is copied to the stack wherever it is named, so the hash does not read the rows themselves: row_0.rt to row_3.rt
+// read their entries when the program is compiled, and a `match` whose arms are constants becomes a table in the program's read-only
+// data. LLVM makes it one table only where all arms stand in one `match`, so such a function is as long as its row. The arms are
+// numbered from 256 on: LLVM narrows a `match` on a byte to a signed byte, and then spends an instruction on each read to move the
+// number up by 128; numbers from 256 on fit in no byte, and it does not. So the last arm is never taken.
 mod constants;
+pub mod row_0;
+pub mod row_1;
+pub mod row_2;
+pub mod row_3;
 pub mod standing;
 
-use constants::TABLE;
+use constants::ROWS;
 ghost use mathlib.Core.Path.{_≡_};
-ghost use Rattle.crc32c_steps.specs.Steps.{crc32c, tableOf};
+ghost use Rattle.crc32c_steps.specs.Steps.{crc32c, tableOf, rowsOf};
 
-// The table. Its rule is computed here, over all entries.
+// The rows. Their rule is computed once, over all entries together (proofs/Array.antt).
+pub fn rows() -> [[u32; 256]; 4]
+    ensures { λ r. ⌜ r ≡ rowsOf crc32c 4 ⌝ }
+{
+    ROWS
+}
+
+// The table: row 0.
 pub fn table() -> [u32; 256]
     ensures { λ r. ⌜ r ≡ tableOf crc32c ⌝ }
 {
-    TABLE
+    ROWS[0]
 }

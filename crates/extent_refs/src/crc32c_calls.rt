@@ -1,7 +1,9 @@
-// The table of a checksum's polynomial, as text.
+// A checksum's register over a word, and the table of its polynomial as text.
+ghost use mathlib.Core.Path.{_≡_};
 ghost use lib.ListN.{length};
 ghost use Rattle.format.specs.Questions.{Answered, heldText};
 ghost use Rattle.crc32c_text.specs.Text.{tableText};
+ghost use Rattle.crc32c.specs.Register.{crc32c, wordStep};
 ghost use Rattle.extent_refs.specs.Exports.{Coded};
 use format::Edited;
 
@@ -20,4 +22,11 @@ pub extern "C" fn crc32c_table_text(polynomial: u32, out: &mut [u8], len: &mut u
 {
     let answer = table_text(polynomial, out);
     crate::put_edited(answer, len)
+}
+
+#[no_mangle]
+pub extern "C" fn crc32c_word_step(register: u32, word: u32) -> u32
+    ensures { λ r. ⌜ r ≡ wordStep crc32c register word ⌝ }
+{
+    crc32c::word_in(register, word)
 }

@@ -1,5 +1,5 @@
-// Runs the CRC32C vectors of RFC 3720, appendix B.4, and the check value of "123456789", each by bytes and then by words of eight
-// bytes, as the hash runs. Prints each finished checksum beside the expected one.
+// Runs the CRC32C vectors of RFC 3720, appendix B.4, and the check value of "123456789", each by bytes, by words of four bytes, and by
+// numbers of eight, as the hash runs. Prints each finished checksum beside the expected one.
 use libc::STDOUT_FILENO;
 
 fn by_bytes(bytes: &[u8]) -> u32 {
@@ -8,6 +8,16 @@ fn by_bytes(bytes: &[u8]) -> u32 {
 
 // What is left behind the last whole word goes in by bytes.
 fn by_words(bytes: &[u8]) -> u32 {
+    let mut register = 0xffff_ffff;
+    let mut at: usize = 0;
+    while 4 <= bytes.len() - at {
+        register = crc32c::word_step(register, fields::get_u32_le(bytes, at));
+        at += 4;
+    }
+    crc32c::finish(crc32c::update(register, &bytes[at..]))
+}
+
+fn by_numbers(bytes: &[u8]) -> u32 {
     let mut register = 0xffff_ffff;
     let mut at: usize = 0;
     while 8 <= bytes.len() - at {
@@ -31,6 +41,7 @@ fn print(sum: u32, expected: u32) {
 fn compare(bytes: &[u8], expected: u32) {
     print(by_bytes(bytes), expected);
     print(by_words(bytes), expected);
+    print(by_numbers(bytes), expected);
 }
 
 pub fn compare_all() {

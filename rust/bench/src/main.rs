@@ -14,6 +14,8 @@
 mod bodies;
 #[cfg(original_here)]
 mod growth;
+#[cfg(all(original_here, target_arch = "x86_64"))]
+mod hash;
 #[cfg(original_here)]
 mod held;
 #[cfg(original_here)]
@@ -70,4 +72,6 @@ fn main() {
         growth::table(&bench);
         worst::table(&mut bench);
     }
+    #[cfg(all(original_here, target_arch = "x86_64"))]
+    hash::table(&bench);
 }

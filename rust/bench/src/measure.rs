@@ -1,11 +1,15 @@
-//! Processor time, best of many batches, the two sides by turns. The whole table is made several
+//! Processor time, best of many batches, the sides by turns. The whole table is made several
 //! times over: a figure is the middle one of the passes, and the ratios' least and greatest stand beside.
 use differential::spent::Spent;
+use model::calls::returns_value;
 use std::hint::black_box;
 
 pub const PASSES: usize = 7;
 const BATCHES: usize = 10;
 const BATCH_NANOSECONDS: u64 = 1_000_000;
+
+/// One side of a row: it is run so many times, and gives the nanoseconds of one.
+pub type Side<'a> = &'a mut dyn FnMut(usize) -> f64;
 
 /// What is asked for: times of the calls whose name holds a word; or so many runs of one side of one
 /// row, for a profiler.
@@ -47,7 +51,7 @@ pub fn middle(times: &[f64]) -> Option<f64> {
 }
 
 /// The middle ratio of the passes, and the least and the greatest.
-fn ratios(over: &[f64], under: &[f64]) -> String {
+pub fn ratios(over: &[f64], under: &[f64]) -> String {
     let each: Vec<f64> = over.iter().zip(under).map(|(a, b)| a / b).collect();
     let Some(ratio) = middle(&each) else { return String::new() };
     let least = each.iter().copied().fold(f64::MAX, f64::min);
@@ -55,7 +59,7 @@ fn ratios(over: &[f64], under: &[f64]) -> String {
     format!("{ratio:.2} ({least:.2} to {most:.2})")
 }
 
-fn shown(times: &[f64]) -> String {
+pub fn shown(times: &[f64]) -> String {
     middle(times).map_or(String::new(), |ns| format!("{ns:.1}"))
 }
 
@@ -117,9 +121,9 @@ impl Bench {
         &mut self,
         call: &str,
         size: &str,
-        original: &mut dyn FnMut(usize) -> f64,
+        original: Side,
         mut archive: impl FnMut(&mut [u8], &mut u64) -> u64,
-        mut copied: Option<&mut dyn FnMut(usize) -> f64>,
+        copied: Option<Side>,
     ) {
         let mut len = 0;
         // Hidden from the compiler once and not in each round: a slice that goes through memory as two
@@ -142,7 +146,7 @@ impl Bench {
         if !self.asked.times_of(call) {
             return;
         }
-        if there && !call.ends_with("hash") {
+        if there && !returns_value(call) {
             let code = archive(out, &mut len);
             assert_eq!(code, 0, "{call}, {size}: only accepted calls are measured");
         }
@@ -150,22 +154,8 @@ impl Bench {
             black_box(archive(&mut *out, &mut len));
         };
         let mut second = |rounds: usize| batch(&mut second, rounds);
-        let first = calibrated(original);
-        let with_copy = copied.as_mut().map_or(0, |copied| calibrated(*copied));
-        let ours = if there { calibrated(&mut second) } else { 0 };
-        let mut best = [None; 3];
-        let mut note = |side: usize, ns: f64| {
-            best[side] = Some(best[side].map_or(ns, |least: f64| least.min(ns)));
-        };
-        for _ in 0..BATCHES {
-            note(0, original(first));
-            if let Some(copied) = copied.as_mut() {
-                note(1, copied(with_copy));
-            }
-            if there {
-                note(2, second(ours));
-            }
-        }
+        let ours = there.then_some(&mut second as Side);
+        let best = by_turns([Some(original as Side), copied.map(|side| side as Side), ours]);
         self.keep(call, size, best);
     }
 
@@ -223,6 +213,21 @@ impl Bench {
             println!("| `{call}` | {size} | {times} | {ratios} |");
         }
     }
+}
+
+/// The best time of each side that is there.
+pub fn by_turns<const N: usize>(mut sides: [Option<Side>; N]) -> [Option<f64>; N] {
+    let rounds = sides.each_mut().map(|side| side.as_mut().map_or(0, |side| calibrated(*side)));
+    let mut best = [None; N];
+    for _ in 0..BATCHES {
+        for (at, side) in sides.iter_mut().enumerate() {
+            if let Some(side) = side {
+                let ns = side(rounds[at]);
+                best[at] = Some(best[at].map_or(ns, |least: f64| least.min(ns)));
+            }
+        }
+    }
+    best
 }
 
 fn batch(call: &mut impl FnMut(), rounds: usize) -> f64 {

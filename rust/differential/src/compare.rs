@@ -8,7 +8,7 @@ use crate::spent::Spent;
 use crate::verdict::{
     agreement, has_original, inside, of_original, written, Agreement, Verdict, ORIGINAL_HERE,
 };
-use model::calls::{outcome, Arg, Outcome};
+use model::calls::{outcome, returns_value, Arg, Outcome};
 use std::collections::BTreeMap;
 use std::time::Duration;
 
@@ -172,7 +172,7 @@ impl Both {
         *self
             .archive_model
             .codes
-            .entry(if call.ends_with("hash") { 0 } else { said.code })
+            .entry(if returns_value(call) { 0 } else { said.code })
             .or_default() += 1;
         self.archive_model.note(agreed, args, || {
             let (asked, model) = (show::args(call, args), show::outcome(said));

@@ -4,6 +4,7 @@ use crate::collide::collide;
 use crate::random::Random;
 use crate::sheets;
 use crate::tables;
+use crate::words;
 use model::apply;
 use model::asked::le64;
 use model::body::{keyed_data_ref_body, Body, Reference, BLOCK, DATA, SHARED_BLOCK, SHARED_DATA};
@@ -90,14 +91,23 @@ pub fn edges(call: &'static str, r: &mut Random) -> Vec<Vec<Arg>> {
         let short = sheets::short().into_iter();
         cases.extend(short.map(|sheet| drawn(call, r, 168, vec![], Some(sheet)).args()));
     }
-    if names[0] == "polynomial" {
-        for polynomial in tables::special() {
-            let mut args = drawn(call, r, 168, vec![], None).args();
-            args[0] = Arg::Number(polynomial.into());
-            cases.push(args);
-        }
-    }
+    cases.extend(of_checksums(call, r));
     cases
+}
+
+/// The polynomials, and the registers and words, of which something may be special.
+fn of_checksums(call: &'static str, r: &mut Random) -> Vec<Vec<Arg>> {
+    let firsts: Vec<Vec<u32>> = match parameters(call)[0].0 {
+        "polynomial" => tables::special().into_iter().map(|polynomial| vec![polynomial]).collect(),
+        "register" => words::pairs().into_iter().map(Vec::from).collect(),
+        _ => vec![],
+    };
+    let mut case = |first: Vec<u32>| {
+        let mut args = drawn(call, r, 168, vec![], None).args();
+        args.splice(..first.len(), first.into_iter().map(|n| Arg::Number(n.into())));
+        args
+    };
+    firsts.into_iter().map(&mut case).collect()
 }
 
 fn drawn<'a>(
@@ -366,6 +376,17 @@ impl Draw<'_> {
         }
     }
 
+    /// A register or a word: the focus's first field gives both the same; few values, so that they
+    /// meet; a byte alone, and any number.
+    fn word(&mut self) -> u64 {
+        match self.r.below(4) {
+            0 => self.focus.fields[0],
+            1 => self.r.pick(&words::SPECIAL).into(),
+            2 => (self.r.next() & 255) << (8 * self.r.below(4)),
+            _ => self.r.next(),
+        }
+    }
+
     fn number(&mut self, name: &str) -> u64 {
         let field = |d: &Draw, at: usize| d.focus.fields.get(at).copied();
         match name {
@@ -427,6 +448,7 @@ impl Draw<'_> {
             "c" => field(self, 2).unwrap_or_else(|| self.r.field()),
             "polynomial" if self.r.chance(1, 4) => self.r.pick(&tables::special()).into(),
             "polynomial" => self.r.next(),
+            "register" | "word" => self.word(),
             _ => self.r.field(),
         }
     }

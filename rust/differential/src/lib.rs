@@ -19,6 +19,7 @@ pub mod show;
 pub mod spent;
 pub mod tables;
 pub mod verdict;
+pub mod words;
 pub mod write_errors;
 
 mod bodies;
@@ -39,3 +40,4 @@ pub use ledger_history::histories;
 pub use parts::parts;
 pub use swap::swapped;
 pub use tables::tables;
+pub use words::words;

@@ -1,13 +1,13 @@
 //! The differential run. The last line is 'N passed, M failed'; what was left out stands before it.
 //!
 //!     differential               every call; DIFFERENTIAL_SECONDS (100) of processor time
-//!     differential --only CALL   one call; or `tables`
+//!     differential --only CALL   one call; or `tables`, or `words`
 //!     differential --replay      the original's recorded answers alone
 //!     differential --record      writes recorded/answers.txt from the original
 //!
 //! Each call runs in a process of its own: a read past a lent slice ends that process alone.
 use differential::{compare, differences, generate, recorded, verdict};
-use differential::{histories, parts, swapped, tables};
+use differential::{histories, parts, swapped, tables, words};
 use std::process::{Command, ExitCode, Output};
 use std::sync::atomic::{AtomicUsize, Ordering};
 use std::sync::Mutex;
@@ -44,6 +44,7 @@ fn one(call: &str, seconds: f64) -> ExitCode {
     let lines = match generate::calls().find(|c| *c == call) {
         Some(call) => compare::call(call, Duration::from_secs_f64(seconds)),
         None if call == "tables" => tables(),
+        None if call == "words" => words(),
         None => {
             println!("there is no call {call}");
             return ExitCode::from(2);
@@ -65,8 +66,8 @@ fn all(seconds: f64) -> ExitCode {
     }
     count.lines(archive_faults(extent_refs::LINKED, extent_refs::MISSING));
     // A share for each call, and one each for the recorded answers, the histories, the parts and
-    // the swap; the tables are always as many. As many calls are compared at once as there are
-    // processors, each in a process of its own.
+    // the swap; the tables and the word steps are always as many. As many calls are compared at
+    // once as there are processors, each in a process of its own.
     let share = seconds / (calls.len() + 4) as f64;
     for (call, run) in calls.iter().zip(side_by_side(&calls, share)) {
         let text = String::from_utf8_lossy(&run.stdout).into_owned();
@@ -81,6 +82,7 @@ fn all(seconds: f64) -> ExitCode {
     count.lines(histories(Duration::from_secs_f64(share)));
     count.lines(parts(Duration::from_secs_f64(share)));
     count.lines(tables());
+    count.lines(words());
     count.lines(swapped(Duration::from_secs_f64(share)));
     count.sum()
 }

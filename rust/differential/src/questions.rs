@@ -77,7 +77,7 @@ impl Reached {
         if let Some(Arg::Lent(truth)) = self.truth().map(|at| &args[at]).filter(|_| code == 0) {
             self.truths.insert(*truth);
         }
-        let code = if self.call.result == "u32" { code } else { 0 };
+        let code = if self.call.result == "code" { code } else { 0 };
         let asks = self.call.asks.iter();
         let line = asks.clone().position(|(condition, _)| holds(self.call, condition, args));
         let seen = &mut self.seen[line.expect("a line without a condition")];

@@ -7,7 +7,7 @@ use crate::archive::{self, Archive};
 use crate::generate::{ample, calls, lent, random};
 use crate::random::Random;
 use crate::verdict::{has_original, inside, of_original, written, Verdict, ORIGINAL_HERE};
-use model::calls::{outcome, Arg, Outcome, Written};
+use model::calls::{outcome, returns_value, Arg, Outcome, Written};
 use std::path::PathBuf;
 
 const SEED: u64 = 7;
@@ -44,7 +44,7 @@ fn of_result(w: &Written) -> String {
 /// The word of an outcome, to hold beside a recorded one.
 fn word_of(call: &str, outcome: &Outcome) -> String {
     match outcome.code {
-        _ if call == "extent_write_data_ref_hash" => of_result(&written(call, outcome)),
+        _ if returns_value(call) => of_result(&written(call, outcome)),
         0 => of_result(&written(call, outcome)),
         100 => "a".into(),
         101 => "m".into(),

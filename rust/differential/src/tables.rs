@@ -26,20 +26,22 @@ pub fn tables() -> Vec<String> {
     lines
 }
 
-/// Entry `n` by the theory of these checksums, in which bits are the coefficients of a polynomial,
-/// the highest bit that of the lowest power: `n` times x^32, divided by x^32 and the polynomial,
-/// leaves the entry. The model and the archive halve a register eight times and ask if it was odd.
-/// Here nothing is halved and nothing is odd: a dividend of 40 bits loses multiples of the divisor
-/// from its highest power down. So a slip in the steps has no like here.
-fn entry(polynomial: u32, n: u8) -> u32 {
+/// What a division by x^32 and the polynomial leaves, by the theory of these checksums, in which
+/// bits are the coefficients of a polynomial, the highest bit of a number that of the lowest power.
+/// The dividend has its bits the other way round: bit n is the coefficient of x^n.
+pub fn rest(polynomial: u32, mut dividend: u64) -> u32 {
     let divisor = 1 << 32 | u64::from(polynomial.reverse_bits());
-    let mut rest = u64::from(n.reverse_bits()) << 32;
-    for power in (32..40).rev() {
-        if rest & 1 << power != 0 {
-            rest ^= divisor << (power - 32);
-        }
+    while dividend >> 32 != 0 {
+        dividend ^= divisor << (31 - dividend.leading_zeros());
     }
-    u32::try_from(rest).expect("a rest below the divisor").reverse_bits()
+    u32::try_from(dividend).expect("a rest below the divisor").reverse_bits()
+}
+
+/// Entry `n`, which `n` times x^32 leaves. The model and the archive halve a register eight times
+/// and ask if it was odd. Here nothing is halved and nothing is odd: a dividend of 40 bits loses
+/// multiples of the divisor from its highest power down. So a slip in the steps has no like here.
+fn entry(polynomial: u32, n: u8) -> u32 {
+    rest(polynomial, u64::from(n.reverse_bits()) << 32)
 }
 
 /// The text with these entries, without the formatter that the model uses.

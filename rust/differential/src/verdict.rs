@@ -1,5 +1,5 @@
 //! What the original answers, in words that the codes can be held to.
-use model::calls::{Arg, Outcome, Written};
+use model::calls::{returns_value, Arg, Outcome, Written};
 
 #[derive(Debug, Clone, PartialEq, Eq)]
 pub enum Verdict {
@@ -26,7 +26,7 @@ const OVERFLOWING: [&str; 4] = [
 
 /// Calls of document 02 that the original does not have, nor the parts to put them together from:
 /// they are held to the model, and each to a check of its own.
-const WITHOUT_ORIGINAL: [&str; 1] = ["crc32c_table_text"];
+const WITHOUT_ORIGINAL: [&str; 2] = ["crc32c_table_text", "crc32c_word_step"];
 
 /// Whether there is something in the original to compare a call with.
 pub fn has_original(call: &str) -> bool {
@@ -44,9 +44,9 @@ pub enum Agreement {
     Different,
 }
 
-/// What an accepted outcome wrote.
+/// What an accepted outcome wrote; a value that is returned stands for it.
 pub fn written(call: &str, outcome: &Outcome) -> Written {
-    if call == "extent_write_data_ref_hash" {
+    if returns_value(call) {
         return Written { numbers: vec![outcome.code], ..Written::default() };
     }
     let mut w = Written::default();
@@ -68,16 +68,14 @@ pub fn written(call: &str, outcome: &Outcome) -> Written {
 
 /// Whether the original is to be asked at all, by the model's code.
 pub fn inside(call: &str, code: u64) -> bool {
-    call == "extent_write_data_ref_hash" || (has_original(call) && !OUTSIDE.contains(&code))
+    has_original(call) && (returns_value(call) || !OUTSIDE.contains(&code))
 }
 
 pub fn agreement(call: &str, verdict: &Verdict, outcome: &Outcome) -> Agreement {
     let same = match (verdict, outcome.code) {
         (Verdict::NotAsked, _) => return Agreement::Outside,
         (Verdict::Panicked, 11 | 12) if OVERFLOWING.contains(&call) => return Agreement::Overflow,
-        (Verdict::Accepted(w), _) if call == "extent_write_data_ref_hash" => {
-            *w == written(call, outcome)
-        }
+        (Verdict::Accepted(w), _) if returns_value(call) => *w == written(call, outcome),
         (Verdict::Accepted(w), 0) => *w == written(call, outcome),
         (Verdict::Absent, code) => code == 100,
         (Verdict::Remove, code) => code == 101,
@@ -114,4 +112,16 @@ fn a_call_without_an_original_is_not_asked() {
         assert!([0, 5, 100].iter().all(|&code| !inside(call, code)));
     }
     assert!(inside("ledger_post", 0));
+}
+
+#[test]
+fn a_value_is_not_taken_for_a_code() {
+    for call in ["crc32c_word_step", "extent_write_data_ref_hash"] {
+        for code in [0, 5, 21, 100] {
+            let said = Outcome { code, args: vec![Arg::Number(7); 3] };
+            assert_eq!(written(call, &said).numbers, [code]);
+        }
+    }
+    let hash = "extent_write_data_ref_hash";
+    assert!(OUTSIDE.iter().all(|&value| inside(hash, value) && !inside("ledger_post", value)));
 }

@@ -17,6 +17,7 @@ pub enum Value<'a> {
 /// Every declared call.
 pub const NAMES: &[&str] = &[
     "crc32c_table_text",
+    "crc32c_word_step",
     "extent_write_data_ref_hash",
     "extent_write_tree_block_key",
     "extent_write_tree_block_body",
@@ -68,6 +69,9 @@ pub fn call(name: &str, args: &mut [Value<'_>]) -> Option<u64> {
     Some(match (name, args) {
         ("crc32c_table_text", [Number(polynomial), Out(out), Lent(len)]) => {
             u64::from(lent::crc32c_table_text(*polynomial as u32, out, len))
+        }
+        ("crc32c_word_step", [Number(register), Number(word)]) => {
+            u64::from(lent::crc32c_word_step(*register as u32, *word as u32))
         }
         ("extent_write_data_ref_hash", [Number(tree), Number(objectid), Number(offset)]) => {
             lent::extent_write_data_ref_hash(*tree, *objectid, *offset)

@@ -1,4 +1,5 @@
-//! The table of a checksum's polynomial, worked out and written as text.
+//! The register of CRC32C over a word, and the table of any polynomial, worked out and written as
+//! text.
 use crate::answer::written;
 use crate::lent;
 
@@ -7,6 +8,12 @@ pub const CRC32C: u32 = 0x82f6_3b78;
 
 /// How long the text is, whatever the polynomial.
 pub const TABLE_TEXT_BYTES: usize = 2_304;
+
+/// The register of CRC32C after the four bytes of `word`, the lowest first; nothing is inverted, so
+/// a finished checksum starts from all ones and is inverted by its caller.
+pub fn word_step(register: u32, word: u32) -> u32 {
+    lent::crc32c_word_step(register, word)
+}
 
 /// The table of a reflected polynomial: 256 lines of eight lower-case hexadecimal digits, entry 0
 /// first.

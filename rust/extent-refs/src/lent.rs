@@ -1,14 +1,19 @@
 //! Written by tools/declarations from include/calls.txt: do not edit.
 //!
-//! The plain form, which allocates nothing: the caller lends the output. A call returns 0 where
-//! it is accepted, else the number of the question that refused it, 100 for absent and 101 for
-//! remove. On anything but 0 every lent number is 0 and every other lent byte keeps its value;
-//! past an accepted result too. include/extent_refs.h says what each call asks and gives.
+//! The plain form, which allocates nothing: the caller lends the output. A call of which
+//! include/extent_refs.h says "Returns" returns that value and refuses nothing. Any other returns
+//! 0 where it is accepted, else the number of the question that refused it, 100 for absent and
+//! 101 for remove. On anything but 0 every lent number is 0 and every other lent byte keeps its
+//! value; past an accepted result too. The header also says what each call asks and gives.
 #![allow(clippy::too_many_arguments)]
 use crate::raw;
 
 pub fn crc32c_table_text(polynomial: u32, out: &mut [u8], len: &mut u64) -> u32 {
     unsafe { raw::crc32c_table_text(polynomial, out.as_mut_ptr(), out.len(), len) }
+}
+
+pub fn crc32c_word_step(register: u32, word: u32) -> u32 {
+    unsafe { raw::crc32c_word_step(register, word) }
 }
 
 pub fn extent_write_data_ref_hash(tree: u64, objectid: u64, offset: u64) -> u64 {

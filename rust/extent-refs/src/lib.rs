@@ -4,8 +4,8 @@
 //! driver's own modules, so that a driver swaps a module and keeps its callers: it re-exports
 //! [`chunk::DiskKey`] in place of its own key and gives its error type a
 //! `From<extent_refs::error::Error>`. [`ledger`] posts a change to a balanced item list, [`crc32c`]
-//! writes the table of a checksum. [`lent`] has every call in its plain form, which allocates
-//! nothing.
+//! runs a checksum over a word and writes a checksum's table. [`lent`] has every call in its plain
+//! form, which allocates nothing.
 //!
 //! Every result comes from the archive; this crate turns lists into bytes and codes into errors.
 pub mod backref;

@@ -4,6 +4,7 @@
 
 extern "C" {
     pub fn crc32c_table_text(polynomial: u32, out: *mut u8, out_len: usize, len: *mut u64) -> u32;
+    pub fn crc32c_word_step(register: u32, word: u32) -> u32;
     pub fn extent_write_data_ref_hash(tree: u64, objectid: u64, offset: u64) -> u64;
     pub fn extent_write_tree_block_key(
         bytenr: u64,

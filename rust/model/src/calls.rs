@@ -2,6 +2,7 @@
 use crate::asked::{ask, Asked, Stop};
 use crate::ledger::Change;
 use crate::sheet::Item;
+use crate::table::CALLS;
 use crate::{apply, body, hash, ledger, sheet};
 
 /// One C argument. Of a lent one it holds the contents before the call, or after it.
@@ -21,7 +22,7 @@ pub enum Arg {
     Lent(u64),
 }
 
-/// What a call returns, and its arguments after it.
+/// What a call returns, a code or a value, and its arguments after it.
 #[derive(Debug, Clone, PartialEq, Eq)]
 pub struct Outcome {
     pub code: u64,
@@ -248,11 +249,29 @@ fn room(args: &[Arg], written: &Written) -> Asked<()> {
     Ok(())
 }
 
-/// The whole outcome: the code, and every lent number and byte after the call.
+/// Whether a call returns a value of its own and no code.
+pub fn returns_value(call: &str) -> bool {
+    CALLS.iter().any(|row| row.name == call && row.result != "code")
+}
+
+/// What such a call returns.
+fn value(call: &str, args: &[Arg]) -> u64 {
+    let mut g = Given(args.iter());
+    match call {
+        "crc32c_word_step" => hash::word_step(g.u32(), g.u32()).into(),
+        "extent_write_data_ref_hash" => {
+            let [tree, objectid, offset] = g.triple();
+            hash::data_ref_hash(tree, objectid, offset)
+        }
+        other => panic!("no value of {other}"),
+    }
+}
+
+/// The whole outcome: the code, or the value that is returned in its place, and every lent number
+/// and byte after the call.
 pub fn outcome(call: &str, args: &[Arg]) -> Outcome {
-    if call == "extent_write_data_ref_hash" {
-        let [tree, objectid, offset] = Given(args.iter()).triple();
-        return Outcome { code: hash::data_ref_hash(tree, objectid, offset), args: args.to_vec() };
+    if returns_value(call) {
+        return Outcome { code: value(call, args), args: args.to_vec() };
     }
     let answered = answer(call, args).and_then(|written| {
         room(args, &written)?;

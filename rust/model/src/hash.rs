@@ -1,5 +1,5 @@
 //! Document 01, "The leaves": the CRC32C register bit by bit, without a table. Document 02, ticket 2:
-//! the table of any polynomial, as text.
+//! the table of any polynomial, as text; ticket 3: the register over a word.
 
 /// The polynomial of CRC32C, reflected.
 pub const CRC32C: u32 = 0x82f6_3b78;
@@ -17,6 +17,12 @@ pub fn register(from: u32, bytes: &[u8]) -> u32 {
         }
     }
     register
+}
+
+/// "For every register and word, one word step equals four byte steps, lowest byte first."
+pub fn word_step(from: u32, word: u32) -> u32 {
+    let byte = |place: u32| (word / 256_u32.pow(place) % 256) as u8;
+    (0..4).fold(from, |from, place| register(from, &[byte(place)]))
 }
 
 /// The finished checksum of `bytes`: all ones to start with, inverted at the end.

@@ -1,5 +1,5 @@
-//! Document 01's marked cases, its lister example, and the tables of document 02's ticket 2, on the
-//! model.
+//! Document 01's marked cases, its lister example, and of document 02 the tables of ticket 2 and the
+//! word steps of ticket 3, on the model.
 use crate::asked::Stop::{Refused, Remove};
 use crate::body::*;
 use crate::sheet::{bytes, insert, split_to_fit, Item};
@@ -74,6 +74,17 @@ fn vectors() {
     assert_eq!(hash::checksum(&[255; 32]), 0x62a8_ab43);
     assert_eq!(hash::checksum(&(0..32).collect::<Vec<u8>>()), 0x46dd_794e);
     assert_eq!(hash::checksum(&(0..32).rev().collect::<Vec<u8>>()), 0x113f_db5c);
+}
+
+#[test]
+fn word_steps() {
+    for same in [0, 1, 0x80, 0x6463_6261, hash::CRC32C, 1 << 31, u32::MAX] {
+        assert_eq!(hash::word_step(same, same), 0);
+    }
+    assert_eq!(hash::word_step(u32::MAX, 0), 0xb798_b438);
+    assert_eq!(hash::word_step(u32::MAX, u32::from_le_bytes(*b"abcd")), 0x6d37_f5ce);
+    assert_eq!(hash::word_step(0, 0x8000_0000), 0x82f6_3b78);
+    assert_eq!(hash::word_step(0, 1), 0xdd45_aab8);
 }
 
 #[test]

@@ -2,13 +2,14 @@
 //! differential run links, and that it notices each fault. It is no part of the product.
 //! The variable STANDIN_FAULT names the fault.
 #![allow(clippy::missing_safety_doc, clippy::too_many_arguments)]
-use model::calls::{outcome, Arg, Outcome};
+use model::calls::{outcome, returns_value, Arg, Outcome};
 use model::ledger::count;
 use model::sheet::read;
 use std::slice::{from_raw_parts, from_raw_parts_mut};
 use std::sync::OnceLock;
 
 mod texts;
+mod values;
 
 include!(concat!(env!("OUT_DIR"), "/exports.rs"));
 
@@ -19,6 +20,16 @@ fn fault() -> &'static str {
 
 /// The model's outcome, or one that is wrong in the way asked for.
 fn faulty(call: &str, args: &[Arg]) -> Outcome {
+    if !returns_value(call) {
+        return coded(call, args);
+    }
+    let right = || outcome(call, args).code;
+    let code = values::wrong(fault(), call, args).unwrap_or_else(right);
+    Outcome { code, args: args.to_vec() }
+}
+
+/// That of a call that returns a code.
+fn coded(call: &str, args: &[Arg]) -> Outcome {
     let mut said = match fault() {
         "drops all" if call == "ledger_post" => outcome(call, &of_all(args)),
         _ => wrong_text(call, args).unwrap_or_else(|| outcome(call, args)),

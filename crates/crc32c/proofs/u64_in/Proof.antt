@@ -1,47 +1,42 @@
--- `crc32c::u64_in` meets its contract. The loop's invariant: 32 steps a turn. The register keeps its 32 bits.
+-- `crc32c::u64_in` meets its contract. The loop's invariant: the run from here over the words that are left is the whole run.
 -- Assumes nothing.
 use mathlib.Core.Path.{_≡_, refl, sym, ap, _∙_}
-use Prim.Native.Nat.{ℕ, _+_, _-_, _*_, _≤_}
+use Prim.Native.Nat.{ℕ, _+_, _-_, _*_, _/_, _≤_}
 use native.Mathlib.Omega.{arith}
-use lib.Bits.{bitXor}
 use borrow.Author.Needs.{needs}
-use Rattle.crc32c.specs.Register.{crc32c, steps}
-use Rattle.crc32c_steps.proofs.Steps.{steps-add}
-use Rattle.crc32c.proofs.AtOnce.{eight-bytes}
+use Rattle.fields.specs.Numbers.{leBytes}
+use Rattle.crc32c.specs.Register.{crc32c, crcRun}
+use Rattle.crc32c.proofs.Words.{word-more}
 use Rattle.crc32c.proofs.u64_in.Statement.{statement}
 use Rattle.crc32c.proofs.u64_in.Tie as tie
 
 abbrev Inv-loop : tie.InvT-loop
-Inv-loop register x y₀ i₀ y i = (i ≤ 2) × (y ≡ steps crc32c (32 * i) (bitXor x register))
+Inv-loop register x r₀ rest₀ i₀ r rest i = (i ≤ 2) × (crcRun crc32c r (leBytes (4 * (2 - i)) rest) ≡ crcRun crc32c register (leBytes 8 x))
 
 abbrev μ-loop : tie.MeasureT-loop
-μ-loop register x y₀ i₀ y i = 2 - i
+μ-loop register x r₀ rest₀ i₀ r rest i = 2 - i
 
 loop-holds : tie.Need-loop-holds Inv-loop μ-loop
-unfolding steps
 loop-holds c = (omega arith, refl)
 
 loop-again : tie.Need-loop-again Inv-loop μ-loop
 loop-again c =
     let l = c .before .before .loop in
-    let a = c .before .before .before .args in
-    let start = bitXor (a .x) (a .register) in
-    let turn : 32 * l .i + 32 ≡ 32 * (l .i + 1) = omega arith in (
+    let left : 4 + 4 * (2 - (l .i + 1)) ≡ 4 * (2 - l .i) = omega arith in (
       omega arith,
-      c .down .ensures
-          ∙ ap (steps crc32c 32) (l .inv .1)
-          ∙ sym (steps-add crc32c (32 * l .i) 32 start)
-          ∙ ap (λ (k : ℕ). steps crc32c k start) turn,
+      ap (λ (s : ℕ). crcRun crc32c s (leBytes (4 * (2 - (l .i + 1))) (l .rest / 4294967296))) (c .word-step .ensures)
+          ∙ word-more crc32c (4 * (2 - (l .i + 1))) (l .r) (l .rest)
+          ∙ ap (λ (n : ℕ). crcRun crc32c (l .r) (leBytes n (l .rest))) left
+          ∙ l .inv .1,
     )
 
 returns : tie.Need-returns Inv-loop μ-loop
+unfolding crcRun leBytes
 returns c =
     let l = c .before .loop in
-    let a = c .before .before .args in
-    let done : l .i ≡ 2 = omega arith in
-    let all : l .y ≡ steps crc32c 64 (bitXor (a .x) (a .register)) = l .inv .1 ∙ ap (λ (i : ℕ). steps crc32c (32 * i) (bitXor (a .x) (a .register))) done in
-    eight-bytes (a .register) (a .x) (search needs) (search needs) all
+    let none : 4 * (2 - l .i) ≡ 0 = omega arith in
+    sym (ap (λ (n : ℕ). crcRun crc32c (l .r) (leBytes n (l .rest))) none) ∙ l .inv .1
 
 pub u64-in-spec : {M : Type 1} → statement M
 u64-in-spec =
-    tie.close (tie.spec Inv-loop μ-loop loop-holds (λ c. search needs) (λ c. search needs) (λ c. search needs) loop-again (λ c. search needs) returns)
+    tie.close (tie.spec Inv-loop μ-loop loop-holds (λ c. search needs) (λ c. search needs) (λ c. search needs) (λ c. search needs) loop-again returns)

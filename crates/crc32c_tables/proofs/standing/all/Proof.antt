@@ -23,7 +23,7 @@ returns c =
       generated = generated;
       lent = c .before .before .before .before .table .ensures ∙ sym generated;
       read =
-          four (c .before .before .before .read-table .ensures) (c .before .before .read-table2 .ensures) (c .before .read-table3 .ensures) (c .read-table4 .ensures)
+          four (c .before .before .before .read-row .ensures) (c .before .before .read-row2 .ensures) (c .before .read-row3 .ensures) (c .read-row4 .ensures)
           ∙ rows-of generated;
     }
 

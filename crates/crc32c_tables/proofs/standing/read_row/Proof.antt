@@ -1,4 +1,4 @@
--- `crc32c_tables::standing::read_table` meets its contract. The loop's invariant: the first n entries stand. Assumes nothing.
+-- `crc32c_tables::standing::read_row` meets its contract. The loop's invariant: the first n entries stand. Assumes nothing.
 use mathlib.Core.Path.{_≡_, refl, _∙_}
 use Prim.Native.Nat.{_+_, _-_, _*_, _≤_}
 use native.Mathlib.Omega.{arith}
@@ -6,15 +6,15 @@ use lib.ListN.{length, take, length-set}
 use borrow.Author.Needs.{needs}
 use Rattle.crc32c_steps.specs.Steps.{crc32c, steps, tableEntries}
 use Rattle.crc32c_steps.proofs.Entries.{entries-more, entries-all}
-use Rattle.crc32c_tables.proofs.standing.read_table.Statement.{statement}
-use Rattle.crc32c_tables.proofs.standing.read_table.Tie as tie
+use Rattle.crc32c_tables.proofs.standing.read_row.Statement.{statement}
+use Rattle.crc32c_tables.proofs.standing.read_row.Tie as tie
 
 abbrev Inv-loop : tie.InvT-loop
-Inv-loop k table₀ n₀ table n =
-    (n ≤ 256) × (length table ≡ 256) × (take n table ≡ take n (tableEntries (steps crc32c (8 * (k + 1))) 256 0))
+Inv-loop k row₀ n₀ row n =
+    (n ≤ 256) × (length row ≡ 256) × (take n row ≡ take n (tableEntries (steps crc32c (8 * (k + 1))) 256 0))
 
 abbrev μ-loop : tie.MeasureT-loop
-μ-loop k table₀ n₀ table n = 256 - n
+μ-loop k row₀ n₀ row n = 256 - n
 
 loop-holds : tie.Need-loop-holds Inv-loop μ-loop
 loop-holds c = (omega arith, refl, refl)
@@ -24,16 +24,16 @@ loop-again c =
     let l = c .before .before .loop in
     let k = c .before .before .before .args .k in (
       omega arith,
-      length-set (l .table) (l .n) _ ∙ l .inv .1,
-      entries-more (steps crc32c (8 * (k + 1))) 256 (l .table) (l .n) _ (l .inv .1) (omega arith) (l .inv .2) (c .read-entry .ensures),
+      length-set (l .row) (l .n) _ ∙ l .inv .1,
+      entries-more (steps crc32c (8 * (k + 1))) 256 (l .row) (l .n) _ (l .inv .1) (omega arith) (l .inv .2) (c .read-entry .ensures),
     )
 
 returns : tie.Need-returns Inv-loop μ-loop
 returns c =
     let l = c .before .loop in
-    entries-all (steps crc32c (8 * (c .before .before .args .k + 1))) 256 (l .table) (l .n) (l .inv .1) (omega arith) (l .inv .2)
+    entries-all (steps crc32c (8 * (c .before .before .args .k + 1))) 256 (l .row) (l .n) (l .inv .1) (omega arith) (l .inv .2)
 
-pub read-table-spec : {M : Type 1} → statement M
-read-table-spec =
+pub read-row-spec : {M : Type 1} → statement M
+read-row-spec =
     tie.close
     (tie.spec Inv-loop μ-loop loop-holds (λ c. search needs) (λ c κs. search needs) (λ c. search needs) (λ c. search needs) (λ c. search needs) (λ c. search needs) loop-again returns)
