@@ -10,9 +10,10 @@
  * 5n: of a reference; 5 alone is of the record, the key or the item number; 6h: of the 24 bytes
  * of the head alone; 17*: put only if the body grew; 21: of the lent output alone: the limits of
  * questions 1 and 3 hold the result in any case; 21+: of the lent output and of these limits;
- * (n): put, but no input is answered with "no"; n!: every input that comes to it is answered
- * with "no"; absent: a search found nothing: code 100, no refusal; remove: the item is to be
- * removed: code 101, no refusal.
+ * 23: of a leaf image: it has nodesize bytes, level 0 and the right checksum; 24: of a leaf
+ * image: its headers and data are packed, as btrfs has them; (n): put, but no input is answered
+ * with "no"; n!: every input that comes to it is answered with "no"; absent: a search found
+ * nothing: code 100, no refusal; remove: the item is to be removed: code 101, no refusal.
  */
 #ifndef EXTENT_REFS_H
 #define EXTENT_REFS_H
@@ -35,6 +36,11 @@ uint32_t crc32c_table_text(uint32_t polynomial, uint8_t *out, size_t out_len, ui
 /* Asks nothing.
  * Returns the register after the four bytes of the word, the lowest first. */
 uint32_t crc32c_word_step(uint32_t register_, uint32_t word);
+
+/* Asks nothing.
+ * Returns the register after a run over the bytes; a checksum's register starts at 0xffffffff
+ * and is inverted at the end. */
+uint32_t crc32c_update(uint32_t register_, const uint8_t *bytes, size_t bytes_len);
 
 /* extent_write: hash and allocation bodies */
 
@@ -435,6 +441,27 @@ uint32_t leaf_edit_item(
     const uint8_t *sheet, size_t sheet_len,
     uint64_t number,
     uint64_t *start,
+    uint64_t *len);
+
+/* leaf_image: leaves as they stand on the card */
+
+/* Asks 3 23 24 (1) 2 21.
+ * Gives the sheet of the items in the image; nodesize - 100 bytes of room hold it in any case.
+ * */
+uint32_t leaf_image_read(
+    uint32_t nodesize,
+    const uint8_t *image, size_t image_len,
+    uint8_t *out, size_t out_len,
+    uint64_t *len);
+
+/* Asks 1 2 3 18 21.
+ * Gives the image of a leaf with these items, nodesize bytes; of the header, which has 101
+ * bytes, bytes 32 to 95 are taken over. */
+uint32_t leaf_image_write(
+    uint32_t nodesize,
+    const uint8_t *header, size_t header_len,
+    const uint8_t *sheet, size_t sheet_len,
+    uint8_t *out, size_t out_len,
     uint64_t *len);
 
 /* ledger: postings */

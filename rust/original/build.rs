@@ -1,15 +1,24 @@
 //! Compiles the original's text where it lies: the folder that EXTENT_REFS_ORIGINAL names, or
 //! ../shared/docs/src beside the repository. Nothing of it is copied into the repository.
 //!
-//! `backref`, `leaf_edit` and `extent_write` are taken whole, by `#[path]`. Of `btree` two
-//! constants and of `transaction` the named items are cut out, unchanged, into OUT_DIR.
+//! `backref`, `leaf_edit` and `extent_write` are taken whole, by `#[path]`. Of `btree`, for its leaf
+//! reader, and of `transaction` the named items are cut out, unchanged, into OUT_DIR.
 //! Where the folder is missing the crate is empty, and says so.
 use std::path::{Path, PathBuf};
 use std::{env, fs};
 
 const WHOLE: [&str; 3] = ["backref", "leaf_edit", "extent_write"];
 
-const OF_BTREE: [&str; 2] = ["const HEADER_SIZE", "const ITEM_SIZE"];
+const OF_BTREE: [&str; 8] = [
+    "const HEADER_SIZE",
+    "const LEAF_DATA_OFFSET",
+    "const ITEM_SIZE",
+    "struct Item",
+    "impl Item",
+    "fn compare_keys",
+    "fn bad_block",
+    "fn parse_leaf_items",
+];
 
 const OF_TRANSACTION: [&str; 18] = [
     "struct Rewrite",
@@ -32,7 +41,14 @@ const OF_TRANSACTION: [&str; 18] = [
     "fn held_only_by",
 ];
 
-const USES: [&str; 3] = [
+const USES_OF_BTREE: [&str; 4] = [
+    "use std::cmp::Ordering;",
+    "use std::fmt;",
+    "use crate::chunk::{DiskKey, DISK_KEY_SIZE};",
+    "use crate::error::{Error, Result};",
+];
+
+const USES_OF_TRANSACTION: [&str; 3] = [
     "use crate::error::{Error, Result};",
     "use std::collections::{BTreeMap, BTreeSet};",
     "use crate::chunk::{key_type, DiskKey};",
@@ -48,6 +64,7 @@ fn main() {
     println!("cargo:rerun-if-env-changed=EXTENT_REFS_ORIGINAL");
     println!("cargo:rerun-if-changed=build.rs");
     println!("cargo:rerun-if-changed=src/public.rs");
+    println!("cargo:rerun-if-changed=src/public_btree.rs");
     for name in WHOLE.iter().chain(&["btree", "transaction"]) {
         println!("cargo:rerun-if-changed={}", folder.join(format!("{name}.rs")).display());
     }
@@ -65,23 +82,33 @@ fn main() {
     }
     fs::write(out.join("modules.rs"), modules).unwrap();
 
-    let btree =
-        "use crate::chunk::DISK_KEY_SIZE;\n".to_string() + &cut(&folder, "btree", &OF_BTREE);
+    // The original names these two among others in one statement over several lines.
+    let btree = "use crate::superblock::{le32, le64};\n".to_string()
+        + &sliced(&folder, "btree", &USES_OF_BTREE, &OF_BTREE)
+        + &public(&here, "public_btree.rs");
     fs::write(out.join("btree.rs"), btree).unwrap();
-
-    let text = fs::read_to_string(folder.join("transaction.rs")).unwrap();
-    let mut transaction = String::new();
-    for line in USES {
-        assert!(text.lines().any(|l| l == line), "transaction.rs has no line {line:?}");
-        transaction += &format!("{line}\n");
-    }
-    transaction += &cut(&folder, "transaction", &OF_TRANSACTION);
-    // A child module sees its parent's private items.
-    transaction += &format!("#[path = {:?}]\npub mod public;\n", here.join("src/public.rs"));
+    let transaction = sliced(&folder, "transaction", &USES_OF_TRANSACTION, &OF_TRANSACTION)
+        + &public(&here, "public.rs");
     fs::write(out.join("transaction.rs"), transaction).unwrap();
 
     println!("cargo:rustc-cfg=original_here");
     println!("cargo:here=1");
+}
+
+/// A child module, which sees its parent's private items.
+fn public(here: &Path, file: &str) -> String {
+    format!("#[path = {:?}]\npub mod public;\n", here.join("src").join(file))
+}
+
+/// The lines of `file` that bring names in, then its items.
+fn sliced(folder: &Path, file: &str, uses: &[&str], heads: &[&str]) -> String {
+    let text = fs::read_to_string(folder.join(format!("{file}.rs"))).unwrap();
+    let mut slice = String::new();
+    for line in uses {
+        assert!(text.lines().any(|l| l == *line), "{file}.rs has no line {line:?}");
+        slice += &format!("{line}\n");
+    }
+    slice + &cut(folder, file, heads)
 }
 
 /// The items of `file` whose first lines begin with `heads`, each with the attributes and

@@ -32,7 +32,7 @@ module _ (p : ℕ) where
   length-stepRows (suc n) m = ap suc (length-stepRows n (m + 8))
 
   -- what is above the bytes goes on by itself
-  lookUp-from : (n j y : ℕ) → steps p (8 * (n + j)) y ≡ bitXor (steps p (8 * j) (y / 2 ^ (8 * n))) (lookUp (stepRows p n (8 * (j + 1))) y)
+  pub lookUp-from : (n j y : ℕ) → steps p (8 * (n + j)) y ≡ bitXor (steps p (8 * j) (y / 2 ^ (8 * n))) (lookUp (stepRows p n (8 * (j + 1))) y)
   lookUp-from zero j y =
       let none : 0 + j ≡ j = omega arith in
       ap₂ (λ (k z : ℕ). steps p (8 * k) z) none (sym (div-one y)) ∙ sym (xor-zero-r (steps p (8 * j) (y / 1)))

@@ -3,10 +3,8 @@
 use mathlib.Core.Path.{_≡_, refl, sym, ap, ap₂, _∙_}
 use mathlib.Core.List.{List, [], _∷_, _++_}
 use Prim.Native.Nat.{ℕ, zero, suc, _+_, _*_, _/_, _%_, _^_, _≤_, _<_}
-use native.Mathlib.Numerals.{add-one}
 use native.Mathlib.Nat.{mod-lt, div-eq-of-lt, mul-one}
-use lib.ListN.{length, drop, getD, drop-of-length-le}
-use lib.Seq.{drop-cons}
+use lib.ListN.{length, drop, drop-of-length-le}
 use lib.Pow.{pow-pos, split}
 use lib.Bits.{bitXor, xor-zero-r, xor-self, xor-shr, xor-shifted, shifted-half, shifted-even}
 use Rattle.crc32c_steps.proofs.Steps.{steps-add}
@@ -65,12 +63,7 @@ module _ (p : ℕ) where
   run-append [] ys r = refl
   run-append (x ∷ xs) ys r = run-append xs ys (byteStep p r x)
 
-  -- one byte more of a run, and its end
-  pub run-more : (r : ℕ) (bs : List ℕ) (i : ℕ) → i < length bs
-      → crcRun p (byteStep p r (getD bs i 0)) (drop (i + 1) bs) ≡ crcRun p r (drop i bs)
-  unfolding crcRun
-  run-more r bs i h = rw (add-one, drop-cons bs i 0 h)
-
+  -- the end of a run
   pub run-done : (r : ℕ) (bs : List ℕ) (i : ℕ) → length bs ≤ i → crcRun p r (drop i bs) ≡ r
   unfolding crcRun
   run-done r bs i h = ap (crcRun p r) (drop-of-length-le bs h)

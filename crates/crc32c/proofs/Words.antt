@@ -1,21 +1,16 @@
 -- A word step, for any polynomial `p`: by four rows, and as part of a run. Assumes nothing.
 use mathlib.Core.Path.{_≡_, refl, sym, ap, ap₂, _∙_}
-use mathlib.Core.List.{List}
 use Prim.Native.Nat.{ℕ, _+_, _*_, _/_, _%_, _^_, _<_}
 use native.Mathlib.Omega.{arith}
-use native.Mathlib.Nat.{mod-lt, div-eq-of-lt, div-one}
-use lib.ListN.{getD}
-use lib.Pow.{pow-pos}
-use lib.Bits.{bitXor, xor-zero-l, xor-zero-r, xor-self, xor-lt}
+use native.Mathlib.Nat.{div-eq-of-lt}
+use lib.Bits.{bitXor, xor-zero-l, xor-self, xor-lt}
 use Rattle.fields.specs.Numbers.{leBytes}
 use Rattle.fields.proofs.Numbers.{leBytes-join}
 use Rattle.crc32c_steps.specs.Steps.{tableEntries, tableOf, nextRow, rowsFrom, rowsOf}
-use Rattle.crc32c_steps.proofs.Entries.{entries-at}
-use Rattle.crc32c_steps.proofs.Rows.{rows-of}
 use Rattle.crc32c.specs.Register.{crc32c, allOnes, step, steps, byteStep, wordStep, crcRun}
-use Rattle.crc32c.proofs.Xor.{xor-assoc}
 use Rattle.crc32c.proofs.Steps.{run-append}
 use Rattle.crc32c.proofs.AtOnce.{lookUp, run-at-once, run-by-rows}
+use Rattle.crc32c.proofs.Apart.{word-on}
 
 module _ (p : ℕ) where
   -- a word step is a run over the word's four bytes
@@ -44,20 +39,7 @@ module _ (p : ℕ) where
       ≡ bitXor
       (bitXor (bitXor (steps p 8 (bitXor r w / 16777216 % 256)) (steps p 16 (bitXor r w / 65536 % 256))) (steps p 24 (bitXor r w / 256 % 256)))
       (steps p 32 (bitXor r w % 256))
-  word-by-steps r w r< w< =
-      let y = bitXor r w in
-      let entry : (m n : ℕ) → getD (tableEntries (steps p m) 256 0) (n % 256) 0 ≡ steps p m (n % 256) =
-      λ m n. entries-at (steps p m) 256 (n % 256) (mod-lt n (pow-pos 8)) in
-      let a = steps p 8 (y / 16777216 % 256) in
-      let b = steps p 16 (y / 65536 % 256) in
-      let c = steps p 24 (y / 256 % 256) in
-      let d = steps p 32 (y % 256) in
-      let last : bitXor (getD (tableEntries (steps p 32) 256 0) (y / 1 % 256) 0) 0 ≡ d =
-      xor-zero-r (getD (tableEntries (steps p 32) 256 0) (y / 1 % 256) 0) ∙ entry 32 (y / 1) ∙ ap (λ (z : ℕ). steps p 32 (z % 256)) (div-one y) in
-      word-by-rows r w r< w<
-      ∙ ap (λ (rows : List (List ℕ)). lookUp rows y) (rows-of p 4)
-      ∙ ap₂ bitXor (entry 8 (y / 16777216)) (ap₂ bitXor (entry 16 (y / 65536)) (ap₂ bitXor (entry 24 (y / 256)) last))
-      ∙ sym (xor-assoc (bitXor a b) c d ∙ xor-assoc a b (bitXor c d))
+  word-by-steps r w r< w< = word-xor r w w< ∙ word-on p 0 (bitXor r w) (xor-lt 32 r w r< w<)
 
   -- a word step and the words behind it are a run over all of them
   pub word-more : (n r x : ℕ) → crcRun p (wordStep p r (x % 4294967296)) (leBytes n (x / 4294967296)) ≡ crcRun p r (leBytes (4 + n) x)

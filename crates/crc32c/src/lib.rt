@@ -1,11 +1,18 @@
 // The CRC32C register of RFC 3720, by rows of 256 constants.
 //
-// A constant array is copied to the stack where it is named. A run over a slice makes one copy of the table and lends it to each
-// step; a word step takes the entries of the rows one by one and makes none.
+// A constant array is copied to the stack where it is named. A long run over a slice makes one copy of sixteen rows and lends it to
+// each step; a word step takes the entries of four rows one by one and makes none.
+mod sixteen;
+
 ghost use mathlib.Core.Path.{_≡_};
 ghost use mathlib.Core.List.{_++_};
+ghost use Prim.Native.Nat.{_+_, _≤_, _<_};
+ghost use lib.ListN.{length, drop};
 ghost use Rattle.crc32c.specs.Register.{crc32c, allOnes, tableOf, byteStep, wordStep, crcRun, inverted};
-ghost use Rattle.fields.specs.Numbers.{leBytes};
+ghost use Rattle.fields.specs.Numbers.{le, leBytes};
+
+// From about so many bytes on a run is worth the copy of the rows, 16 KB.
+const LONG: usize = 512;
 
 // The register after one more byte, by a lent table.
 fn byte_in(t: &[u32; 256], register: u32, b: u8) -> u32
@@ -25,18 +32,71 @@ pub fn byte_step(register: u32, b: u8) -> u32
     byte_in(&t, register, b)
 }
 
+// The number of the bytes from a position on, which are fewer than eight, lowest first.
+fn last_number(bytes: &[u8], at: usize) -> u64
+    requires { ⌜ (at ≤ length (now bytes)) × (length (now bytes) < at + 8) ⌝ }
+    ensures { λ r. ⌜ r ≡ le (drop at (now (bytes .entry))) ⌝ }
+{
+    let mut x: u64 = 0;
+    let mut i = bytes.len();
+    while at < i {
+        i -= 1;
+        x = x * 256 + (bytes[i] as u64);
+    }
+    x
+}
+
+// The register after the bytes from a position on, fewer than eight, all at once: they are the last ones of a run over eight from 0
+// whose first are zeros, and zeros leave 0 as it is. What of the register stands above them goes down by itself.
+fn last_in(register: u32, bytes: &[u8], at: usize) -> u32
+    requires { ⌜ (at < length (now bytes)) × (length (now bytes) < at + 8) ⌝ }
+    ensures { λ r. ⌜ r ≡ crcRun crc32c register (drop at (now (bytes .entry))) ⌝ }
+{
+    let x = last_number(bytes, at);
+    let bits = 8 * (bytes.len() - at);
+    let above = ((register as u64) >> bits) as u32;
+    above ^ u64_in(0, ((register as u64) ^ x) << (64 - bits))
+}
+
+// The register after a run over the bytes from a position on, eight at a time.
+fn run_from(register: u32, bytes: &[u8], from: usize) -> u32
+    requires { ⌜ from ≤ length (now bytes) ⌝ }
+    ensures { λ r. ⌜ r ≡ crcRun crc32c register (drop from (now (bytes .entry))) ⌝ }
+{
+    let mut r = register;
+    let mut at = from;
+    while 8 <= bytes.len() - at {
+        r = u64_in(r, fields::get_u64_le(bytes, at));
+        at += 8;
+    }
+    if at < bytes.len() {
+        return last_in(r, bytes, at);
+    }
+    r
+}
+
+// The same over all of them, sixteen at a time.
+fn long_run(register: u32, bytes: &[u8]) -> u32
+    ensures { λ r. ⌜ r ≡ crcRun crc32c register (now (bytes .entry)) ⌝ }
+{
+    let rows = crc32c_tables::sixteen_rows();
+    let mut r = register;
+    let mut at = 0;
+    while 16 <= bytes.len() - at {
+        r = sixteen::bytes_in(&rows, r, bytes, at);
+        at += 16;
+    }
+    run_from(r, bytes, at)
+}
+
 // The register after a run over bytes.
 pub fn update(register: u32, bytes: &[u8]) -> u32
     ensures { λ r. ⌜ r ≡ crcRun crc32c register (now (bytes .entry)) ⌝ }
 {
-    let t = crc32c_tables::table();
-    let mut r = register;
-    let mut i = 0;
-    while i < bytes.len() {
-        r = byte_in(&t, r, bytes[i]);
-        i += 1;
+    if bytes.len() < LONG {
+        return run_from(register, bytes, 0);
     }
-    r
+    long_run(register, bytes)
 }
 
 // The register after one more word: all four bytes are xored in at once, and each goes its own way, by a row. Three bytes more follow

@@ -1,4 +1,6 @@
--- Document 02, ticket 2: "The table in the library equals the generator's result, shown over all entries together." Assumes nothing.
+-- Document 02, ticket 2: "The table in the library equals the generator's result, shown over all entries together." The rows behind
+-- the first four stand in arrays alone, and `crc32c_tables::sixteen_rows` hands them out: its contract says the same of all sixteen,
+-- which are `rowsOf crc32c 16`, the polynomial's table and fifteen rows more. Assumes nothing.
 use mathlib.Core.Path.{_≡_}
 use mathlib.Core.List.{[], _∷_}
 use Rattle.crc32c_steps.specs.Steps.{crc32c, tableOf, rowsFrom}

@@ -1,4 +1,5 @@
-// The table and the rows that stand in the library, read over all entries together, and the generator's result beside them.
+// The table and the rows that stand in the library, read over all entries together, and the generator's result beside them. Of the rows
+// that a long run reads, which are handed out as they stand, `crc32c_tables::sixteen_rows` says it.
 ghost use mathlib.Core.Path.{_≡_};
 ghost use Prim.Native.Nat.{_+_, _*_, _<_};
 ghost use Rattle.crc32c_steps.specs.Steps.{crc32c, steps, tableEntries};

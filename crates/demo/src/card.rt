@@ -66,6 +66,20 @@ pub fn insert_unbounded(card: Card, key: Key, body: &[u8]) -> Edit {
     edited(card, answer, out)
 }
 
+// The list as a leaf of the card, whose header says nothing of its place; and a leaf as the list that it holds.
+pub fn write_leaf(card: Card, nodesize: u32) -> Edit {
+    let header = [0u8; 101];
+    let mut out = [0u8; 4096];
+    let answer = leaf_image::write(nodesize, &header, list(&card.bytes, card.size), &mut out);
+    edited(card, answer, out)
+}
+
+pub fn read_leaf(leaf: Card, nodesize: u32) -> Edit {
+    let mut out = [0u8; 4096];
+    let answer = leaf_image::read(nodesize, list(&leaf.bytes, leaf.size), &mut out);
+    edited(leaf, answer, out)
+}
+
 // The total that a record's body begins with.
 pub fn total(body: &[u8]) -> u64 {
     if body.len() < 8 {

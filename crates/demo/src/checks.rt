@@ -1,7 +1,8 @@
-// Three checks: two on the card of ten shifts, and `crowded`.
+// Four checks: three on the card of ten shifts, and `crowded`.
 use crate::card;
 use crate::card::Card;
 use crate::crowded;
+use crate::image;
 use crate::say;
 use crate::shifts;
 ghost use Prim.Native.Nat.{_≤_};
@@ -69,7 +70,7 @@ fn delete_oldest(card: Card) -> bool {
 // The number of checks that came out wrong.
 pub fn show() -> u32 {
     say::text(
-        b"Three checks, two of them on a card of ten shifts over one base survey. Each shift uses the survey,\n\
+        b"Four checks, three of them on a card of ten shifts over one base survey. Each shift uses the survey,\n\
           its own map and the map of the shift before:\n\n",
     );
     let card = shifts::ten();
@@ -85,6 +86,10 @@ pub fn show() -> u32 {
         crowded::save(),
         b"Both leaves fit, and every map is there, in order.",
     );
+    let stored = verdict(
+        image::store(card),
+        b"It is the same list, byte for byte, and the damage is seen.",
+    );
     say::text(b"\n");
-    counted + deleted + saved
+    counted + deleted + saved + stored
 }

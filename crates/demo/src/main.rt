@@ -4,6 +4,7 @@ mod card;
 mod changes;
 mod checks;
 mod crowded;
+mod image;
 mod leaves;
 mod listing;
 mod say;
@@ -12,11 +13,11 @@ mod words;
 
 fn last_line(wrong: u32) {
     if wrong == 0 {
-        say::text(b"All three checks came out as they should.\n");
+        say::text(b"All four checks came out as they should.\n");
         return;
     }
     say::number(wrong as u64);
-    say::text(b" of the three checks did not come out as they should.\n");
+    say::text(b" of the four checks did not come out as they should.\n");
 }
 
 fn main() {

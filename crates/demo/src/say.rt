@@ -46,6 +46,7 @@ pub fn answer(code: u32) {
         9 => text(b" (it stands there already)"),
         13 => text(b" (it is the extent's last reference)"),
         18 => text(b" (it would not fit in the leaf)"),
+        23 => text(b" (its checksum is wrong)"),
         _ => text(b""),
     }
 }

@@ -1,9 +1,9 @@
-// A checksum's register over a word, and the table of its polynomial as text.
+// A checksum's register over a word and over bytes, and the table of its polynomial as text.
 ghost use mathlib.Core.Path.{_≡_};
 ghost use lib.ListN.{length};
 ghost use Rattle.format.specs.Questions.{Answered, heldText};
 ghost use Rattle.crc32c_text.specs.Text.{tableText};
-ghost use Rattle.crc32c.specs.Register.{crc32c, wordStep};
+ghost use Rattle.crc32c.specs.Register.{crc32c, wordStep, crcRun};
 ghost use Rattle.extent_refs.specs.Exports.{Coded};
 use format::Edited;
 
@@ -29,4 +29,11 @@ pub extern "C" fn crc32c_word_step(register: u32, word: u32) -> u32
     ensures { λ r. ⌜ r ≡ wordStep crc32c register word ⌝ }
 {
     crc32c::word_in(register, word)
+}
+
+#[no_mangle]
+pub extern "C" fn crc32c_update(register: u32, bytes: &[u8]) -> u32
+    ensures { λ r. ⌜ r ≡ crcRun crc32c register (now (bytes .entry)) ⌝ }
+{
+    crc32c::update(register, bytes)
 }

@@ -7,6 +7,7 @@ mod codes;
 mod crc32c_calls;
 mod extent_write_calls;
 mod leaf_edit_calls;
+mod leaf_image_calls;
 mod ledger_calls;
 mod transaction_calls;
 

@@ -155,6 +155,15 @@ unfolding be beBytes
 beBytes-be-at width bytes e t =
     ap reverse (leBytes-le-at width (reverse bytes) (length-reverse bytes ∙ e) (areBytes-reverse bytes t)) ∙ reverse-reverse bytes
 
+-- a byte
+pub leBytes-one : (n : ℕ) → n < 256 → leBytes 1 n ≡ n ∷ []
+unfolding leBytes
+leBytes-one n h = let e : n % 256 ≡ n = omega arith in ap (λ (k : ℕ). k ∷ []) e
+
+pub beBytes-one : (n : ℕ) → n < 256 → beBytes 1 n ≡ n ∷ []
+unfolding beBytes
+beBytes-one n h = ap reverse (leBytes-one n h)
+
 -- ---- a byte-swapped number
 
 -- read lowest byte first and byte-swapped, it is the number read highest byte first

@@ -5,8 +5,8 @@ use Prim.Native.Nat.{ℕ, zero, suc, _+_, _-_, _≤_, _<_}
 use native.Mathlib.Nat.{add-zero, zero-add, add-suc, suc-add}
 use native.Mathlib.Numerals.{add-one, towards-suc}
 use native.Mathlib.Omega.{arith}
-use lib.ListN.{length, take, drop, getD, set, length-append, length-drop, take-append-drop}
-use lib.Seq.{sets, sets-eq, length-sets, drop-cons, take-add, take-all, take-at, drop-at, drop-drop, length-take-le}
+use lib.ListN.{length, take, drop, getD, set, replicate, length-append, length-drop, length-replicate, take-append-drop}
+use lib.Seq.{sets, sets-eq, length-sets, set-comm, drop-cons, take-add, take-take, take-all, take-at, drop-at, drop-drop, length-take-le}
 use Rattle.fields.specs.Parts.{part, written, spliced}
 
 -- ---- parts
@@ -45,6 +45,20 @@ length-part size at list h = length-take-le size (drop at list) (simp length-dro
 -- a part in two
 pub part-add : (m n at : ℕ) (list : List ℕ) → part at (m + n) list ≡ part at m list ++ part (at + m) n list
 part-add m n at list = take-add m n (drop at list) ∙ ap (λ (l : List ℕ). take m (drop at list) ++ take n l) (drop-drop m at list)
+
+-- a part of what stands from a position on, and of the front
+pub part-drop : (at n m : ℕ) (list : List ℕ) → part n m (drop at list) ≡ part (at + n) m list
+part-drop at n m list = ap (take m) (drop-drop n at list)
+
+pub part-take : (at size n : ℕ) (list : List ℕ) → at + size ≤ n → part at size (take n list) ≡ part at size list
+part-take zero size n list h = take-take size n list (omega arith)
+part-take (suc at) size zero list h = absurd (omega arith)
+part-take (suc at) size (suc n) [] h = refl
+part-take (suc at) size (suc n) (x ∷ list) h = part-take at size n list (omega arith)
+
+-- lists with the same front have the same parts of it
+pub part-same : (at size n : ℕ) (a b : List ℕ) → at + size ≤ n → take n a ≡ take n b → part at size a ≡ part at size b
+part-same at size n a b h e = sym (part-take at size n a h) ∙ ap (part at size) e ∙ part-take at size n b h
 
 -- the whole, and what is left from a position on
 pub part-all : (size : ℕ) (list : List ℕ) → length list ≡ size → part 0 size list ≡ list
@@ -95,6 +109,55 @@ pub written-next : (a b old : List ℕ) (n : ℕ) → length a ≡ n → n + len
 written-next a b old n e h =
     let h′ : 0 + (n + length b) ≤ length old = omega arith in
     ap (λ (k : ℕ). written k b (written 0 a old)) (sym (zero-add n)) ∙ written-twice 0 a b old n e h′
+
+set-apart : (y l : List ℕ) (i j x : ℕ) → i < j → set (sets l j y) i x ≡ sets (set l i x) j y
+set-apart [] l i j x h = refl
+set-apart (b ∷ y) l i j x h =
+    let later : i < suc j = omega arith in
+    set-apart y (set l j b) i (suc j) x later
+    ∙ ap (λ (m : List ℕ). sets m (suc j) y) (set-comm l j i b x (λ e. omega (arith, e, h)))
+
+sets-apart : (x y l : List ℕ) (i j : ℕ) → i + length x ≤ j → sets (sets l j y) i x ≡ sets (sets l i x) j y
+sets-apart [] y l i j h = refl
+sets-apart (a ∷ x) y l i j h =
+    let first : i < j = omega arith in
+    let rest : suc i + length x ≤ j = omega arith in
+    ap (λ (m : List ℕ). sets m (suc i) x) (set-apart y l i j a first) ∙ sets-apart x y (set l i a) (suc i) j rest
+
+-- two writes that do not touch each other change places
+pub written-apart : (i j : ℕ) (x y old : List ℕ) → i + length x ≤ j → j + length y ≤ length old
+    → written i x (written j y old) ≡ written j y (written i x old)
+written-apart i j x y old apart h =
+    let hx : i + length x ≤ length old = omega arith in
+    let hxy : i + length x ≤ length (sets old j y) = omega (arith, length-sets old j y) in
+    let hyx : j + length y ≤ length (sets old i x) = omega (arith, length-sets old i x) in
+    ap (written i x) (sym (stores y old j h)) ∙ sym (stores x (sets old j y) i hxy)
+    ∙ sets-apart x y old i j apart
+    ∙ stores y (sets old i x) j hyx ∙ ap (written j y) (stores x old i hx)
+
+-- a write just before another joins it
+pub written-before : (at n : ℕ) (a b old : List ℕ) → length a ≡ n → at + (n + length b) ≤ length old
+    → written at a (written (at + n) b old) ≡ written at (a ++ b) old
+written-before at n a b old e h =
+    let apart : at + length a ≤ at + n = omega arith in
+    let hb : at + n + length b ≤ length old = omega arith in
+    written-apart at (at + n) a b old apart hb ∙ written-twice at a b old n e h
+
+replicate-more : (n a : ℕ) → replicate n a ++ a ∷ [] ≡ replicate (suc n) a
+replicate-more zero a = refl
+replicate-more (suc n) a = ap (λ (l : List ℕ). a ∷ l) (replicate-more n a)
+
+-- one more byte set to 0 behind those that are
+pub cleared-more : (at i : ℕ) (old : List ℕ) → at + suc i ≤ length old
+    → set (written at (replicate i 0) old) (at + i) 0 ≡ written at (replicate (suc i) 0) old
+cleared-more at i old h =
+    let zeros : List ℕ = replicate i 0 in
+    let long : length zeros ≡ i = length-replicate i 0 in
+    let inside : at + length zeros ≤ length old = omega (arith, long) in
+    let room : at + i + 1 ≤ length (written at zeros old) = omega (arith, length-written at zeros old inside) in
+    stores-one (written at zeros old) (at + i) 0 room
+    ∙ written-twice at zeros (0 ∷ []) old i long (omega arith)
+    ∙ ap (λ (l : List ℕ). written at l old) (replicate-more i 0)
 
 -- the same, as two calls in a row leave it
 pub written-pair : (at m n : ℕ) (a b old one two : List ℕ) → length a ≡ m → length b ≡ n → at + (m + n) ≤ length old

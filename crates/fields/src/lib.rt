@@ -1,11 +1,13 @@
 // Numbers inside byte slices, and copies of lent bytes. What each call does is one `written` (specs/Parts.antt), so that calls in
 // a row compose by one law.
 mod appending;
+mod clearing;
 mod copy;
 mod get;
 mod put;
 
 pub use appending::append;
+pub use clearing::clear;
 pub use copy::copy_at;
 pub use get::get_u32_be;
 pub use get::get_u32_le;

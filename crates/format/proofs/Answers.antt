@@ -57,6 +57,14 @@ pub bind-yes : {A B : Type 0} (r : Answer A) (next : A → Answer B) {a : A} →
 unfolding bind
 bind-yes r next e = ap (λ x. bind x next) e
 
+-- what follows matters where it is reached
+pub bind-same : {A B : Type 0} (r : Answer A) (f g : A → Answer B) → ((a : A) → r ≡ accepted a → f a ≡ g a) → bind r f ≡ bind r g
+unfolding bind
+bind-same (refused n) f g h = refl
+bind-same absent f g h = refl
+bind-same remove f g h = refl
+bind-same (accepted a) f g h = h a refl
+
 -- one after the other, from the left or from the right
 pub bind-next : {A B C : Type 0} (a : Answer A) (f : A → Answer B) (g : B → Answer C) → bind a (λ x. bind (f x) g) ≡ bind (bind a f) g
 unfolding bind

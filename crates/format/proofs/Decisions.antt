@@ -1,20 +1,21 @@
--- Which calls are never absent or remove, and refused with the number of a question alone: those that answer a number or a judgement, the readers of bodies and of item lists, and
--- the lookup; and that a reference taken out is never remove. Assumes nothing.
+-- Which calls are never absent or remove, and refused with the number of a question alone: those that answer a number or a judgement, the readers of bodies and of item lists,
+-- the lookup, and the calls on leaf images; and that a reference taken out is never remove. Assumes nothing.
 use mathlib.Core.Bool.{Bool, true, false, _&&_}
 use mathlib.Core.List.{List}
 use mathlib.Core.Option.{Option, none, some}
-use Prim.Native.Nat.{ℕ}
-use lib.Dec.{T, leb}
-use lib.ListN.{length, getElem?}
+use Prim.Native.Nat.{ℕ, zero, suc, _-_, _*_}
+use lib.Dec.{T, leb, eqb}
+use lib.ListN.{length, drop, getElem?}
 use Rattle.fields.specs.Lists.{firstCut}
 use Rattle.format.specs.declared.DataRef.{DataRef}
 use Rattle.format.specs.declared.SharedRef.{SharedRef}
 use Rattle.format.specs.Questions.{Answer, refused, absent, remove, accepted, isRefusal, decides, keeps, ask, bind, needed, found}
 use Rattle.format.specs.References.{readRefs, Body, readBody}
 use Rattle.format.specs.Bodies.{bodyFits, onBody, onHead, named, one, sharedKind, flags, refNumbered, inlineRef, sharedAddKey, holdsInlineDataRef, takeInlineShared, sharedAddInlineSize, keyedDataRefNames, heldOnlyBy}
-use Rattle.format.specs.Items.{Item, readSheet, onSheet, nodesizeFits, dataFits}
-use Rattle.format.specs.Sheets.{fit, fits, itemData, itemStart}
+use Rattle.format.specs.Items.{Item, readSheet, sheetBytes, onSheet, nodesizeFits, dataFits}
+use Rattle.format.specs.Sheets.{spaceOf, fit, fits, itemData, itemStart}
 use Rattle.format.specs.Apply.{maxInlineExtentItem, recordOf, onRecord, recordNumber}
+use Rattle.format.specs.LeafImage.{countIn, isLeaf, dataPosition, imageItems, itemsInImage, readImage, writeImage}
 use Rattle.format.proofs.Refs.{Reads, read, strange as strange-ref, cutOff as cut-ref, readRefs-decides}
 use Rattle.format.proofs.Bodies.{ReadsBody, body, short, strange, cutOff, readBody-decides}
 use Rattle.format.proofs.Items.{ReadsSheet, sheet, broken, unsorted, readSheet-decides}
@@ -140,6 +141,29 @@ inline-ref-decides type d number =
 pub shared-key-decides : (bytenr : ℕ) (name : SharedRef) → T (decides (sharedAddKey bytenr name))
 unfolding sharedAddKey
 shared-key-decides bytenr name = decides-ask (sharedKind (name .kind)) 3 tt _ tt
+
+-- ---- leaf images
+
+pub image-items-decide : (least : ℕ) (area : List ℕ) (count end : ℕ) (headers : List ℕ) → T (decides (imageItems least area count end headers))
+unfolding imageItems
+image-items-decide least area zero end headers = tt
+image-items-decide least area (suc count) end headers =
+    decides-ask _ 24 tt _
+    (decides-bind (imageItems least area count (dataPosition headers) (drop 25 headers)) _
+    (image-items-decide least area count (dataPosition headers) (drop 25 headers)) (λ items. tt))
+
+pub read-image-decides : (nodesize : ℕ) (image : List ℕ) → T (decides (readImage nodesize image))
+unfolding readImage
+read-image-decides nodesize image =
+    decides-ask (nodesizeFits nodesize) 3 tt _
+    (decides-ask (isLeaf nodesize image) 23 tt _
+    (decides-bind (itemsInImage nodesize image) _
+    (image-items-decide (25 * countIn image) (drop 101 image) (countIn image) (nodesize - 101) (drop 101 image)) (λ items. sheet-decides (sheetBytes items))))
+
+pub write-image-decides : (nodesize : ℕ) (header s : List ℕ) → T (decides (writeImage nodesize header s))
+unfolding writeImage
+write-image-decides nodesize header s =
+    on-sheet-decides s (nodesizeFits nodesize && eqb (length header) 101) _ (λ items. decides-ask (leb (spaceOf items) nodesize) 18 tt _ tt)
 
 -- ---- a reference taken out
 

@@ -1,23 +1,24 @@
--- Item lists as bytes: what is written is read back, what is read is written as it stood, and the steps of the reading.
--- Assumes nothing.
+-- Item lists as bytes: what is written is read back, what is read is written as it stood, and the steps of the reading; and the size
+-- of a leaf for them. Assumes nothing.
 use mathlib.Core.Path.{_≡_, refl, sym, ap, ap₂, _∙_, subst}
 use mathlib.Core.Logic.{_⊎_, inl, inr}
 use mathlib.Core.Bool.{Bool, true, false, _&&_}
 use mathlib.Core.List.{List, [], _∷_, _++_, append-assoc}
-use Prim.Native.Nat.{ℕ, zero, suc, _+_, _-_, _%_, _≤_, _<_}
+use Prim.Native.Nat.{ℕ, zero, suc, _+_, _-_, _≤_, _<_}
 use native.Mathlib.Omega.{arith}
 use lib.Dec.{T, leb, ltb, eqb, eqb→eq, leb→le, le→leb, ltb→lt, lt→ltb}
 use lib.ListN.{length, take, drop, getD, length-append, length-take, take-append-drop}
 use lib.Seq.{take-at, drop-at, drop-drop, getD-drop}
 use mir.Facts.{and-yes, yes-and}
 use Rattle.fields.specs.Lists.{sum, all}
-use Rattle.fields.specs.Numbers.{leBytes, be, beBytes, areBytes}
+use Rattle.fields.specs.Numbers.{be, beBytes, areBytes}
 use Rattle.fields.specs.Parts.{part}
-use Rattle.fields.proofs.Numbers.{areBytes-drop, areBytes-append, areBytes-part, areBytes-beBytes, length-beBytes, be-bound, be-beBytes, beBytes-be-at}
+use Rattle.fields.proofs.Lists.{all-map}
+use Rattle.fields.proofs.Numbers.{areBytes-drop, areBytes-append, areBytes-part, areBytes-beBytes, length-beBytes, be-bound, be-beBytes, beBytes-be-at, beBytes-one}
 use Rattle.fields.proofs.Parts.{part-is, part-add, length-part}
 use Rattle.format.specs.declared.Key.{Key}
 use Rattle.format.specs.Questions.{Answer, refused, accepted, ask, bind}
-use Rattle.format.specs.Items.{Item, rising, itemLength, wholeItem, firstItem, readItems, readSheet, keyBytes, itemBytes, itemsBytes, sheetBytes}
+use Rattle.format.specs.Items.{Item, rising, itemLength, wholeItem, firstItem, readItems, readSheet, keyBytes, itemBytes, itemsBytes, sheetBytes, nodesizeFits, dataFits}
 use Rattle.format.proofs.Answers.{refused-not, accepted-inj, ask-ok, ask-yes, bind-ok}
 use Rattle.format.proofs.Refs.{bind-refused}
 
@@ -65,6 +66,23 @@ sane-in i s =
     let k = lt→ltb (i .key .kind) 256 (s .kindSmall) in
     let f = lt→ltb (i .key .offset) 18446744073709551616 (s .offsetSmall) in
     yes-and b₄ _ (yes-and b₃ _ (yes-and b₂ _ (yes-and b₁ _ o k) f) (le→leb (length (i .bytes)) 65535 (s .bytesFit))) (s .bytesSmall)
+
+-- their data is within the limit
+pub sane-fit : (items : List Item) → T (all sane items) → T (all (λ i. dataFits (i .bytes)) items)
+unfolding dataFits
+sane-fit items t = all-map sane (λ i. leb (length (i .bytes)) 65535) (λ i h. le→leb (length (i .bytes)) 65535 (sane-out i h .bytesFit)) items t
+
+-- ---- a leaf's size
+
+pub nodesize-out : (nodesize : ℕ) → T (nodesizeFits nodesize) → (501 ≤ nodesize) × (nodesize ≤ 65536)
+unfolding nodesizeFits
+nodesize-out nodesize t =
+    let h = and-yes (leb 501 nodesize) _ t in
+    (leb→le 501 nodesize (h .0), leb→le nodesize 65536 (h .1))
+
+pub nodesize-in : (nodesize : ℕ) → 501 ≤ nodesize → nodesize ≤ 65536 → T (nodesizeFits nodesize)
+unfolding nodesizeFits
+nodesize-in nodesize h k = yes-and (leb 501 nodesize) (leb nodesize 65536) (le→leb 501 nodesize h) (le→leb nodesize 65536 k)
 
 -- ---- lengths
 
@@ -222,10 +240,6 @@ readItems-count (suc n) (b ∷ l) items e =
 
 -- ---- written and read back
 
-pub beBytes-one : (n : ℕ) → n < 256 → beBytes 1 n ≡ n ∷ []
-unfolding beBytes leBytes
-beBytes-one n h = let e : n % 256 ≡ n = omega arith in ap (λ (k : ℕ). k ∷ []) e
-
 module _ (i : Item) (more : List ℕ) where
   -- the fields of an item's bytes, one after the other
   pub itemBytes-parts : itemBytes i ++ more
@@ -316,13 +330,17 @@ read-itemsBytes (suc n) (i ∷ items) t h =
     (ap (readItems n) (drop-item i more (s .bytesFit)) ∙ ih)
     ∙ ap (λ (x : Item). accepted (x ∷ items)) (firstItem-back i more s)
 
-pub read-sheetBytes : (items : List Item) → T (all sane items) → T (rising items) → length (sheetBytes items) ≤ 262144 → length items ≤ 4096
-    → readSheet (sheetBytes items) ≡ accepted items
+-- of sane items within the limits, question 2 is left
+pub read-listed : (items : List Item) → T (all sane items) → length (sheetBytes items) ≤ 262144 → length items ≤ 4096
+    → readSheet (sheetBytes items) ≡ ask (rising items) 2 (accepted items)
 unfolding readSheet sheetBytes bind
-read-sheetBytes items t r h n =
+read-listed items t h n =
     ask-yes (eqb 1 1 && leb (1 + length (itemsBytes items)) 262144) 1 _ (le→leb (1 + length (itemsBytes items)) 262144 (omega arith))
     ∙ ap (λ (x : Answer (List Item)). bind x (λ (js : List Item). ask (rising js) 2 (accepted js))) (read-itemsBytes 4096 items t n)
-    ∙ ask-yes (rising items) 2 (accepted items) r
+
+pub read-sheetBytes : (items : List Item) → T (all sane items) → T (rising items) → length (sheetBytes items) ≤ 262144 → length items ≤ 4096
+    → readSheet (sheetBytes items) ≡ accepted items
+read-sheetBytes items t r h n = read-listed items t h n ∙ ask-yes (rising items) 2 (accepted items) r
 
 -- ---- what is read is sane
 

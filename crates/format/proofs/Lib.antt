@@ -13,3 +13,7 @@ pub mod Computed
 pub mod Postings
 pub mod Singles
 pub mod SharedAdds
+pub mod LeafImages
+pub mod LeafImagesWritten
+pub mod LeafImagesRead
+pub mod LeafImagesComputed

@@ -5,6 +5,7 @@ pub mod References
 pub mod Bodies
 pub mod Items
 pub mod Sheets
+pub mod LeafImage
 pub mod Apply
 pub mod Names
 pub mod Ledger

@@ -28,6 +28,11 @@ pub const ITEM_HEAD: usize = 21;
 
 pub const BODY_HEAD: usize = 24;
 
+// What stands before the item headers of a leaf as the card has it, and an item's header there (btrfs's leaf header and item).
+pub const LEAF_HEADER: usize = 101;
+
+pub const ITEM_HEADER: usize = 25;
+
 // The longest body, the longest item list (document 01's sheet) and the most items in it.
 pub const MOST_DATA: usize = 65535;
 

@@ -4,14 +4,14 @@ use mathlib.Core.Bool.{Bool, true, false, _&&_}
 use mathlib.Core.List.{List, [], _++_, append-assoc, append-nil}
 use Prim.Native.Nat.{ℕ, _+_, _-_, _≤_, _<_}
 use native.Mathlib.Omega.{arith}
-use lib.Dec.{T, leb, le→leb}
+use lib.Dec.{T, leb}
 use lib.ListN.{length, take, drop, length-append, length-drop}
 use lib.Seq.{length-take-le}
 use borrow.Author.Tests.{le-leb, lt-leb, leb-true}
 use Rattle.fields.specs.Lists.{all}
 use Rattle.fields.specs.Numbers.{beBytes}
 use Rattle.fields.specs.Parts.{part, written, spliced}
-use Rattle.fields.proofs.Lists.{and-false, T-eq, all-map}
+use Rattle.fields.proofs.Lists.{and-false, T-eq}
 use Rattle.fields.proofs.Numbers.{length-beBytes}
 use Rattle.fields.proofs.Parts.{part-all, part-rest, written-pair, written-next, written-front, length-spliced}
 use Rattle.format.specs.declared.Key.{Key}
@@ -19,7 +19,7 @@ use Rattle.format.specs.declared.Edited.{Edited}
 use Rattle.format.specs.declared.Edited.the-variants.{Written, Refused}
 use Rattle.format.specs.Questions.{Answer, refused, accepted, ask, bind, held, lent, editedOf, Answered}
 use Rattle.format.specs.Items.{Item, keyBytes, itemBytes, sheetBytes, dataFits, sheetHolds, heldSheet}
-use Rattle.format.proofs.Items.{sane, sane-out, length-keyBytes, length-itemBytes}
+use Rattle.format.proofs.Items.{length-keyBytes, length-itemBytes}
 use Rattle.item_list.specs.ItemWrites.{headBytes, roomFor, heldBytes}
 
 -- ---- an item's head
@@ -172,11 +172,6 @@ held-sheet room count items bytes e n t =
     go : (b : Bool) → bind (ask (b && true) 21 (accepted items)) (λ (l : List Item). accepted (sheetBytes l)) ≡ ask b 21 (accepted (sheetBytes items))
     go true = refl
     go false = refl
-
--- items that were read fit
-pub sane-fit : (items : List Item) → T (all sane items) → T (all (λ i. dataFits (i .bytes)) items)
-unfolding dataFits
-sane-fit items t = all-map sane (λ i. leb (length (i .bytes)) 65535) (λ i h. le→leb (length (i .bytes)) 65535 (sane-out i h .bytesFit)) items t
 
 -- ---- the answer of an edit
 

@@ -33,7 +33,7 @@ use Rattle.item_list.proofs.Walks.{ends}
 
 -- ---- the pass
 
-behind-nil : (n : ℕ) (key : Key) → risingBehind n key [] ≡ true
+pub behind-nil : (n : ℕ) (key : Key) → risingBehind n key [] ≡ true
 behind-nil zero key = refl
 behind-nil (suc n) key = refl
 
@@ -41,13 +41,13 @@ above-key : (i : Item) (items : List Item) → above i items ≡ above (record {
 above-key i [] = refl
 above-key i (j ∷ items) = refl
 
-behind-cons : (n : ℕ) (key : Key) (i : Item) (items : List Item)
+pub behind-cons : (n : ℕ) (key : Key) (i : Item) (items : List Item)
     → risingBehind n key (i ∷ items) ≡ (following n key (i .key) && risingBehind (suc n) (i .key) items)
 unfolding following
 behind-cons zero key i items = ap (λ (b : Bool). b && rising items) (above-key i items)
 behind-cons (suc n) key i items = ap (λ (b : Bool). keyBelow key (i .key) && (b && rising items)) (above-key i items)
 
-and-assoc : (a b c : Bool) → (a && (b && c)) ≡ ((a && b) && c)
+pub and-assoc : (a b c : Bool) → (a && (b && c)) ≡ ((a && b) && c)
 and-assoc true b c = refl
 and-assoc false b c = refl
 

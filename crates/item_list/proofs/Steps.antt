@@ -5,12 +5,13 @@ use mathlib.Core.List.{List, [], _∷_}
 use Prim.Native.Nat.{ℕ, zero, suc, _+_, _-_, _≤_, _<_}
 use native.Mathlib.Omega.{arith}
 use lib.Dec.{T, leb, ltb}
-use lib.ListN.{length, take, drop, getD, length-drop, drop-of-length-le}
+use lib.ListN.{length, drop, getD, length-drop, drop-of-length-le}
 use lib.Seq.{drop-drop, getD-drop, length-take-le}
 use borrow.Author.Tests.{le-leb, lt-leb, le-ltb, eq-eqb, ne-eqb}
 use Rattle.fields.proofs.Lists.{and-false}
 use Rattle.fields.specs.Numbers.{be}
 use Rattle.fields.specs.Parts.{part}
+use Rattle.fields.proofs.Parts.{part-drop}
 use Rattle.format.specs.Questions.{refused, accepted, ask, bind}
 use Rattle.format.specs.declared.Key.{Key}
 use Rattle.format.specs.Items.{keyOf, keyBelow, itemLength, wholeItem, firstItem, readItems}
@@ -166,18 +167,15 @@ items-item n s at h e =
 
 -- ---- the item at a position
 
-part-at : (s : List ℕ) (at n m : ℕ) → part n m (drop at s) ≡ part (at + n) m s
-part-at s at n m = ap (take m) (drop-drop n at s)
-
 pub key-is : (s : List ℕ) (at : ℕ) → itemAt s at .key ≡ keyOf (be (part (at + 4) 8 s)) (getD s (at + 12) 0) (be (part (at + 13) 8 s))
 unfolding itemAt firstItem
-key-is s at = rw (part-at s at 4 8, getD-drop at s 12 0, part-at s at 13 8)
+key-is s at = rw (part-drop at 4 8 s, getD-drop at s 12 0, part-drop at 13 8 s)
 
 pub data-is : (s : List ℕ) (at next : ℕ) → WholeAt s at next → itemAt s at .bytes ≡ part (at + 21) (next - (at + 21)) s
 unfolding itemAt firstItem
 data-is s at next w =
     let e : itemLength (drop at s) - 17 ≡ next - (at + 21) = omega arith in
-    rw e (part-at s at 21 (next - (at + 21)))
+    rw e (part-drop at 21 (next - (at + 21)) s)
 
 -- its data is as long as its length says
 pub data-long : (s : List ℕ) (at next : ℕ) → WholeAt s at next → at + (21 + length (itemAt s at .bytes)) ≡ next

@@ -9,6 +9,7 @@ mod stepping;
 pub use checking::check;
 pub use checking::nodesize_fits;
 pub use finding::find;
+pub use finding::follows;
 use format::Key;
 pub use search::seek;
 pub use splicing::append;
@@ -18,6 +19,7 @@ pub use splicing::remove_item;
 pub use splicing::room_for;
 pub use stepping::is_past;
 pub use stepping::key_at;
+pub use stepping::no_key;
 pub use stepping::size_after;
 pub use stepping::size_at;
 

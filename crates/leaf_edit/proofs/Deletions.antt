@@ -15,12 +15,12 @@ use Rattle.format.specs.Questions.{Answer, refused, accepted, ask, bind, needed
 use Rattle.format.specs.Items.{Item, readSheet, sheetBytes, onSheet, dataFits, without}
 use Rattle.format.specs.Sheets.{hasKey, deleted, delete}
 use Rattle.format.proofs.Splices.{sheet-remove}
+use Rattle.format.proofs.Items.{sane-fit}
 use Rattle.item_list.specs.declared.Sought.the-variants.{Present, Absent}
 use Rattle.item_list.specs.Steps.{listItems}
 use Rattle.item_list.specs.Seeks.{seekIn}
 use Rattle.item_list.proofs.Reading.{Counted}
 use Rattle.item_list.proofs.Positions.{Sits, sits, no-cut, Inside, inside}
-use Rattle.item_list.proofs.ItemWrites.{sane-fit}
 
 pub delete-refused : (s : List ℕ) (key : Key) (k : ℕ) → readSheet s ≡ refused k → delete s key ≡ refused k
 unfolding delete onSheet bind

@@ -18,7 +18,7 @@ use Rattle.format.specs.Questions.{Answer, refused, absent, remove, accepted, a
 use Rattle.format.specs.Items.{Item, readSheet, itemBytes, sheetBytes, onSheet, nodesizeFits, dataFits}
 use Rattle.format.specs.Sheets.{hasKey, inserted, insert, insertUnbounded, spaceOf}
 use Rattle.format.proofs.Answers.{ask-yes, ask-no}
-use Rattle.format.proofs.Items.{ReadsSheet, sheet, broken, unsorted, readSheet-decides, length-itemBytes}
+use Rattle.format.proofs.Items.{ReadsSheet, sheet, broken, unsorted, readSheet-decides, length-itemBytes, sane-fit}
 use Rattle.format.proofs.Splices.{sheet-put}
 use Rattle.item_list.specs.declared.Checked.the-variants.{Count}
 use Rattle.item_list.specs.declared.Sought.{Sought}
@@ -27,7 +27,6 @@ use Rattle.item_list.specs.Steps.{listItems, itemsIn, checkedOf}
 use Rattle.item_list.specs.Seeks.{seekIn}
 use Rattle.item_list.proofs.Reading.{Counted, counted}
 use Rattle.item_list.proofs.Positions.{Sits, sits, Gap, gap, inside-gap}
-use Rattle.item_list.proofs.ItemWrites.{sane-fit}
 use Rattle.item_list.proofs.Spaces.{space-is}
 use Rattle.leaf_edit.specs.declared.InsertAt.the-variants.{Free, Refused}
 use Rattle.leaf_edit.specs.Insertions.{insertAt, insertAtOf}

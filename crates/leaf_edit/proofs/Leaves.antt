@@ -5,7 +5,7 @@ use mathlib.Core.Option.{Option, none, some}
 use mathlib.Core.List.{List, [], _∷_}
 use Prim.Native.Nat.{ℕ, zero, suc, _+_, _-_, _≤_, _<_}
 use native.Mathlib.Omega.{arith}
-use lib.Dec.{T, leb, ltb, lt→ltb, leb→le}
+use lib.Dec.{T, leb, ltb, lt→ltb}
 use lib.ListN.{length}
 use mir.Facts.{and-yes, yes-and}
 use borrow.Author.Tests.{le-leb, lt-leb}
@@ -14,6 +14,7 @@ use Rattle.fields.proofs.Lists.{T-eq, some-inj, no-some}
 use Rattle.format.specs.Questions.{Answer, refused, accepted, ask, bind}
 use Rattle.format.specs.Items.{Item, readSheet, onSheet, nodesizeFits}
 use Rattle.format.specs.Sheets.{itemSpace, cutFits, gapOf, closer, bestCut, filled, cutsOf, cuts, leavesHold, splitToFit}
+use Rattle.format.proofs.Items.{nodesize-out}
 use Rattle.item_list.specs.Steps.{listItems}
 use Rattle.item_list.proofs.Reading.{Counted}
 use Rattle.item_list.proofs.Spaces.{space-sheet}
@@ -137,8 +138,7 @@ module _ (n : ℕ) (s : List ℕ) (m : ℕ) (c : Sized s m) (h : nodesizeFits n 
     to-fit-filled l f = let k = c .count-is in done (omega arith) ∙ ap accepted (cuts-filled n (listItems s) f)
 
 pub node-small : (n : ℕ) → nodesizeFits n ≡ true → n ≤ 65536
-unfolding nodesizeFits
-node-small n e = leb→le _ _ (and-yes (leb 501 n) (leb n 65536) (subst T (sym e) tt) .1)
+node-small n e = nodesize-out n (subst T (sym e) tt) .1
 
 pub sized : (s : List ℕ) (n : ℕ) → Counted s n → Sized s n
 sized s n c =

@@ -15,14 +15,13 @@ use Rattle.format.specs.Questions.{Answer, accepted, bind, needed, Answered}
 use Rattle.format.specs.Items.{Item, readSheet, itemsBytes, sheetBytes, dataFits, heldSheet}
 use Rattle.format.specs.Sheets.{hasKey}
 use Rattle.format.specs.Apply.{isRecord}
-use Rattle.format.proofs.Items.{length-sheetBytes, sheet-sane, sheetBytes-read}
+use Rattle.format.proofs.Items.{length-sheetBytes, sheet-sane, sheetBytes-read, sane-fit}
 use Rattle.format.proofs.Keys.{sameKey-yes}
 use Rattle.format.proofs.Splices.{sheet-data}
 use Rattle.item_list.specs.declared.Checked.the-variants.{Count}
 use Rattle.item_list.specs.Steps.{listItems, checkedOf}
 use Rattle.item_list.proofs.Reading.{Counted, counted}
 use Rattle.item_list.proofs.Positions.{Inside, inside}
-use Rattle.item_list.proofs.ItemWrites.{sane-fit}
 use Rattle.record_edit.specs.declared.RecordAt.{RecordAt}
 use Rattle.record_edit.specs.Records.{dataOf, StandsAt, onKey}
 

@@ -28,3 +28,7 @@ pub mod Instance
 pub mod Calls
 pub mod CallsInstance
 pub mod PartDropsInstance
+pub mod LeafImages
+pub mod LeafImagesRead
+pub mod LeafImagesComputed
+pub mod LeafImagesInstance

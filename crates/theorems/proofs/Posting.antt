@@ -20,13 +20,28 @@ use Rattle.format.specs.Apply.{inlineLimit, recordOf, onRecord}
 use Rattle.format.specs.Names.{Name, balanced}
 use Rattle.format.specs.Ledger.{kindFits, changed, post, posted}
 use Rattle.format.proofs.Answers.{ask-ok, ask-yes, bind-ok, bind-yes, needed-ok, held-ok, accepted-inj}
-use Rattle.format.proofs.Items.{sane, sane-out, sheet-sane, sheetBytes-read, length-itemsBytes, length-sheetBytes}
+use Rattle.format.proofs.Items.{sane, sane-fit, nodesize-out, nodesize-in, sheet-sane, sheetBytes-read, length-itemsBytes, length-sheetBytes}
 use Rattle.theorems.proofs.Edit.{Balanced, balanced-out}
 use Rattle.theorems.proofs.Steps.{tidy, sane-tidy, Here, here-of}
 use Rattle.theorems.proofs.Bounds.{total-bound}
 use Rattle.theorems.specs.Acceptance.{Accepts, Made}
 
 -- ---- the questions around a change
+
+-- question 21 of a sheet
+pub held-sheet-out : (room : ℕ) (answer : Answer (List Item)) (sheet : List ℕ) → heldSheet room answer ≡ accepted sheet
+    → (items : List Item) × (answer ≡ accepted items) × T (sheetHolds room items) × (sheetBytes items ≡ sheet)
+unfolding heldSheet
+held-sheet-out room answer sheet e =
+    let h₁ = bind-ok (held (sheetHolds room) answer) _ e in
+    let h₂ = held-ok (sheetHolds room) answer (h₁ .1) in
+    (h₁ .0, h₂ .0, h₂ .1, accepted-inj (h₁ .2))
+
+pub held-sheet-in : (room : ℕ) (answer : Answer (List Item)) (items : List Item) → answer ≡ accepted items → T (sheetHolds room items)
+    → heldSheet room answer ≡ accepted (sheetBytes items)
+unfolding heldSheet held
+held-sheet-in room answer items e t =
+    bind-yes (held (sheetHolds room) answer) _ (bind-yes answer _ e ∙ ask-yes (sheetHolds room items) 21 (accepted items) t)
 
 pub record Posts (nodesize : ℕ) (sheet : List ℕ) (change : Change) (room : ℕ) : Type 0 where
   pub items : List Item
@@ -41,48 +56,44 @@ pub record Posts (nodesize : ℕ) (sheet : List ℕ) (change : Change) (room : �
 
 pub posts-out : (nodesize : ℕ) (sheet : List ℕ) (change : Change) (room : ℕ) → Accepts nodesize sheet change room
     → Posts nodesize sheet change room
-unfolding posted heldSheet post onSheet nodesizeFits
+unfolding posted post onSheet
 posts-out nodesize sheet change room (t, e) =
-    let h₀ = bind-ok (held (sheetHolds room) (post nodesize sheet change)) _ e in
-    let h₁ = held-ok (sheetHolds room) (post nodesize sheet change) (h₀ .1) in
-    let h₂ = bind-ok (readSheet sheet) _ (h₁ .0) in
+    let h₁ = held-sheet-out room (post nodesize sheet change) t e in
+    let h₂ = bind-ok (readSheet sheet) _ (h₁ .1) in
     let h₃ = ask-ok (nodesizeFits nodesize && kindFits change) 3 _ (h₂ .2) in
     let h₄ = ask-ok (balanced (h₂ .0)) 4 _ (h₃ .1) in
     let n = and-yes (nodesizeFits nodesize) (kindFits change) (h₃ .0) in
-    let k = and-yes (leb 501 nodesize) (leb nodesize 65536) (n .0) in
+    let k = nodesize-out nodesize (n .0) in
     record {
       items = h₂ .0;
-      after = h₀ .0;
+      after = h₁ .0;
       reads = h₂ .1;
-      least = leb→le _ _ (k .0);
-      most = leb→le _ _ (k .1);
+      least = k .0;
+      most = k .1;
       kind = n .1;
       balance = h₄ .0;
       done = h₄ .1;
-      holds = h₁ .1;
+      holds = h₁ .2;
     }
 
 -- questions 1 to 4 answered yes
 pub post-is : (nodesize : ℕ) (sheet : List ℕ) (change : Change) (items : List Item) → readSheet sheet ≡ accepted items
     → 501 ≤ nodesize → nodesize ≤ 65536 → T (kindFits change) → T (balanced items)
     → post nodesize sheet change ≡ changed nodesize change items
-unfolding post onSheet nodesizeFits
+unfolding post onSheet
 post-is nodesize sheet change items reads least most kind balance =
     bind-yes (readSheet sheet) _ reads
     ∙ ask-yes (nodesizeFits nodesize && kindFits change) 3 _
-    (yes-and (nodesizeFits nodesize) (kindFits change)
-    (yes-and (leb 501 nodesize) (leb nodesize 65536) (le→leb 501 nodesize least) (le→leb nodesize 65536 most)) kind)
+    (yes-and (nodesizeFits nodesize) (kindFits change) (nodesize-in nodesize least most) kind)
     ∙ ask-yes (balanced items) 4 _ balance
 
 pub posts-give : (nodesize : ℕ) (sheet : List ℕ) (change : Change) (room : ℕ) (p : Posts nodesize sheet change room)
     → posted nodesize sheet change room ≡ accepted (sheetBytes (p .after))
-unfolding posted heldSheet held
+unfolding posted
 posts-give nodesize sheet change room p =
-    let e₁ : post nodesize sheet change ≡ accepted (p .after) =
-    post-is nodesize sheet change (p .items) (p .reads) (p .least) (p .most) (p .kind) (p .balance) ∙ p .done in
-    let e₂ : held (sheetHolds room) (post nodesize sheet change) ≡ accepted (p .after) =
-    bind-yes (post nodesize sheet change) _ e₁ ∙ ask-yes (sheetHolds room (p .after)) 21 _ (p .holds) in
-    bind-yes (held (sheetHolds room) (post nodesize sheet change)) _ e₂
+    held-sheet-in room (post nodesize sheet change) (p .after)
+    (post-is nodesize sheet change (p .items) (p .reads) (p .least) (p .most) (p .kind) (p .balance) ∙ p .done)
+    (p .holds)
 
 pub posts-in : (nodesize : ℕ) (sheet : List ℕ) (change : Change) (room : ℕ) → Posts nodesize sheet change room
     → Accepts nodesize sheet change room
@@ -181,7 +192,6 @@ pub record SheetFacts (sheet : List ℕ) (items : List Item) : Type 0 where
 
 pub sheet-facts : (sheet : List ℕ) (items : List Item) → T (areBytes sheet) → readSheet sheet ≡ accepted items → T (balanced items)
     → SheetFacts sheet items
-unfolding dataFits
 sheet-facts sheet items raw reads balance =
     let s = sheet-sane sheet items raw reads in
     let bal = balanced-out items balance in
@@ -189,7 +199,7 @@ sheet-facts sheet items raw reads balance =
     record {
       balance = bal;
       tidied = td;
-      fit = all-map sane (λ i. dataFits (i .bytes)) (λ i t. le→leb (length (i .bytes)) 65535 (sane-out i t .bytesFit)) items (s .0);
+      fit = sane-fit items (s .0);
       rise = s .2;
       few = s .1;
       short = s .3;

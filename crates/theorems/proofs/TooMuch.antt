@@ -5,7 +5,7 @@ use mathlib.Core.List.{List}
 use mathlib.Core.Option.{Option, none, some}
 use Prim.Native.Nat.{ℕ, _-_, _≤_, _<_}
 use native.Mathlib.Omega.{arith}
-use lib.Dec.{T, leb, eqb, leb→le, nleb→lt}
+use lib.Dec.{T, leb, eqb, nleb→lt}
 use mir.Facts.{and-yes, T-not}
 use Rattle.fields.specs.Lists.{Cut, firstCut}
 use Rattle.format.specs.declared.SharedRef.{SharedRef}
@@ -20,7 +20,7 @@ use Rattle.format.specs.Apply.{recordOf, onRecord}
 use Rattle.format.specs.Names.{Name, count, balanced}
 use Rattle.format.specs.Ledger.{nameOf, kindFits, post, posted}
 use Rattle.format.proofs.Answers.{needed-ok}
-use Rattle.format.proofs.Items.{ReadsSheet, sheet as reads, broken, unsorted, readSheet-decides}
+use Rattle.format.proofs.Items.{nodesize-out, ReadsSheet, sheet as reads, broken, unsorted, readSheet-decides}
 use Rattle.theorems.proofs.Naming.{shared-naming}
 use Rattle.theorems.proofs.Steps.{Here, here-of}
 use Rattle.theorems.proofs.Lowered.{part-more, part-lowers}
@@ -135,7 +135,7 @@ module _ (sheet : List ℕ) (extent : ℕ) (name : SharedRef) (amount : ℕ) (ki
 -- ---- a posting
 
 pub too-much : TooMuch
-unfolding posted heldSheet held post onSheet nodesizeFits onRecord
+unfolding posted heldSheet held post onSheet onRecord
 too-much nodesize sheet extent name amount room raw = record { only = λ e. only (subst (λ r. T (is22 r)) (sym e) tt); enough = enough }
   where
     change : Change
@@ -170,8 +170,8 @@ too-much nodesize sheet extent name amount room raw = record { only = λ e. only
         let (three, t₄) = ask-22 (nodesizeFits nodesize && kindFits change) 3 _ tt t₃ in
         let (four, t₅) = ask-22 (balanced items) 4 _ tt t₄ in
         let (fits, kind) = and-yes (nodesizeFits nodesize) (kindFits change) three in
-        let (least, most) = and-yes (leb 501 nodesize) (leb nodesize 65536) fits in
-        at-record items read (leb→le _ _ least) (leb→le _ _ most) kind four
+        let (least, most) = nodesize-out nodesize fits in
+        at-record items read least most kind four
         (second-22 (needed 5 (firstCut (recordOf extent) items)) (dropped (sharedDrop extent name amount) items)
         (needed-22 (firstCut (recordOf extent) items))
         (subst (λ r. T (is22 r)) (shared-changes nodesize extent name amount items) t₅))

@@ -1,9 +1,23 @@
-// Runs the CRC32C vectors of RFC 3720, appendix B.4, and the check value of "123456789", each by bytes, by words of four bytes, and by
-// numbers of eight, as the hash runs. Prints each finished checksum beside the expected one.
+// Runs the CRC32C vectors of RFC 3720, appendix B.4, the check value of "123456789", and as many bytes as a node of 4 KiB has behind
+// its checksum's field, each as one run, by bytes, by words of four bytes, and by numbers of eight, as the hash runs. Prints each
+// finished checksum beside the expected one, which for the node's bytes is that of a processor's own instruction. Then says of how many
+// lengths a run is what it is by bytes.
 use libc::STDOUT_FILENO;
+ghost use Prim.Native.Nat.{_≤_};
+ghost use lib.ListN.{length};
+
+fn by_run(bytes: &[u8]) -> u32 {
+    crc32c::finish(crc32c::update(0xffff_ffff, bytes))
+}
 
 fn by_bytes(bytes: &[u8]) -> u32 {
-    crc32c::finish(crc32c::update(0xffff_ffff, bytes))
+    let mut register = 0xffff_ffff;
+    let mut at: usize = 0;
+    while at < bytes.len() {
+        register = crc32c::byte_step(register, bytes[at]);
+        at += 1;
+    }
+    crc32c::finish(register)
 }
 
 // What is left behind the last whole word goes in by bytes.
@@ -39,9 +53,42 @@ fn print(sum: u32, expected: u32) {
 }
 
 fn compare(bytes: &[u8], expected: u32) {
+    print(by_run(bytes), expected);
     print(by_bytes(bytes), expected);
     print(by_words(bytes), expected);
     print(by_numbers(bytes), expected);
+}
+
+// Bytes that differ from their neighbours, and from those 256 further on.
+fn fill(bytes: &mut [u8]) {
+    let mut i: usize = 0;
+    while i < bytes.len() {
+        bytes[i] = (i % 251) as u8;
+        i += 1;
+    }
+}
+
+// Over how many of the first bytes, from none to all but the last, a run is what it is by bytes.
+fn agreeing(bytes: &[u8]) -> u64
+    ensures { λ r. ⌜ r ≤ length (now (bytes .entry)) ⌝ }
+{
+    let mut register = 0xffff_ffff;
+    let mut count: u64 = 0;
+    let mut n: usize = 0;
+    while n < bytes.len() {
+        count += crate::tables::same(crc32c::update(0xffff_ffff, &bytes[..n]), register);
+        register = crc32c::byte_step(register, bytes[n]);
+        n += 1;
+    }
+    count
+}
+
+fn compare_long() {
+    let mut node = [0u8; 4064];
+    fill(&mut node);
+    compare(&node, 0x9b1bd1a2);
+    io::print_decimal(STDOUT_FILENO, agreeing(&node));
+    io::write_all(STDOUT_FILENO, b" of 4064 runs are what they are by bytes\n");
 }
 
 pub fn compare_all() {
@@ -60,4 +107,5 @@ pub fn compare_all() {
         b"\x01\xc0\x00\x00\x00\x00\x00\x00\x00\x00\x00\x00\x00\x00\x00\x00\x14\x00\x00\x00\x00\x00\x04\x00\x00\x00\x00\x14\x00\x00\x00\x18\x28\x00\x00\x00\x00\x00\x00\x00\x02\x00\x00\x00\x00\x00\x00\x00";
     compare(read, 0xd9963a56);
     compare(b"123456789", 0xe3069283);
+    compare_long();
 }

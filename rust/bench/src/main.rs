@@ -18,9 +18,13 @@ mod growth;
 mod hash;
 #[cfg(original_here)]
 mod held;
+#[cfg(all(original_here, target_arch = "x86_64"))]
+mod images;
 #[cfg(original_here)]
 mod lists;
 mod measure;
+#[cfg(all(original_here, target_arch = "x86_64"))]
+mod plain;
 #[cfg(original_here)]
 mod postings;
 #[cfg(original_here)]
@@ -52,6 +56,8 @@ fn main() {
         held::rows(&mut bench);
         lists::rows(&mut bench);
         postings::rows(&mut bench);
+        #[cfg(target_arch = "x86_64")]
+        images::rows(&mut bench);
     }
     if !original::HERE {
         println!(
@@ -73,5 +79,8 @@ fn main() {
         worst::table(&mut bench);
     }
     #[cfg(all(original_here, target_arch = "x86_64"))]
-    hash::table(&bench);
+    {
+        hash::table(&bench);
+        images::tables(&bench);
+    }
 }

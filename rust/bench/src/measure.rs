@@ -72,6 +72,11 @@ impl Bench {
         self.asked.times_of(call)
     }
 
+    /// Whether a profiler asks for runs of one row.
+    pub fn profiles(&self) -> bool {
+        matches!(self.asked, Asked::Runs { .. })
+    }
+
     /// `archive` is given an output and a number; it is not run where the archive has no such call.
     pub fn row<T>(
         &mut self,
@@ -205,6 +210,9 @@ impl Bench {
     }
 
     pub fn print(&self) {
+        if self.rows.is_empty() {
+            return;
+        }
         println!("| call | size | original, ns | with a copy of its list | archive, ns | original / archive | with the copy |");
         println!("|---|---|---|---|---|---|---|");
         for Row { call, size, original, copied, archive } in &self.rows {

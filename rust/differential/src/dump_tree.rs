@@ -1,4 +1,8 @@
-//! Extent-tree leaves written by Linux, each with the text that dump-tree prints for it.
+//! Extent-tree leaves written by Linux, each with the text that dump-tree prints for it. The archive
+//! reads the images.
+use crate::archive::has;
+use crate::images::READ;
+use extent_refs::leaf_image::read_sheet;
 use model::sheet::Item;
 use std::path::{Path, PathBuf};
 
@@ -18,8 +22,9 @@ pub fn leaves() -> Option<Vec<PathBuf>> {
     Some(paths)
 }
 
-/// A leaf's items, and for each of them its part of the text.
+/// A leaf's image, its items, and for each of them its part of the text.
 pub struct Leaf {
+    pub image: Vec<u8>,
     pub items: Vec<Item>,
     pub texts: Vec<String>,
     pub nodesize: u64,
@@ -30,12 +35,27 @@ impl Leaf {
         let image = std::fs::read(path).map_err(|e| e.to_string())?;
         let text =
             std::fs::read_to_string(path.with_extension("txt")).map_err(|e| e.to_string())?;
-        let items = model::leaf::items(&image)?;
+        let items = items(&image)?;
         let texts: Vec<String> = text.split("\titem ").skip(1).map(str::to_string).collect();
         if texts.len() != items.len() {
             return Err(format!("{} items, and {} in the text", items.len(), texts.len()));
         }
-        Ok(Leaf { items, texts, nodesize: image.len() as u64 })
+        Ok(Leaf { nodesize: image.len() as u64, image, items, texts })
+    }
+}
+
+/// The items of the sheet that the archive reads from an image, which is as long as its nodesize;
+/// the tests' own reader finds the same.
+fn items(image: &[u8]) -> Result<Vec<Item>, String> {
+    if !has(READ) {
+        return Err(format!("{READ} is not in the archive"));
+    }
+    let nodesize = u32::try_from(image.len()).map_err(|e| e.to_string())?;
+    let sheet = read_sheet(nodesize, image).map_err(|error| error.to_string())?;
+    let items = model::sheet::read(&sheet).map_err(|stop| format!("its sheet: {stop:?}"))?;
+    match model::leaf::packed(image) {
+        Some(own) if own == items => Ok(items),
+        _ => Err("the archive reads other items than the tests' own reader".into()),
     }
 }
 

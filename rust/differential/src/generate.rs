@@ -1,7 +1,9 @@
 //! The inputs of each call, from the names of its parameters.
 use crate::bodies;
 use crate::collide::collide;
+use crate::leaf_draw;
 use crate::random::Random;
+use crate::runs;
 use crate::sheets;
 use crate::tables;
 use crate::words;
@@ -42,6 +44,10 @@ struct Draw<'a> {
     offsets: Vec<u64>,
     change: u64,
     focus: Reference,
+    /// A leaf's image, and the nodesize that it is asked with.
+    leaf: leaf_draw::Drawn,
+    /// The nodesize of this case.
+    size: u64,
 }
 
 /// One random case; outputs are lent later.
@@ -91,23 +97,38 @@ pub fn edges(call: &'static str, r: &mut Random) -> Vec<Vec<Arg>> {
         let short = sheets::short().into_iter();
         cases.extend(short.map(|sheet| drawn(call, r, 168, vec![], Some(sheet)).args()));
     }
-    cases.extend(of_checksums(call, r));
+    let firsts = of_checksums(&names).into_iter().chain(of_images(&names, r));
+    let firsts: Vec<Vec<Arg>> = firsts.collect();
+    cases.extend(firsts.into_iter().map(|first| {
+        let mut args = drawn(call, r, 168, vec![], None).args();
+        args.splice(..first.len(), first);
+        args
+    }));
     cases
 }
 
-/// The polynomials, and the registers and words, of which something may be special.
-fn of_checksums(call: &'static str, r: &mut Random) -> Vec<Vec<Arg>> {
-    let firsts: Vec<Vec<u32>> = match parameters(call)[0].0 {
-        "polynomial" => tables::special().into_iter().map(|polynomial| vec![polynomial]).collect(),
-        "register" => words::pairs().into_iter().map(Vec::from).collect(),
+/// The polynomials, the registers and words, and the runs of which something may be special.
+fn of_checksums(names: &[&str]) -> Vec<Vec<Arg>> {
+    let number = |n: u32| Arg::Number(n.into());
+    match names {
+        ["polynomial", ..] => tables::special().into_iter().map(|p| vec![number(p)]).collect(),
+        ["register", "word"] => {
+            words::pairs().into_iter().map(|pair| pair.map(number).to_vec()).collect()
+        }
+        ["register", "bytes"] => {
+            runs::special().into_iter().map(|(r, b)| vec![number(r), Arg::Bytes(b)]).collect()
+        }
         _ => vec![],
-    };
-    let mut case = |first: Vec<u32>| {
-        let mut args = drawn(call, r, 168, vec![], None).args();
-        args.splice(..first.len(), first.into_iter().map(|n| Arg::Number(n.into())));
-        args
-    };
-    firsts.into_iter().map(&mut case).collect()
+    }
+}
+
+/// The images of which something may be special.
+fn of_images(names: &[&str], r: &mut Random) -> Vec<Vec<Arg>> {
+    if !names.contains(&"image") {
+        return vec![];
+    }
+    let edges = leaf_draw::edges(r).into_iter();
+    edges.map(|(size, image)| vec![Arg::Number(size), Arg::Bytes(image)]).collect()
 }
 
 fn drawn<'a>(
@@ -139,8 +160,13 @@ fn drawn<'a>(
         offsets: vec![],
         change: 0,
         focus: Reference::block(0),
+        leaf: (0, vec![]),
+        size: 0,
     };
     d.prepare();
+    if parameters(call).iter().any(|p| p.0 == "image") {
+        d.leaf = leaf_draw::image(d.r);
+    }
     d
 }
 
@@ -366,10 +392,13 @@ impl Draw<'_> {
         part(self.r, &self.items, self.extent, &name)
     }
 
-    /// What the outputs have to hold, where the inputs' length does not tell: a table's text with
-    /// one byte to spare, or with some.
+    /// What the outputs have to hold, where the inputs' length does not tell: a table's text or an
+    /// image with one byte to spare, or with some.
     fn room(&mut self) -> usize {
         match self.call {
+            "leaf_image_write" if self.size <= 65_536 => {
+                self.size as usize + self.r.pick(&[1, 50, 300])
+            }
             "crc32c_table_text" if self.r.chance(3, 4) => self.r.pick(&[2_305, 2_306, 3_000]),
             "crc32c_table_text" => 2_305 + self.r.below(5_000),
             _ => 0,
@@ -387,11 +416,25 @@ impl Draw<'_> {
         }
     }
 
+    /// A header for the writer, now and then of another length.
+    fn header(&mut self) -> Vec<u8> {
+        let mut header = leaf_draw::header(self.r);
+        if self.r.chance(1, 10) {
+            let other = self.r.below(300);
+            header.resize(self.r.pick(&[0, 32, 96, 100, 102, 202, other]), 7);
+        }
+        header
+    }
+
     fn number(&mut self, name: &str) -> u64 {
         let field = |d: &Draw, at: usize| d.focus.fields.get(at).copied();
         match name {
             "item_type" => u64::from(self.item_type),
-            "nodesize" => self.nodesize(),
+            "nodesize" if self.call == "leaf_image_read" => self.leaf.0,
+            "nodesize" => {
+                self.size = self.nodesize();
+                self.size
+            }
             "bytenr" | "extent" => {
                 if self.sheet.is_empty() {
                     self.r.field()
@@ -460,6 +503,9 @@ impl Draw<'_> {
                 "sheet" => self.sheet.clone(),
                 "data" => self.data.clone(),
                 "item" => self.item.clone(),
+                "image" => self.leaf.1.clone(),
+                "header" => self.header(),
+                "bytes" => runs::bytes(self.r),
                 other => panic!("no bytes are known for {other}"),
             }),
             "words" => Arg::Words(self.offsets.clone()),

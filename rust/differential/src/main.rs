@@ -1,13 +1,14 @@
 //! The differential run. The last line is 'N passed, M failed'; what was left out stands before it.
 //!
 //!     differential               every call; DIFFERENTIAL_SECONDS (100) of processor time
-//!     differential --only CALL   one call; or `tables`, or `words`
+//!     differential --only CALL   one call; or `tables`, `words`, `runs` or `images`
 //!     differential --replay      the original's recorded answers alone
 //!     differential --record      writes recorded/answers.txt from the original
 //!
-//! Each call runs in a process of its own: a read past a lent slice ends that process alone.
+//! Each call runs in a process of its own, and so do the images and the runs: a read past a lent slice
+//! ends that process alone.
 use differential::{compare, differences, generate, recorded, verdict};
-use differential::{histories, parts, swapped, tables, words};
+use differential::{histories, images, parts, runs, swapped, tables, words};
 use std::process::{Command, ExitCode, Output};
 use std::sync::atomic::{AtomicUsize, Ordering};
 use std::sync::Mutex;
@@ -41,10 +42,13 @@ fn main() -> ExitCode {
 }
 
 fn one(call: &str, seconds: f64) -> ExitCode {
+    let time = Duration::from_secs_f64(seconds);
     let lines = match generate::calls().find(|c| *c == call) {
-        Some(call) => compare::call(call, Duration::from_secs_f64(seconds)),
+        Some(call) => compare::call(call, time),
         None if call == "tables" => tables(),
         None if call == "words" => words(),
+        None if call == "runs" => runs(),
+        None if call == "images" => images(time),
         None => {
             println!("there is no call {call}");
             return ExitCode::from(2);
@@ -65,11 +69,15 @@ fn all(seconds: f64) -> ExitCode {
             .into()]);
     }
     count.lines(archive_faults(extent_refs::LINKED, extent_refs::MISSING));
-    // A share for each call, and one each for the recorded answers, the histories, the parts and
-    // the swap; the tables and the word steps are always as many. As many calls are compared at
-    // once as there are processors, each in a process of its own.
-    let share = seconds / (calls.len() + 4) as f64;
-    for (call, run) in calls.iter().zip(side_by_side(&calls, share)) {
+    // The images get their part, which is ten seconds of the usual run; of the rest a share goes to
+    // each call, and one each to the recorded answers, the histories, the parts and the swap. The
+    // tables, the word steps and the runs are always as many. As many are compared at once as there
+    // are processors, each in a process of its own.
+    let of_images = seconds * 2.0 / 15.0;
+    let share = (seconds - of_images) / (calls.len() + 4) as f64;
+    let mut tasks = vec![("images", of_images), ("runs", 0.0)];
+    tasks.extend(calls.iter().map(|&call| (call, share)));
+    for ((call, _), run) in tasks.iter().zip(side_by_side(&tasks)) {
         let text = String::from_utf8_lossy(&run.stdout).into_owned();
         count.lines(text.lines().map(str::to_string));
         if !run.status.success() || text.is_empty() {
@@ -87,8 +95,8 @@ fn all(seconds: f64) -> ExitCode {
     count.sum()
 }
 
-/// What each call's own process printed, in the order of the calls.
-fn side_by_side(calls: &[&str], share: f64) -> Vec<Output> {
+/// What the process of each call or check printed, which has so many seconds, in their order.
+fn side_by_side(tasks: &[(&str, f64)]) -> Vec<Output> {
     let workers = std::thread::available_parallelism().map_or(1, |n| n.get());
     let next = AtomicUsize::new(0);
     let done = Mutex::new(Vec::new());
@@ -96,10 +104,10 @@ fn side_by_side(calls: &[&str], share: f64) -> Vec<Output> {
         for _ in 0..workers {
             scope.spawn(|| loop {
                 let at = next.fetch_add(1, Ordering::Relaxed);
-                let Some(call) = calls.get(at) else { return };
+                let Some((call, seconds)) = tasks.get(at) else { return };
                 let run = Command::new(std::env::current_exe().expect("this program"))
                     .args(["--only", call])
-                    .env("DIFFERENTIAL_SECONDS", share.to_string())
+                    .env("DIFFERENTIAL_SECONDS", seconds.to_string())
                     .output()
                     .expect("this program runs");
                 done.lock().expect("no worker stopped").push((at, run));

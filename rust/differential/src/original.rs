@@ -3,6 +3,7 @@ use crate::verdict::Verdict::{self, Absent, Accepted, NotAsked, Refused, Remove}
 use model::calls::{Arg, Written};
 use model::hash::data_ref_hash;
 use original::backref::{self, InlineRef, Keyed};
+use original::btree;
 use original::chunk::DiskKey;
 use original::error::Result;
 use original::extent_write::{self, TreeBlockAllocation};
@@ -320,6 +321,10 @@ pub fn verdict(call: &str, args: &[Arg]) -> Verdict {
                 None => Refused,
             }
         }
+        "leaf_image_read" => {
+            g.u32();
+            listed(leaf(g.bytes()))
+        }
         "ledger_post" => {
             let (size, items, change, extent) = (g.u32(), g.items(), g.u64(), g.u64());
             let (a, b, c, amount) = (g.u64(), g.u64(), g.u64(), g.u32());
@@ -333,6 +338,18 @@ pub fn verdict(call: &str, args: &[Arg]) -> Verdict {
         }
         other => panic!("no call {other}"),
     }
+}
+
+/// The items of an image, each with a copy of its data. The original's reader is handed the count
+/// that stands in the image; it asks for no checksum and no level, which its caller does.
+pub fn leaf(image: &[u8]) -> Result<Vec<OwnedItem>> {
+    let nritems = u32::from_le_bytes(image[96..100].try_into().unwrap()) as usize;
+    let items = btree::public::parse_leaf_items(image, nritems, image.len())?;
+    let data = |i: &btree::Item| {
+        let start = btree::LEAF_DATA_OFFSET + i.offset as usize;
+        image[start..start + i.size as usize].to_vec()
+    };
+    Ok(items.iter().map(|i| OwnedItem { key: i.key, data: data(i) }).collect())
 }
 
 /// What a shared reference counts, inline or as an item: that much is a take in the original,

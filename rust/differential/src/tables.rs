@@ -40,7 +40,7 @@ pub fn rest(polynomial: u32, mut dividend: u64) -> u32 {
 /// Entry `n`, which `n` times x^32 leaves. The model and the archive halve a register eight times
 /// and ask if it was odd. Here nothing is halved and nothing is odd: a dividend of 40 bits loses
 /// multiples of the divisor from its highest power down. So a slip in the steps has no like here.
-fn entry(polynomial: u32, n: u8) -> u32 {
+pub fn entry(polynomial: u32, n: u8) -> u32 {
     rest(polynomial, u64::from(n.reverse_bits()) << 32)
 }
 
@@ -135,7 +135,7 @@ fn compared(call: Caller, polynomial: u32, room: usize) -> Result<(), String> {
 }
 
 /// The outcome with that code, and these bytes at the front of the output.
-fn outcome(args: &[Arg], code: u64, bytes: &[u8]) -> Outcome {
+pub fn outcome(args: &[Arg], code: u64, bytes: &[u8]) -> Outcome {
     let mut after = args.to_vec();
     for arg in &mut after {
         match arg {

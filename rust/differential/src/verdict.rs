@@ -16,6 +16,19 @@ pub enum Verdict {
 /// Refusals that the original does not know, by document 01's list.
 const OUTSIDE: [u64; 5] = [1, 2, 3, 4, 21];
 
+/// The same of the leaf reader. The original's asks for order as it asks for packing; checksum,
+/// level and the image's length it leaves to its caller.
+const READ: &str = "leaf_image_read";
+const OUTSIDE_READ: [u64; 3] = [3, 21, 23];
+
+fn outside(call: &str) -> &'static [u64] {
+    if call == READ {
+        &OUTSIDE_READ
+    } else {
+        &OUTSIDE
+    }
+}
+
 /// Calls whose overflow is a panic in the original and 11 or 12 here.
 const OVERFLOWING: [&str; 4] = [
     "backref_add_inline_keyed_data",
@@ -26,7 +39,8 @@ const OVERFLOWING: [&str; 4] = [
 
 /// Calls of document 02 that the original does not have, nor the parts to put them together from:
 /// they are held to the model, and each to a check of its own.
-const WITHOUT_ORIGINAL: [&str; 2] = ["crc32c_table_text", "crc32c_word_step"];
+const WITHOUT_ORIGINAL: [&str; 4] =
+    ["crc32c_table_text", "crc32c_word_step", "crc32c_update", "leaf_image_write"];
 
 /// Whether there is something in the original to compare a call with.
 pub fn has_original(call: &str) -> bool {
@@ -68,7 +82,7 @@ pub fn written(call: &str, outcome: &Outcome) -> Written {
 
 /// Whether the original is to be asked at all, by the model's code.
 pub fn inside(call: &str, code: u64) -> bool {
-    has_original(call) && (returns_value(call) || !OUTSIDE.contains(&code))
+    has_original(call) && (returns_value(call) || !outside(call).contains(&code))
 }
 
 pub fn agreement(call: &str, verdict: &Verdict, outcome: &Outcome) -> Agreement {
@@ -79,6 +93,7 @@ pub fn agreement(call: &str, verdict: &Verdict, outcome: &Outcome) -> Agreement 
         (Verdict::Accepted(w), 0) => *w == written(call, outcome),
         (Verdict::Absent, code) => code == 100,
         (Verdict::Remove, code) => code == 101,
+        (Verdict::Refused, code) if call == READ => [2, 24].contains(&code),
         // 22 is document 02's: the original is not asked for the amounts that it refuses.
         (Verdict::Refused, code) => (5..=20).contains(&code),
         _ => false,
@@ -116,7 +131,7 @@ fn a_call_without_an_original_is_not_asked() {
 
 #[test]
 fn a_value_is_not_taken_for_a_code() {
-    for call in ["crc32c_word_step", "extent_write_data_ref_hash"] {
+    for call in ["crc32c_word_step", "crc32c_update", "extent_write_data_ref_hash"] {
         for code in [0, 5, 21, 100] {
             let said = Outcome { code, args: vec![Arg::Number(7); 3] };
             assert_eq!(written(call, &said).numbers, [code]);
@@ -124,4 +139,18 @@ fn a_value_is_not_taken_for_a_code() {
     }
     let hash = "extent_write_data_ref_hash";
     assert!(OUTSIDE.iter().all(|&value| inside(hash, value) && !inside("ledger_post", value)));
+}
+
+#[test]
+fn the_leaf_reader_is_held_to_order_and_packing() {
+    let said = |code| Outcome { code, args: vec![] };
+    for code in [2, 24] {
+        assert!(inside(READ, code));
+        assert_eq!(agreement(READ, &Verdict::Refused, &said(code)), Agreement::Same);
+    }
+    for code in [0, 1, 5, 18, 23] {
+        assert_eq!(agreement(READ, &Verdict::Refused, &said(code)), Agreement::Different);
+    }
+    assert!([3, 21, 23].iter().all(|&code| !inside(READ, code)));
+    assert_eq!(agreement("ledger_post", &Verdict::Refused, &said(24)), Agreement::Different);
 }

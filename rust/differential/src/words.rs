@@ -149,7 +149,7 @@ fn answers(step: &impl Fn(u32, u32) -> Option<u32>) -> Result<usize, String> {
 }
 
 /// RFC 3720, B.4: bytes and their finished checksum. The last are those of a SCSI Read (10) command.
-fn of_rfc() -> [(Vec<u8>, u32); 5] {
+pub fn of_rfc() -> [(Vec<u8>, u32); 5] {
     let mut command = vec![0; 48];
     let fields =
         [(0, 1), (1, 0xc0), (16, 0x14), (22, 4), (27, 0x14), (31, 0x18), (32, 0x28), (40, 2)];

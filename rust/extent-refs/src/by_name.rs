@@ -18,6 +18,7 @@ pub enum Value<'a> {
 pub const NAMES: &[&str] = &[
     "crc32c_table_text",
     "crc32c_word_step",
+    "crc32c_update",
     "extent_write_data_ref_hash",
     "extent_write_tree_block_key",
     "extent_write_tree_block_body",
@@ -60,6 +61,8 @@ pub const NAMES: &[&str] = &[
     "leaf_edit_split",
     "leaf_edit_split_to_fit",
     "leaf_edit_item",
+    "leaf_image_read",
+    "leaf_image_write",
     "ledger_post",
 ];
 
@@ -72,6 +75,9 @@ pub fn call(name: &str, args: &mut [Value<'_>]) -> Option<u64> {
         }
         ("crc32c_word_step", [Number(register), Number(word)]) => {
             u64::from(lent::crc32c_word_step(*register as u32, *word as u32))
+        }
+        ("crc32c_update", [Number(register), Bytes(bytes)]) => {
+            u64::from(lent::crc32c_update(*register as u32, bytes))
         }
         ("extent_write_data_ref_hash", [Number(tree), Number(objectid), Number(offset)]) => {
             lent::extent_write_data_ref_hash(*tree, *objectid, *offset)
@@ -198,6 +204,12 @@ pub fn call(name: &str, args: &mut [Value<'_>]) -> Option<u64> {
         }
         ("leaf_edit_item", [Bytes(sheet), Number(number), Lent(start), Lent(len)]) => {
             u64::from(lent::leaf_edit_item(sheet, *number, start, len))
+        }
+        ("leaf_image_read", [Number(nodesize), Bytes(image), Out(out), Lent(len)]) => {
+            u64::from(lent::leaf_image_read(*nodesize as u32, image, out, len))
+        }
+        ("leaf_image_write", [Number(nodesize), Bytes(header), Bytes(sheet), Out(out), Lent(len)]) => {
+            u64::from(lent::leaf_image_write(*nodesize as u32, header, sheet, out, len))
         }
         ("ledger_post", [Number(nodesize), Bytes(sheet), Number(change), Number(extent), Number(a), Number(b), Number(c), Number(amount), Out(out), Lent(len)]) => {
             u64::from(lent::ledger_post(*nodesize as u32, sheet, *change as u8, *extent, *a, *b, *c, *amount as u32, out, len))

@@ -1,5 +1,5 @@
-//! The register of CRC32C over a word, and the table of any polynomial, worked out and written as
-//! text.
+//! The register of CRC32C over a word or over bytes, and the table of any polynomial, worked out and
+//! written as text.
 use crate::answer::written;
 use crate::lent;
 
@@ -13,6 +13,12 @@ pub const TABLE_TEXT_BYTES: usize = 2_304;
 /// a finished checksum starts from all ones and is inverted by its caller.
 pub fn word_step(register: u32, word: u32) -> u32 {
     lent::crc32c_word_step(register, word)
+}
+
+/// The register of CRC32C after `bytes`; nothing is inverted, as in [`word_step`]. A run over two
+/// parts, one after the other, is a run over both together.
+pub fn update(register: u32, bytes: &[u8]) -> u32 {
+    lent::crc32c_update(register, bytes)
 }
 
 /// The table of a reflected polynomial: 256 lines of eight lower-case hexadecimal digits, entry 0

@@ -34,6 +34,8 @@ impl Error {
             20 => "a leaf would be empty",
             21 => "the result does not fit in the output or the limits",
             22 => "the amount is above what stands",
+            23 => "the image is no leaf: its length, level or checksum is wrong",
+            24 => "the image's item headers or data are not packed",
             _ => "an unknown code",
         }
     }

@@ -16,6 +16,10 @@ pub fn crc32c_word_step(register: u32, word: u32) -> u32 {
     unsafe { raw::crc32c_word_step(register, word) }
 }
 
+pub fn crc32c_update(register: u32, bytes: &[u8]) -> u32 {
+    unsafe { raw::crc32c_update(register, bytes.as_ptr(), bytes.len()) }
+}
+
 pub fn extent_write_data_ref_hash(tree: u64, objectid: u64, offset: u64) -> u64 {
     unsafe { raw::extent_write_data_ref_hash(tree, objectid, offset) }
 }
@@ -724,6 +728,40 @@ pub fn leaf_edit_split_to_fit(
 
 pub fn leaf_edit_item(sheet: &[u8], number: u64, start: &mut u64, len: &mut u64) -> u32 {
     unsafe { raw::leaf_edit_item(sheet.as_ptr(), sheet.len(), number, start, len) }
+}
+
+pub fn leaf_image_read(nodesize: u32, image: &[u8], out: &mut [u8], len: &mut u64) -> u32 {
+    unsafe {
+        raw::leaf_image_read(
+            nodesize,
+            image.as_ptr(),
+            image.len(),
+            out.as_mut_ptr(),
+            out.len(),
+            len,
+        )
+    }
+}
+
+pub fn leaf_image_write(
+    nodesize: u32,
+    header: &[u8],
+    sheet: &[u8],
+    out: &mut [u8],
+    len: &mut u64,
+) -> u32 {
+    unsafe {
+        raw::leaf_image_write(
+            nodesize,
+            header.as_ptr(),
+            header.len(),
+            sheet.as_ptr(),
+            sheet.len(),
+            out.as_mut_ptr(),
+            out.len(),
+            len,
+        )
+    }
 }
 
 pub fn ledger_post(

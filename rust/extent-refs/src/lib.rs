@@ -3,9 +3,10 @@
 //! [`backref`], [`leaf_edit`], [`extent_write`] and [`transaction`] have the signatures of the
 //! driver's own modules, so that a driver swaps a module and keeps its callers: it re-exports
 //! [`chunk::DiskKey`] in place of its own key and gives its error type a
-//! `From<extent_refs::error::Error>`. [`ledger`] posts a change to a balanced item list, [`crc32c`]
-//! runs a checksum over a word and writes a checksum's table. [`lent`] has every call in its plain
-//! form, which allocates nothing.
+//! `From<extent_refs::error::Error>`. [`ledger`] posts a change to a balanced item list,
+//! [`leaf_image`] reads and writes leaves as they stand on the card, [`crc32c`] runs a checksum over
+//! words and bytes and writes a checksum's table. [`lent`] has every call in its plain form, which
+//! allocates nothing.
 //!
 //! Every result comes from the archive; this crate turns lists into bytes and codes into errors.
 pub mod backref;
@@ -16,6 +17,7 @@ pub mod crc32c;
 pub mod error;
 pub mod extent_write;
 pub mod leaf_edit;
+pub mod leaf_image;
 pub mod ledger;
 #[rustfmt::skip]
 pub mod lent;

@@ -5,6 +5,7 @@
 extern "C" {
     pub fn crc32c_table_text(polynomial: u32, out: *mut u8, out_len: usize, len: *mut u64) -> u32;
     pub fn crc32c_word_step(register: u32, word: u32) -> u32;
+    pub fn crc32c_update(register: u32, bytes: *const u8, bytes_len: usize) -> u32;
     pub fn extent_write_data_ref_hash(tree: u64, objectid: u64, offset: u64) -> u64;
     pub fn extent_write_tree_block_key(
         bytenr: u64,
@@ -360,6 +361,24 @@ extern "C" {
         sheet_len: usize,
         number: u64,
         start: *mut u64,
+        len: *mut u64,
+    ) -> u32;
+    pub fn leaf_image_read(
+        nodesize: u32,
+        image: *const u8,
+        image_len: usize,
+        out: *mut u8,
+        out_len: usize,
+        len: *mut u64,
+    ) -> u32;
+    pub fn leaf_image_write(
+        nodesize: u32,
+        header: *const u8,
+        header_len: usize,
+        sheet: *const u8,
+        sheet_len: usize,
+        out: *mut u8,
+        out_len: usize,
         len: *mut u64,
     ) -> u32;
     pub fn ledger_post(

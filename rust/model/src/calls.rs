@@ -3,7 +3,7 @@ use crate::asked::{ask, Asked, Stop};
 use crate::ledger::Change;
 use crate::sheet::Item;
 use crate::table::CALLS;
-use crate::{apply, body, hash, ledger, sheet};
+use crate::{apply, body, hash, leaf, ledger, sheet};
 
 /// One C argument. Of a lent one it holds the contents before the call, or after it.
 #[derive(Debug, Clone, PartialEq, Eq)]
@@ -228,6 +228,9 @@ pub fn answer(call: &str, args: &[Arg]) -> Asked<Written> {
             numbers(&[start, length])
         }
 
+        "leaf_image_read" => bytes(leaf::read(g.u32(), g.bytes())?),
+        "leaf_image_write" => bytes(leaf::write(g.u32(), g.bytes(), g.bytes())?),
+
         "ledger_post" => {
             let (size, list, change, extent) = (g.u32(), g.bytes(), g.u64(), g.u64());
             let [a, b, c] = g.triple();
@@ -259,6 +262,7 @@ fn value(call: &str, args: &[Arg]) -> u64 {
     let mut g = Given(args.iter());
     match call {
         "crc32c_word_step" => hash::word_step(g.u32(), g.u32()).into(),
+        "crc32c_update" => hash::register(g.u32(), g.bytes()).into(),
         "extent_write_data_ref_hash" => {
             let [tree, objectid, offset] = g.triple();
             hash::data_ref_hash(tree, objectid, offset)

@@ -1,9 +1,9 @@
-//! Document 01's marked cases, its lister example, and of document 02 the tables of ticket 2 and the
-//! word steps of ticket 3, on the model.
+//! Document 01's marked cases, its lister example, and of document 02 the tables of ticket 2, the word
+//! steps of ticket 3 and the images of ticket 4, on the model.
 use crate::asked::Stop::{Refused, Remove};
 use crate::body::*;
 use crate::sheet::{bytes, insert, split_to_fit, Item};
-use crate::{apply, hash, lister};
+use crate::{apply, hash, leaf, lister};
 
 fn e() -> Vec<u8> {
     data_extent_body(7, 5, 257, 0)
@@ -99,4 +99,24 @@ fn tables() {
     assert_eq!((&other[1][..], &other[255][..]), ("77073096", "2d02ef8d"));
     let ones = lines(u32::MAX);
     assert_eq!((&ones[1][..], &ones[255][..]), ("02000000", "01ffffff"));
+}
+
+#[test]
+fn images() {
+    let empty = leaf::write(501, &[0; 101], &[1]).unwrap();
+    assert_eq!(empty[..4], [0x4b, 0x15, 0xdb, 0x7c]);
+    assert_eq!(leaf::read(501, &empty), Ok(vec![1]));
+    let counting: Vec<u8> = (0..101).collect();
+    assert_eq!(leaf::write(501, &counting, &[1]).unwrap()[..4], [0x6d, 0xf0, 0xa7, 0xc3]);
+    let sheet = bytes(&[Item::new(4096, 168, 4096, e())]);
+    let image = leaf::write(4096, &[0; 101], &sheet).unwrap();
+    assert_eq!(image[..4], [0xa3, 0x80, 0x47, 0xfe]);
+    let head = [0, 16, 0, 0, 0, 0, 0, 0, 168, 0, 16, 0, 0, 0, 0, 0, 0, 0x66, 15, 0, 0, 53, 0, 0, 0];
+    assert_eq!(image[101..126], head);
+    assert_eq!(leaf::read(4096, &image), Ok(sheet));
+    let one = |length| leaf::write(501, &[0; 101], &bytes(&[Item::new(0, 0, 0, vec![0; length])]));
+    assert!(one(375).is_ok());
+    assert_eq!(one(376), Err(Refused(18)));
+    assert_eq!(leaf::read(501, &[0; 501]), Err(Refused(23)));
+    assert_eq!(leaf::read(500, &[0; 500]), Err(Refused(3)));
 }

@@ -24,6 +24,12 @@ pub const CALLS: &[Call] = &[
         asks: &[("", "")],
     },
     Call {
+        name: "crc32c_update",
+        parameters: &[("register", "u32"), ("bytes", "bytes")],
+        result: "u32",
+        asks: &[("", "")],
+    },
+    Call {
         name: "extent_write_data_ref_hash",
         parameters: &[("tree", "u64"), ("objectid", "u64"), ("offset", "u64")],
         result: "u64",
@@ -274,6 +280,18 @@ pub const CALLS: &[Call] = &[
         parameters: &[("sheet", "bytes"), ("number", "u64"), ("start", "lent"), ("len", "lent")],
         result: "code",
         asks: &[("", "1 2 5")],
+    },
+    Call {
+        name: "leaf_image_read",
+        parameters: &[("nodesize", "u32"), ("image", "bytes"), ("out", "out"), ("len", "lent")],
+        result: "code",
+        asks: &[("", "3 23 24 (1) 2 21")],
+    },
+    Call {
+        name: "leaf_image_write",
+        parameters: &[("nodesize", "u32"), ("header", "bytes"), ("sheet", "bytes"), ("out", "out"), ("len", "lent")],
+        result: "code",
+        asks: &[("", "1 2 3 18 21")],
     },
     Call {
         name: "ledger_post",

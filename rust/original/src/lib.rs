@@ -1,11 +1,15 @@
 //! The original's own text, compiled where it lies (see build.rs), with the stand-ins that
-//! document 01 names: everything written in this file is a stand-in.
+//! document 01 names, and the reading of keys and numbers that its leaf reader calls: everything
+//! written in this file is a stand-in.
 #![allow(dead_code, unused_imports, clippy::all)]
 
 /// Whether the original's folder was there when this was built.
 pub const HERE: bool = cfg!(original_here);
 
 pub mod chunk {
+    use crate::error::Result;
+    use crate::superblock::le64;
+
     pub const DISK_KEY_SIZE: usize = 17;
 
     #[derive(Debug, Clone, Copy, PartialEq, Eq, PartialOrd, Ord, Hash)]
@@ -13,6 +17,13 @@ pub mod chunk {
         pub objectid: u64,
         pub key_type: u8,
         pub offset: u64,
+    }
+
+    impl DiskKey {
+        /// The original asks the length of an item's header before it calls this.
+        pub fn parse(buf: &[u8]) -> Result<Self> {
+            Ok(DiskKey { objectid: le64(buf, 0), key_type: buf[8], offset: le64(buf, 9) })
+        }
     }
 
     pub mod key_type {
@@ -25,6 +36,7 @@ pub mod error {
     #[derive(Debug, Clone, PartialEq, Eq)]
     pub enum Error {
         UnsupportedFeature(String),
+        BadSuperblock(String),
     }
 
     pub type Result<T> = std::result::Result<T, Error>;
@@ -52,6 +64,14 @@ pub mod superblock {
 
     pub mod incompat {
         pub const SKINNY_METADATA: u64 = 1 << 8;
+    }
+
+    pub fn le32(buf: &[u8], at: usize) -> u32 {
+        u32::from_le_bytes(buf[at..at + 4].try_into().unwrap())
+    }
+
+    pub fn le64(buf: &[u8], at: usize) -> u64 {
+        u64::from_le_bytes(buf[at..at + 8].try_into().unwrap())
     }
 }
 

@@ -2,12 +2,14 @@
 //! differential run links, and that it notices each fault. It is no part of the product.
 //! The variable STANDIN_FAULT names the fault.
 #![allow(clippy::missing_safety_doc, clippy::too_many_arguments)]
+use model::asked::{Asked, Stop};
 use model::calls::{outcome, returns_value, Arg, Outcome};
 use model::ledger::count;
 use model::sheet::read;
 use std::slice::{from_raw_parts, from_raw_parts_mut};
 use std::sync::OnceLock;
 
+mod images;
 mod texts;
 mod values;
 
@@ -32,7 +34,7 @@ fn faulty(call: &str, args: &[Arg]) -> Outcome {
 fn coded(call: &str, args: &[Arg]) -> Outcome {
     let mut said = match fault() {
         "drops all" if call == "ledger_post" => outcome(call, &of_all(args)),
-        _ => wrong_text(call, args).unwrap_or_else(|| outcome(call, args)),
+        _ => wrong_bytes(call, args).unwrap_or_else(|| outcome(call, args)),
     };
     let length = said.args.iter().find_map(|a| if let Arg::Lent(n) = a { Some(*n) } else { None });
     let length = length.unwrap_or(0) as usize;
@@ -104,18 +106,25 @@ fn of_all(args: &[Arg]) -> Vec<Arg> {
     all
 }
 
-/// A table's text that is wrong in the way asked for.
-fn wrong_text(call: &str, args: &[Arg]) -> Option<Outcome> {
-    let ("crc32c_table_text", Arg::Number(polynomial)) = (call, &args[0]) else { return None };
-    let text = texts::wrong(fault(), *polynomial as u32)?;
-    if text.len() > room(args) {
-        return Some(blank(args, 21));
-    }
+/// A table's text, a sheet or an image that is wrong in the way asked for.
+fn wrong_bytes(call: &str, args: &[Arg]) -> Option<Outcome> {
+    let wrong: Asked<Vec<u8>> = match (call, &args[0]) {
+        ("crc32c_table_text", Arg::Number(polynomial)) => {
+            Ok(texts::wrong(fault(), *polynomial as u32)?.into_bytes())
+        }
+        _ => images::wrong(fault(), call, args)?,
+    };
+    let bytes = match wrong {
+        Ok(bytes) if bytes.len() <= room(args) => bytes,
+        Ok(_) => return Some(blank(args, 21)),
+        Err(Stop::Refused(number)) => return Some(blank(args, number.into())),
+        Err(_) => return None,
+    };
     let mut said = Outcome { code: 0, args: args.to_vec() };
     for arg in &mut said.args {
         match arg {
-            Arg::Out(out) => out[..text.len()].copy_from_slice(text.as_bytes()),
-            Arg::Lent(length) => *length = text.len() as u64,
+            Arg::Out(out) => out[..bytes.len()].copy_from_slice(&bytes),
+            Arg::Lent(length) => *length = bytes.len() as u64,
             _ => {}
         }
     }

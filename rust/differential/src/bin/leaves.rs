@@ -1,10 +1,16 @@
-//! Real leaves: each is read into items, every record's references are held to dump-tree's text,
-//! and every extent whose own items balance is posted to. The last line is 'N passed, M failed'.
+//! Real leaves: each image is read by the archive, also damaged, and written back, every record's
+//! references are held to dump-tree's text, and every extent whose own items balance is posted to.
+//! The last line is 'N passed, M failed'.
 //!
 //! The leaves are in ../shared/leaves beside the repository, or where EXTENT_REFS_LEAVES says.
 use differential::archive::{self, Archive};
 use differential::dump_tree::{self, Leaf};
 use differential::generate::{ample, lent, posting};
+use differential::images::{of_read, of_write, READ, WRITE};
+use differential::leaf_draw::{cleared, damaged, gap};
+use differential::random::Random;
+use differential::verdict::{agreement, inside, of_original, written};
+use differential::verdict::{Agreement, Verdict, ORIGINAL_HERE};
 use model::asked::le64;
 use model::body::{Body, BLOCK, DATA, OWNER, SHARED_BLOCK, SHARED_DATA};
 use model::calls::{outcome, Arg, Outcome};
@@ -13,6 +19,9 @@ use model::ledger::{balanced, count};
 use model::sheet::{bytes, read, Item};
 use std::path::Path;
 use std::process::ExitCode;
+
+/// How often each image is damaged.
+const DAMAGED: usize = 20;
 
 fn main() -> ExitCode {
     let Some(paths) = dump_tree::leaves() else {
@@ -23,8 +32,7 @@ fn main() -> ExitCode {
     let mut run = Run::default();
     for path in &paths {
         if let Err(fault) = run.leaf(path) {
-            let name = path.file_name().unwrap_or_default().to_string_lossy().into_owned();
-            run.faults.push(format!("{name}: {fault}"));
+            run.faults.push(format!("{}: {fault}", name(path)));
         }
     }
     let passed = paths.len() - run.faults.len().min(paths.len());
@@ -33,19 +41,7 @@ fn main() -> ExitCode {
     for fault in run.faults.iter().take(10) {
         println!("FAIL {fault}");
     }
-    println!(
-        "{} leaves: {} records with {} inline references and {} reference items as dump-tree lists them",
-        run.leaves, run.records, run.inline, run.own
-    );
-    println!(
-        "{} leaves balance alone; {} extents balance by themselves, {} do not or have no record; {} postings, {} accepted",
-        run.leaves_balanced, run.extents, run.unbalanced, run.posted, run.accepted
-    );
-    println!(
-        "{} shared references added and dropped again, {} of them in two parts: the old bytes each time",
-        run.restored, run.in_parts
-    );
-    println!("{} calls put to the archive too", run.archived);
+    run.print();
     println!("{passed} passed, {} failed", run.faults.len());
     if run.faults.is_empty() {
         ExitCode::SUCCESS
@@ -59,6 +55,11 @@ struct Run {
     archive: Archive,
     faults: Vec<String>,
     leaves: usize,
+    same: usize,
+    cleared: usize,
+    as_original: usize,
+    damaged: usize,
+    refused: usize,
     records: usize,
     inline: usize,
     own: usize,
@@ -75,10 +76,37 @@ struct Run {
 type Fault<T> = Result<T, String>;
 
 impl Run {
+    /// What was compared.
+    fn print(&self) {
+        println!(
+            "{} images read and written back: {} byte for byte, {} with bytes 4 to 31 or the gap cleared; {} read as the original reads them",
+            self.same + self.cleared, self.same, self.cleared, self.as_original
+        );
+        println!("{} damaged ones, {} of them refused", self.damaged, self.refused);
+        println!(
+            "{} leaves: {} records with {} inline references and {} reference items as dump-tree lists them",
+            self.leaves, self.records, self.inline, self.own
+        );
+        println!(
+            "{} leaves balance alone; {} extents balance by themselves, {} do not or have no record; {} postings, {} accepted",
+            self.leaves_balanced, self.extents, self.unbalanced, self.posted, self.accepted
+        );
+        println!(
+            "{} shared references added and dropped again, {} of them in two parts: the old bytes each time",
+            self.restored, self.in_parts
+        );
+        println!("{} calls put to the archive too", self.archived);
+    }
+
     /// What was not compared at all: each is a fault.
     fn nothing(&self) -> Vec<String> {
+        let as_original = if ORIGINAL_HERE { self.as_original } else { self.same };
         let counts = [
             (self.leaves, "leaf"),
+            (self.same, "image written back byte for byte"),
+            (as_original, "image read by the original"),
+            (self.refused, "damaged image refused"),
+            (self.damaged - self.refused, "damaged image accepted"),
             (self.records, "record"),
             (self.inline, "inline reference"),
             (self.own, "reference item"),
@@ -94,8 +122,9 @@ impl Run {
     }
 
     fn leaf(&mut self, path: &Path) -> Fault<()> {
-        let Leaf { items, texts, nodesize } = Leaf::read(path)?;
-        read(&bytes(&items)).map_err(|stop| format!("the sheet is refused: {stop:?}"))?;
+        let leaf = Leaf::read(path)?;
+        self.image(&leaf, &name(path))?;
+        let Leaf { items, texts, nodesize, .. } = leaf;
         self.texts(&items, &texts)?;
         self.leaves_balanced += usize::from(balanced(&items));
         let mut extents: Vec<u64> = items.iter().map(|i| i.key.0).collect();
@@ -103,6 +132,60 @@ impl Run {
         for extent in extents {
             let own: Vec<Item> = items.iter().filter(|i| i.key.0 == extent).cloned().collect();
             self.extent(extent, &own, nodesize)?;
+        }
+        Ok(())
+    }
+
+    /// The image read by the archive, whole and damaged, and written back.
+    fn image(&mut self, leaf: &Leaf, name: &str) -> Fault<()> {
+        let Leaf { image, items, nodesize, .. } = leaf;
+        let said = self.as_all_read(*nodesize, image)?;
+        let sheet = written(READ, &said).bytes;
+        if said.code != 0 || sheet != bytes(items) {
+            return Err(format!("{READ} gives {} and another sheet", said.code));
+        }
+        self.as_original += usize::from(ORIGINAL_HERE);
+        self.back(leaf, &sheet)?;
+        let mut r = Random::named(name, 1);
+        for _ in 0..DAMAGED {
+            let image = damaged(&mut r, image, items.len());
+            let said = self.as_all_read(*nodesize, &image)?;
+            self.damaged += 1;
+            self.refused += usize::from(said.code != 0);
+        }
+        Ok(())
+    }
+
+    /// What the archive reads, as the model, and as the original where it is asked.
+    fn as_all_read(&mut self, nodesize: u64, image: &[u8]) -> Fault<Outcome> {
+        let args = lent(&of_read(nodesize, image), image.len());
+        let said = self.ask(READ, &args)?;
+        let verdict = match inside(READ, said.code) {
+            true => of_original(READ, &args),
+            false => Verdict::NotAsked,
+        };
+        match agreement(READ, &verdict, &said) {
+            Agreement::Same | Agreement::Outside => Ok(said),
+            _ => Err(format!("{READ} gives {} and the original {verdict:?}", said.code)),
+        }
+    }
+
+    /// The image written back with its own header: the same, or with what the writer clears.
+    fn back(&mut self, leaf: &Leaf, sheet: &[u8]) -> Fault<()> {
+        let Leaf { image, items, nodesize, .. } = leaf;
+        if !archive::has(WRITE) {
+            return Err(format!("{WRITE} is not in the archive"));
+        }
+        let args = lent(&of_write(*nodesize, &image[..101], sheet), image.len());
+        let said = self.ask(WRITE, &args)?;
+        let back = written(WRITE, &said).bytes;
+        if said.code != 0 || back != cleared(image.clone(), gap(items, image.len())) {
+            return Err(format!("{WRITE} gives {} and another image", said.code));
+        }
+        if back == *image {
+            self.same += 1;
+        } else {
+            self.cleared += 1;
         }
         Ok(())
     }
@@ -316,8 +399,12 @@ impl Run {
     }
 }
 
+fn name(path: &Path) -> String {
+    path.file_name().unwrap_or_default().to_string_lossy().into_owned()
+}
+
 fn items_of(said: &Outcome) -> Fault<Vec<Item>> {
-    let sheet = differential::verdict::written("ledger_post", said).bytes;
+    let sheet = written("ledger_post", said).bytes;
     read(&sheet).map_err(|stop| format!("a posting gives a sheet that is refused: {stop:?}"))
 }
 
@@ -346,9 +433,13 @@ fn kind_name(kind: u8) -> &'static str {
 
 #[test]
 fn an_empty_folder_fails() {
-    assert_eq!(Run::default().nothing().len(), 10);
+    assert_eq!(Run::default().nothing().len(), 14);
     let whole = Run {
         leaves: 1,
+        same: 1,
+        as_original: 1,
+        damaged: 2,
+        refused: 1,
         records: 1,
         inline: 1,
         own: 1,

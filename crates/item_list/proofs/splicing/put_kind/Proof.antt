@@ -3,7 +3,7 @@ use mathlib.Core.List.{List}
 use Prim.Native.Nat.{ℕ}
 use denote.Ref.{now}
 use Rattle.fields.specs.Parts.{written}
-use Rattle.format.proofs.Items.{beBytes-one}
+use Rattle.fields.proofs.Numbers.{beBytes-one}
 use borrow.Author.Needs.{needs}
 use Rattle.item_list.proofs.splicing.put_kind.Statement.{statement}
 use Rattle.item_list.proofs.splicing.put_kind.Tie as tie
