@@ -102,8 +102,7 @@ uint32_t backref_inline_ref(
     uint64_t *len);
 
 /* Asks 3 6 7 8 absent 21.
- * Gives the body without the first match, the total as it was; its count, 1 for 182; left: the
- * sum of what the name still counts in it. */
+ * Gives the body without the first match, the total left; its count, 1 for 182. */
 uint32_t backref_take_inline_shared(
     uint8_t item_type,
     const uint8_t *body, size_t body_len,
@@ -111,11 +110,10 @@ uint32_t backref_take_inline_shared(
     uint64_t parent,
     uint8_t *out, size_t out_len,
     uint64_t *len,
-    uint64_t *count,
-    uint64_t *left);
+    uint64_t *count);
 
 /* Asks 3 6 7 8 9 21+.
- * Gives the body with the reference, the total as it was; the count plays no part. */
+ * Gives the body with the reference, the total left; the count plays no part. */
 uint32_t backref_add_inline_keyed_block(
     uint8_t item_type,
     const uint8_t *body, size_t body_len,
@@ -126,7 +124,7 @@ uint32_t backref_add_inline_keyed_block(
 
 /* Asks 3 6 7 8 10 11 21+.
  * Gives the body in which an equal triple gained the count, or with a new reference where there
- * was no 178; the total as it was. */
+ * was no 178; the total left. */
 uint32_t backref_add_inline_keyed_data(
     uint8_t item_type,
     const uint8_t *body, size_t body_len,
@@ -139,7 +137,7 @@ uint32_t backref_add_inline_keyed_data(
 
 /* Asks 3 6 7 8 absent 13 21.
  * Gives the body with one count less, the reference gone where it was 0 or 1; the total down by
- * one; left: the sum of what the name still counts in it. */
+ * one. */
 uint32_t backref_drop_inline_data_ref(
     uint8_t item_type,
     const uint8_t *body, size_t body_len,
@@ -147,19 +145,17 @@ uint32_t backref_drop_inline_data_ref(
     uint64_t objectid,
     uint64_t offset,
     uint8_t *out, size_t out_len,
-    uint64_t *len,
-    uint64_t *left);
+    uint64_t *len);
 
 /* Asks 3 15 16 remove 21.
- * Gives the item's data with one count less; left: that count. */
+ * Gives the item's data with one count less. */
 uint32_t backref_drop_keyed_data_ref(
     const uint8_t *item, size_t item_len,
     uint64_t tree,
     uint64_t objectid,
     uint64_t offset,
     uint8_t *out, size_t out_len,
-    uint64_t *len,
-    uint64_t *left);
+    uint64_t *len);
 
 /* Asks 3 6h 13 21.
  * Gives the body, the total down by one. */
@@ -241,15 +237,13 @@ uint32_t backref_add_inline_shared(
     uint64_t *len);
 
 /* Asks 3 6 7 8 absent 13 21.
- * Gives the body without the reference, the total down by one; left: the sum of what the name
- * still counts in it. */
+ * Gives the body without the reference, the total down by one. */
 uint32_t backref_drop_inline_tree_ref(
     uint8_t item_type,
     const uint8_t *body, size_t body_len,
     uint64_t tree,
     uint8_t *out, size_t out_len,
-    uint64_t *len,
-    uint64_t *left);
+    uint64_t *len);
 
 /* Asks 3 6h 21.
  * Gives the body, the flags or-ed. */
@@ -355,8 +349,8 @@ uint32_t transaction_apply_shared_add(
     uint64_t *len);
 
 /* Asks as_item=1: 1 2 3 5 6h 14 21; else 1 2 3 5 6 7 8 5n 14 21.
- * Gives the sheet without the reference, the total down by the count that was passed; left: the
- * sum of what the name still counts in the record; as an item: the total alone, left 0. */
+ * Gives the sheet without the reference, the total down by the count that was passed; as an
+ * item: the total alone. */
 uint32_t transaction_apply_shared_drop(
     const uint8_t *sheet, size_t sheet_len,
     uint64_t bytenr,
@@ -365,13 +359,11 @@ uint32_t transaction_apply_shared_drop(
     uint32_t count,
     bool as_item,
     uint8_t *out, size_t out_len,
-    uint64_t *len,
-    uint64_t *left);
+    uint64_t *len);
 
 /* Asks 1 2 5 6 7 8 5n 13 21.
  * Gives the sheet without the reference of the record (bytenr, 169, level), inline or else its
- * item (bytenr, 176, tree); the total down by one; own sets flag 256; left: the sum of what the
- * name still counts in the record. */
+ * item (bytenr, 176, tree); the total down by one; own sets flag 256. */
 uint32_t transaction_drop_kept_tree_ref(
     const uint8_t *sheet, size_t sheet_len,
     uint64_t bytenr,
@@ -379,8 +371,7 @@ uint32_t transaction_drop_kept_tree_ref(
     uint64_t tree,
     bool own,
     uint8_t *out, size_t out_len,
-    uint64_t *len,
-    uint64_t *left);
+    uint64_t *len);
 
 /* leaf_edit: sheets */
 
@@ -482,7 +473,7 @@ uint32_t leaf_image_write(
  * offset; amount), 3 add shared (a kind, b parent; amount), 4 drop block (a tree), 5 drop data
  * (a tree, b objectid, c offset), 6 drop shared (a kind, b parent; amount: all that stands
  * removes the reference); a field that a change does not use plays no part; another number is
- * refused 3; left: what the name counts afterwards, 0 for an add. */
+ * refused 3. */
 uint32_t ledger_post(
     uint32_t nodesize,
     const uint8_t *sheet, size_t sheet_len,
@@ -493,8 +484,7 @@ uint32_t ledger_post(
     uint64_t c,
     uint32_t amount,
     uint8_t *out, size_t out_len,
-    uint64_t *len,
-    uint64_t *left);
+    uint64_t *len);
 
 #ifdef __cplusplus
 }

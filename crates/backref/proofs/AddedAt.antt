@@ -37,7 +37,7 @@ pub data Decided (type : ℕ) (d : List ℕ) : Type 1 where
   readable : (b : Body) → length d ≤ 65535 → read_body type d ≡ accepted b → Decided type d
   faulty : (n : ℕ) → ((A : Type 0) (next : Body → Answer A) → on_body type d next ≡ refused n) → Decided type d
 
-pub decide : (type : ℕ) (d : List ℕ) → Decided type d
+decide : (type : ℕ) (d : List ℕ) → Decided type d
 unfolding on_body ask bind body_fits
 decide type d =
     by-test (leb (length d) 65535)
@@ -59,9 +59,9 @@ pub record ReadIn (type : ℕ) (d : List ℕ) (w : RefName) (place : ℕ) (seen 
   pub view : View w place (start_of type d) from.refs false seen
 
 -- the total of the body that was read
-pub total-read : (type : ℕ) (d : List ℕ) (b : Body) → read_body type d ≡ accepted b → (t : ℕ) → t ≡ le (part 0 8 d) → b.total ≡ t
+pub total-read : (type : ℕ) (d : List ℕ) {w : RefName} {place : ℕ} {seen : Seen} (r : ReadIn type d w place seen) (t : ℕ) → t ≡ le (part 0 8 d) → r.from.total ≡ t
 unfolding total_of
-total-read type d b r t e = sym (e ∙ read-total type d b r)
+total-read type d r t e = sym (e ∙ read-total type d r.from r.read)
 
 module _ (type : ℕ) (d : List ℕ) (w : RefName) (place : ℕ) where
   scan-other : {X : Type 0} (seen : Seen) (n : ℕ) → Scanned seen ≡ Fault n → X

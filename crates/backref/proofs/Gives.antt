@@ -160,7 +160,7 @@ module _ (type : ℕ) (d : List ℕ) (w : RefName) (rank amount : ℕ) (plan : P
       give-full k o =
           plan-refused plan d given 12 o
           (given_is ∙ add-gap (start_of type d) r.from.refs w amount r.from p position (view-of (NewAt p) i) h small (refused 12)
-          (ap (raised_by amount) (total-read type d r.from r.read t is) ∙ raised-no t amount k))
+          (ap (raised_by amount) (total-read type d r t is) ∙ raised-no t amount k))
 
       give-new : (size : ℕ) (new : List ℕ) → t ≤ 18446744073709551615 - amount → size ≡ 1 + payload_length (kind_of w) → Holds w amount new
           → plan ≡ plan_of p p new size (t + amount) 0 → Planned plan d given
@@ -168,7 +168,7 @@ module _ (type : ℕ) (d : List ℕ) (w : RefName) (rank amount : ℕ) (plan : P
       give-new size new k s n o =
           put-new type d w amount plan r.from r.fits r.read bytes (t + amount) size new s given p position (view-of (NewAt p) i) n o
           (given_is ∙ add-gap (start_of type d) r.from.refs w amount r.from p position (view-of (NewAt p) i) h small (accepted (t + amount))
-          (ap (raised_by amount) (total-read type d r.from r.read t is) ∙ raised-yes t amount k (omega arith)))
+          (ap (raised_by amount) (total-read type d r t is) ∙ raised-yes t amount k (omega arith)))
 
       pub give-gap : Raised p p w amount t amount plan → Planned plan d given
       give-gap u = go (lt-or (18446744073709551615 - amount) t)
@@ -193,7 +193,7 @@ module _ (type : ℕ) (d : List ℕ) (w : RefName) (rank amount : ℕ) (plan : P
         give-full-more k o =
             plan-refused plan d given 12 o
             (given_is ∙ add-standing (start_of type d) r.from.refs w amount r.from p q x position (view-of (Standing p q x) i) h l small (refused 12)
-            (ap (raised_by amount) (total-read type d r.from r.read t is) ∙ raised-no t amount k))
+            (ap (raised_by amount) (total-read type d r t is) ∙ raised-no t amount k))
 
         give-more : (size : ℕ) (new : List ℕ) → t ≤ 18446744073709551615 - amount → size ≡ 1 + payload_length (kind_of w) → Holds w (x + amount) new
             → plan ≡ plan_of p q new size (t + amount) 0 → Planned plan d given
@@ -201,7 +201,7 @@ module _ (type : ℕ) (d : List ℕ) (w : RefName) (rank amount : ℕ) (plan : P
         give-more size new k s n o =
             put-more type d w amount plan r.from r.fits r.read bytes (t + amount) size new s given p q x position (view-of (Standing p q x) i) n o
             (given_is ∙ add-standing (start_of type d) r.from.refs w amount r.from p q x position (view-of (Standing p q x) i) h l small (accepted (t + amount))
-            (ap (raised_by amount) (total-read type d r.from r.read t is) ∙ raised-yes t amount k (omega arith)))
+            (ap (raised_by amount) (total-read type d r t is) ∙ raised-yes t amount k (omega arith)))
 
         pub give-standing : Raised p q w (x + amount) t amount plan → Planned plan d given
         give-standing u = go (lt-or (18446744073709551615 - amount) t)
@@ -308,7 +308,7 @@ module _ (type : ℕ) (d : List ℕ) (w : RefName) (rank amount : ℕ) (plan : P
 
   done_at : (t : ℕ) → t ≡ le (part 0 8 d) → (position : RefPosition) → done position ≡ accepted (body_bytes (body_with r.from t (added_at (new_ref w amount) position)))
   unfolding done
-  done_at t e position = ap (λ (n : ℕ). accepted (body_bytes (body_with r.from n (added_at (new_ref w amount) position)))) (total-read type d r.from r.read t e)
+  done_at t e position = ap (λ (n : ℕ). accepted (body_bytes (body_with r.from n (added_at (new_ref w amount) position)))) (total-read type d r t e)
 
   module _ (p : ℕ) (i : NewAt p ≡ add_anywhere (length d) seen) (others : Bool) (k : others ≡ others_in seen) where
     others-here : others ≡ any_others w rank r.from.refs

@@ -1,5 +1,5 @@
 -- The plans by wanted name, as the definitions have them. Assumes nothing.
-use mathlib.Core.Path.{◌≡◌, refl, sym, ap, subst, ◌∙◌}
+use mathlib.Core.Path.{◌≡◌, refl, sym, subst, ◌∙◌}
 use mathlib.Core.Bool.{true, false}
 use mathlib.Core.List.{List}
 use Prim.Native.Nat.{ℕ}
@@ -11,22 +11,19 @@ use Rattle.format.specs.declared.Keyed.{Keyed}
 use Rattle.format.specs.declared.Keyed.TheVariants.{Block as Tree, Data as File}
 use Rattle.format.specs.declared.SharedRef.{SharedRef}
 use Rattle.format.specs.declared.Edited.{Edited}
-use Rattle.format.specs.Questions.{refused, ask, bind, bytes_of, Answered}
+use Rattle.format.specs.Questions.{ask, Answered}
 use Rattle.format.specs.Bodies.{held_body, one, shared_kind, add_inline_shared, add_inline_keyed, take_inline_shared}
 use Rattle.format.specs.References.{rank_of}
-use Rattle.format.specs.Left.{left_in}
-use Rattle.format.proofs.Answers.{refused-not}
 use Rattle.inline_refs.specs.Scans.{kind_of, fields_of}
 use Rattle.inline_refs.specs.declared.ref_name.RefName.{RefName}
 use Rattle.inline_refs.specs.declared.ref_name.RefName.TheVariants.{Block, Data, SharedBlock, SharedData}
 use Rattle.backref.specs.declared.plan.Plan.{Plan}
-use Rattle.backref.specs.declared.plan.DropPlan.{DropPlan}
 use Rattle.backref.specs.declared.plan.Outcome.TheVariants.{Refused}
-use Rattle.backref.specs.Plans.{Planned, PlannedTake}
+use Rattle.backref.specs.Plans.{Planned, PlannedTaken}
 use Rattle.backref.specs.ByName.{own_rank, position_of, add_inline, add_keyed, shared_ref, SharedName, take_inline}
 use Rattle.backref.proofs.Gives.{add_is}
 use Rattle.backref.proofs.Outcomes.{plan-refused, plan-same}
-use Rattle.backref.proofs.TakenPlans.{taken_refused}
+use Rattle.backref.proofs.TakenPlans.{taken_refused, taken-same}
 
 pub other-kind : (kind : ℕ) → shared_kind kind ≡ true → (kind ≡ 182 → ⊥) → kind ≡ 184
 unfolding shared_kind
@@ -48,37 +45,28 @@ named_by s (SharedBlock parent) h = rw h (refl, refl, refl)
 named_by s (SharedData parent) h = rw h (refl, refl, refl)
 
 -- of a kind that is shared
-module _ (type : ℕ) (d : List ℕ) (s : SharedRef) where
+module _ (type : ℕ) (d : List ℕ) (s : SharedRef) (plan : Plan) where
   module _ (w : RefName) (shared : shared_kind s.kind ≡ true) (name : SharedName s w) where
     names : (kind_of w ≡ s.kind) × (fields_of w ≡ one s.parent) × (own_rank w ≡ s.parent)
     names = named_by s w name
 
-    pub shared-is : {plan : Plan} (amount : ℕ) → Planned plan d (add_inline type d w amount) → Planned plan d (add_inline_shared type d s amount)
+    pub shared-is : (amount : ℕ) → Planned plan d (add_inline type d w amount) → Planned plan d (add_inline_shared type d s amount)
     unfolding add_inline_shared position_of ask
-    shared-is {plan} amount h =
+    shared-is amount h =
         plan-same plan d _ _ (add_is type d w amount ∙ rw (names.0, not-data s.kind shared, names.0, names.1, names.2, shared) refl) h
 
-    take-says : take_inline type d w ≡ take_inline_shared type d s
+    pub take-is : PlannedTaken plan d (take_inline type d w) → PlannedTaken plan d (take_inline_shared type d s)
     unfolding take_inline_shared take_inline ask
-    take-says = rw (shared, names.0, names.1) refl
+    take-is h = taken-same plan d _ _ (rw (shared, names.0, names.1) refl) h
 
-    pub take-is : {p : DropPlan} → PlannedTake p d (take_inline type d w) (left_in type (kind_of w) (fields_of w))
-        → PlannedTake p d (take_inline_shared type d s) (left_in type s.kind (one s.parent))
-    take-is h = record {
-      planned = record { says = h.planned.says ∙ take-says; inside = h.planned.inside };
-      leaves = λ rest e. h.leaves rest (ap bytes_of take-says ∙ e) ∙ (λ i. left_in type (names.0 i) (names.1 i) rest);
-    }
-
-  module _ (other : shared_kind s.kind ≡ false) where
-    pub shared-other : {plan : Plan} (amount : ℕ) → plan.outcome ≡ Refused 3 → Planned plan d (add_inline_shared type d s amount)
+  module _ (other : shared_kind s.kind ≡ false) (o : plan.outcome ≡ Refused 3) where
+    pub shared-other : (amount : ℕ) → Planned plan d (add_inline_shared type d s amount)
     unfolding add_inline_shared ask
-    shared-other {plan} amount o = plan-refused plan d _ 3 o (rw other refl)
+    shared-other amount = plan-refused plan d _ 3 o (rw other refl)
 
-    pub take-other : {p : DropPlan} {left : List ℕ → ℕ} → p.plan.outcome ≡ Refused 3 → PlannedTake p d (take_inline_shared type d s) left
-    unfolding take_inline_shared ask bind
-    take-other {p} o =
-        let e : take_inline_shared type d s ≡ refused 3 = rw other refl in
-        record { planned = taken_refused p.plan d _ 3 o e; leaves = λ rest h. refused-not (sym (ap bytes_of e) ∙ h) }
+    pub take-other : PlannedTaken plan d (take_inline_shared type d s)
+    unfolding take_inline_shared ask
+    take-other = taken_refused plan d _ 3 o (rw other refl)
 
 -- the two cases of a keyed reference
 module _ (type : ℕ) (d : List ℕ) (keyed : Keyed) (count room : ℕ) {r : Edited} {old new : List ℕ} where

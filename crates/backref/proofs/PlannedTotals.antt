@@ -60,9 +60,10 @@ pub one_right : (t : ℕ) → 2 ≤ t → 0 ≡ one_fault t
 unfolding one_fault
 one_right t h = simp (le-leb _ _ h)
 
-pub one-asked : (n t : ℕ) → n ≡ one_fault t → Asked n (lowered_by_one t) (t - 1)
+pub one-asked : (amount n t : ℕ) → n ≡ one_fault t → amount ≡ 1 → Asked n (lowered_by_one t) (t - amount)
 unfolding one_fault lowered_by_one ask
-one-asked n t q = subst (λ (m : ℕ). Asked m (lowered_by_one t) (t - 1)) (sym q) (go (leb 2 t))
+one-asked amount n t q e =
+    subst (λ (m : ℕ). Asked m (lowered_by_one t) (t - amount)) (sym q) (subst (λ (k : ℕ). Asked (one_fault t) (lowered_by_one t) (t - k)) (sym e) (go (leb 2 t)))
   where
     go : (x : Bool) → Asked (cond x 0 13) (ask x 13 (accepted (t - 1))) (t - 1)
     go true = record { refuses = λ h. absurd (h refl); passes = λ h. refl }

@@ -1,83 +1,65 @@
--- Laws of a plan that takes a reference out whole: that is all of it off, where the total stays. Assumes nothing.
+-- Laws of a plan that takes a reference out whole, one for each way out. Assumes nothing.
 use mathlib.Core.Path.{◌≡◌, refl, sym, ap, ◌∙◌}
-use mathlib.Core.List.{List, [], ◌++◌}
-use mathlib.Core.Option.{Option, none, some}
-use Prim.Native.Nat.{ℕ, ◌≤◌}
+use mathlib.Core.Bool.{false}
+use mathlib.Core.List.{List, [], ◌∷◌, ◌++◌}
+use Prim.Native.Nat.{ℕ}
 use native.Mathlib.Omega.{arith}
 use lib.Dec.{T}
-use lib.ListN.{length}
-use borrow.Author.Tests.{le-ltb}
-use Rattle.fields.specs.Lists.{all, Cut, first_cut}
-use Rattle.fields.specs.Numbers.{are_bytes}
-use Rattle.fields.proofs.Lists.{all-mid, cut-some}
-use Rattle.format.specs.Questions.{Answer, absent, accepted, bind, found, bytes_of, TakenOut}
-use Rattle.format.specs.References.{Ref, Body, body_with, read_body, body_bytes}
-use Rattle.format.specs.Bodies.{named, less, drop_inline}
-use Rattle.format.specs.Left.{left_in}
-use Rattle.format.proofs.Refs.{whole, weight-small}
-use Rattle.format.proofs.Bodies.{on-body, read-sound}
+use lib.ListN.{replicate}
+use Rattle.fields.specs.Numbers.{le, are_bytes}
+use Rattle.fields.specs.Parts.{part}
+use Rattle.format.specs.Questions.{Answer, accepted, bind, found, TakenOut}
+use Rattle.format.specs.References.{refs_bytes, start_of, body_with, body_bytes}
+use Rattle.format.proofs.Bodies.{on-body}
 use Rattle.inline_refs.specs.declared.ref_name.RefName.{RefName}
-use Rattle.inline_refs.specs.Scans.{kind_of, fields_of}
-use Rattle.backref.specs.declared.plan.DropPlan.{DropPlan}
-use Rattle.backref.specs.declared.drop_plans.Off.TheVariants.{Whole}
-use Rattle.backref.specs.Plans.{plan_answer, plan_taken, PlannedTake}
-use Rattle.backref.specs.ByName.{amount_off, lowered_off, drop_off, PlannedOff, take_inline}
-use Rattle.backref.proofs.Outcomes.{edits}
-use Rattle.backref.proofs.TakenPlans.{with-count, without-count}
-use Rattle.backref.proofs.AddedAt.{Decided, readable, faulty, decide}
+use Rattle.inline_refs.specs.declared.scan.Seen.{Seen}
+use Rattle.inline_refs.specs.declared.scan.Seen.TheVariants.{Open}
+use Rattle.inline_refs.specs.declared.scan.Scan.TheVariants.{Fault}
+use Rattle.inline_refs.specs.declared.noted.Found.TheVariants.{At, Nothing}
+use Rattle.inline_refs.specs.Scans.{is_wanted, scan_of, refs_in, hit_of}
+use Rattle.inline_refs.proofs.Views.{CutAt}
+use Rattle.inline_refs.proofs.RefPositions.{cut-between, found-view}
+use Rattle.backref.specs.declared.plan.Outcome.TheVariants.{Absent, Refused}
+use Rattle.backref.specs.declared.plan.Plan.{Plan}
+use Rattle.backref.specs.Plans.{PlannedTaken}
+use Rattle.backref.proofs.TakenPlans.{with-count, taken_refused, taken-absent, taken-edit}
+use Rattle.backref.specs.ByName.{take_inline}
+use Rattle.backref.proofs.AddedAt.{ReadIn, total-read, scan-faults, placed, plan_of, adding-plan}
 
--- no count is above what goes off
-none_stays : (r : Ref) → T (whole r) → less r (amount_off Whole) ≡ []
-unfolding less amount_off
-none_stays r t =
-    let low : r.weight ≤ 4294967295 = omega (arith, weight-small r t) in
-    simp (le-ltb _ _ low)
+module _ (type : ℕ) (d : List ℕ) (w : RefName) (plan : Plan) where
+  abbrev taken : Answer TakenOut
+  taken = take_inline type d w
 
-module _ (type : ℕ) (d : List ℕ) (w : RefName) (bytes : T (are_bytes d)) where
-  module _ (b : Body) (fits : length d ≤ 65535) (reads : read_body type d ≡ accepted b) where
-    abbrev first : Option (Cut Ref)
-    first = first_cut (named (kind_of w) (fields_of w)) b.refs
+  pub take-fault : (n : ℕ) → Fault n ≡ scan_of w 0 (start_of type d) (Open false) (refs_in type d) → plan.outcome ≡ Refused n → PlannedTaken plan d taken
+  unfolding take_inline
+  take-fault n e o = taken_refused plan d taken n o (scan-faults type d w 0 n _ e)
 
-    abbrev without : Cut Ref → List ℕ
-    without c = body_bytes (body_with b b.total (c.front ++ c.back))
+  module _ (seen : Seen) (r : ReadIn type d w 0 seen) where
+    pub take-absent : Nothing ≡ hit_of seen → plan.outcome ≡ Absent → PlannedTaken plan d taken
+    unfolding take_inline found bind
+    take-absent e o =
+        taken-absent plan d taken o
+        (on-body type d r.from _ r.fits r.read
+        ∙ rw (found-view w 0 (start_of type d) r.from.refs seen Nothing e r.view) refl)
 
-    whole-dropped : (c : Cut Ref) → first ≡ some c → drop_off type d w Whole ≡ accepted (without c)
-    unfolding drop_inline lowered_off found bind
-    whole-dropped c e =
-        let f = cut-some (named (kind_of w) (fields_of w)) b.refs e in
-        let wholes : T (all whole b.refs) = (read-sound type d b bytes reads).wholes in
-        on-body type d b _ fits reads ∙ rw e refl
-        ∙ ap (λ (l : List Ref). accepted (body_bytes (body_with b b.total (c.front ++ (l ++ c.back)))))
-        (none_stays c.hit (all-mid whole c.front c.hit c.back (rw f.same at wholes)))
+    module _ (p q x t : ℕ) (e : At p q x ≡ hit_of seen) (is : t ≡ le (part 0 8 d)) where
+      hit : CutAt (is_wanted w) (start_of type d) r.from.refs p q x
+      hit = found-view w 0 (start_of type d) r.from.refs seen (At p q x) e r.view
 
-    taken-found : (count : ℕ) (o : Option (Cut Ref)) → first ≡ o → ((c : Cut Ref) → first ≡ some c → count ≡ c.hit.weight)
-        → bind (drop_off type d w Whole) (with-count count) ≡ take_inline type d w
-    unfolding take_inline drop_inline found bind
-    taken-found count none e counts =
-        let none_dropped : drop_off type d w Whole ≡ absent = on-body type d b _ fits reads ∙ rw e refl in
-        let none-taken : take_inline type d w ≡ absent = on-body type d b _ fits reads ∙ rw e refl in
-        ap (λ (a : Answer (List ℕ)). bind a (with-count count)) none_dropped ∙ sym none-taken
-    taken-found count (some c) e counts =
-        let taken : take_inline type d w ≡ with-count c.hit.weight (without c) = on-body type d b _ fits reads ∙ rw e refl in
-        ap (λ (a : Answer (List ℕ)). bind a (with-count count)) (whole-dropped c e)
-        ∙ ap (λ (n : ℕ). with-count n (without c)) (counts c e)
-        ∙ sym taken
+      abbrev left : ℕ → List ℕ
+      left total = body_bytes (body_with r.from total (hit.parts.front ++ hit.parts.back))
 
-  module _ {p : DropPlan} (h : PlannedOff p type d w Whole) where
-    whole_says : plan_taken p.plan d ≡ take_inline type d w
-    unfolding plan_taken take_inline drop_inline bind
-    whole_says = ap (λ (a : Answer (List ℕ)). bind a (with-count p.plan.count)) h.drops.planned.says ∙ go (decide type d)
-      where
-        go : Decided type d → bind (drop_off type d w Whole) (with-count p.plan.count) ≡ take_inline type d w
-        go (readable b fits reads) =
-            taken-found b fits reads p.plan.count (first b fits reads) refl
-            (λ c e. h.counted b c reads e (edits p.plan d (h.drops.planned.says ∙ whole-dropped b fits reads c e)))
-        go (faulty n f) = ap (λ (a : Answer (List ℕ)). bind a (with-count p.plan.count)) (f (List ℕ) _) ∙ sym (f TakenOut _)
+      take_found : taken ≡ with-count hit.parts.hit.weight (left r.from.total)
+      unfolding take_inline found bind
+      take_found = on-body type d r.from _ r.fits r.read ∙ rw hit.cuts refl
 
-    pub off-taken : PlannedTake p d (take_inline type d w) (left_in type (kind_of w) (fields_of w))
-    unfolding plan_taken
-    off-taken = record {
-      planned = record { says = whole_says; inside = h.drops.planned.inside };
-      leaves = λ rest e. h.drops.leaves rest
-          (sym h.drops.planned.says ∙ sym (without-count (plan_answer p.plan d) p.plan.count) ∙ ap bytes_of whole_says ∙ e);
-    }
+      pub take-gone : T (are_bytes d) → plan ≡ plan_of p q (replicate 32 0) 0 t x → PlannedTaken plan d taken
+      unfolding refs_bytes
+      take-gone bytes o =
+          let c = hit.parts in
+          let counts : plan.count ≡ c.hit.weight = ap (λ (y : Plan). y.count) o ∙ hit.weighs in
+          taken-edit plan d taken (left t)
+          (adding-plan plan d r.from c.front (c.hit ∷ []) c.back p q (replicate 32 0) 0 t x [] (accepted (left t))
+          (placed type d r.from bytes r.read c.front (c.hit ∷ []) c.back p q (cut-between (is_wanted w) (start_of type d) r.from.refs p q x hit))
+          r.fits o refl refl (omega arith) refl)
+          (take_found ∙ ap (λ (m : ℕ). with-count m (left r.from.total)) (sym counts) ∙ ap (λ (m : ℕ). with-count plan.count (left m)) (total-read type d r t is))

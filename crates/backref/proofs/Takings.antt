@@ -1,5 +1,5 @@
 -- A shared reference taken out of a body: how long the rest is, and what its plan answers. Assumes nothing.
-use mathlib.Core.Path.{◌≡◌, sym, ap, ◌∙◌}
+use mathlib.Core.Path.{◌≡◌, refl, sym, ap, ◌∙◌}
 use mathlib.Core.List.{List, ◌∷◌, ◌++◌}
 use Prim.Native.Nat.{ℕ, ◌≤◌}
 use native.Mathlib.Omega.{arith}
@@ -9,7 +9,7 @@ use Rattle.fields.specs.Lists.{Cut, first_cut}
 use Rattle.fields.specs.Numbers.{are_bytes}
 use Rattle.fields.proofs.Lists.{Found, cut-some}
 use Rattle.format.specs.declared.SharedRef.{SharedRef}
-use Rattle.format.specs.Questions.{Answer, accepted, found, bytes_of, TakenOut}
+use Rattle.format.specs.Questions.{Answer, refused, absent, remove, accepted, bind, found, bytes_of, TakenOut}
 use Rattle.format.specs.References.{Ref, ref_bytes, refs_bytes, Body, body_with, read_body, body_bytes}
 use Rattle.format.specs.Bodies.{body_fits, shared_kind, on_body, named, one, take_inline_shared}
 use Rattle.format.proofs.Answers.{ask-ok, bind_ok, found_ok, accepted-inj}
@@ -17,7 +17,6 @@ use Rattle.format.proofs.Refs.{refs_bytes-append}
 use Rattle.format.proofs.Bodies.{fixed-long, length-body_bytes, read-sound, body_bytes-read}
 use Rattle.backref.specs.declared.plan.Plan.{Plan}
 use Rattle.backref.specs.Plans.{plan_answer, plan_taken, PlannedTaken, Whole}
-use Rattle.backref.proofs.TakenPlans.{without-count}
 
 -- the body without one of its references
 left-length : (type : ℕ) (d : List ℕ) → T (are_bytes d) → (b : Body) → read_body type d ≡ accepted b → (c : Cut Ref) → b.refs ≡ c.front ++ c.hit ∷ c.back
@@ -32,6 +31,13 @@ left-length type d bytes b h c same =
     let n₅ = ap length (refs_bytes-append c.front c.back) ∙ length-append (refs_bytes c.front) (refs_bytes c.back) in
     let n₆ = fixed-long type b (read-sound type d b bytes h) in
     (omega (arith, n₁, n₆), omega (arith, n₁, n₂, n₃, n₄, n₅))
+
+without-count : (a : Answer (List ℕ)) (count : ℕ) → bytes_of (bind a (λ bytes. accepted (record { bytes = bytes; count = count }))) ≡ a
+unfolding bind
+without-count (refused n) count = refl
+without-count absent count = refl
+without-count remove count = refl
+without-count (accepted rest) count = refl
 
 module _ (type : ℕ) (d : List ℕ) (s : SharedRef) where
   taken-length : T (are_bytes d) → (out : TakenOut) → take_inline_shared type d s ≡ accepted out → (24 ≤ length out.bytes) × (length out.bytes ≤ 65535)

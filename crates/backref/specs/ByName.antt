@@ -1,15 +1,13 @@
 -- Calls on a body by the wanted name: where an added reference goes; one that loses one count or an amount or is taken out whole.
 -- Assumes nothing.
 use Rattle.std.specs.Prelude.{◌≡◌, Bool, true, false, cond, List, ◌++◌, ℕ, ◌+◌, ◌-◌, ◌≤◌, ◌<◌, leb, eqb, length, take}
-use Rattle.std.proofs.Math.Option.{some}
-use Rattle.fields.specs.Lists.{Cut, first_cut}
+use Rattle.fields.specs.Lists.{first_cut}
 use Rattle.fields.specs.Numbers.{le_bytes}
 use Rattle.fields.specs.Parts.{written}
 use Rattle.format.specs.declared.SharedRef.{SharedRef}
 use Rattle.format.specs.Questions.{Answer, accepted, bind, found, TakenOut}
-use Rattle.format.specs.References.{payload_length, Ref, make_ref, ref_bytes, Body, body_with, read_body, body_bytes, rank_of}
-use Rattle.format.specs.Bodies.{on_body, named, one, lowered_by_one, lowered_by_part, drop_inline, drop_inline_tree_ref, drop_inline_data_ref, RefPosition, position_anywhere, position_by_scan, add_at, add_inline_data, add_inline_shared, keyed_at}
-use Rattle.format.specs.Left.{left_in}
+use Rattle.format.specs.References.{payload_length, Ref, make_ref, ref_bytes, body_with, body_bytes, rank_of}
+use Rattle.format.specs.Bodies.{on_body, named, one, lowered_by_part, drop_inline, drop_inline_tree_ref, drop_inline_data_ref, RefPosition, position_anywhere, position_by_scan, add_at, add_inline_data, add_inline_shared, keyed_at}
 use Rattle.inline_refs.specs.declared.ref_name.RefName.{RefName}
 use Rattle.inline_refs.specs.declared.ref_name.RefName.TheVariants.{Block, Data, SharedBlock, SharedData}
 use Rattle.inline_refs.specs.declared.scan.Seen.{Seen}
@@ -17,11 +15,7 @@ use Rattle.inline_refs.specs.declared.noted.AddAt.{AddAt}
 use Rattle.inline_refs.specs.Scans.{kind_of, fields_of, add_anywhere, add_by_scan}
 use Rattle.backref.specs.declared.plan.Outcome.TheVariants.{Edit, Refused}
 use Rattle.backref.specs.declared.plan.Plan.{Plan}
-use Rattle.backref.specs.declared.plan.DropPlan.{DropPlan}
-use Rattle.backref.specs.declared.drop_plans.Off.{Off}
-use Rattle.backref.specs.declared.drop_plans.Off.TheVariants.{One, Part, Whole}
 use Rattle.backref.specs.Totals.{one_fault, part_fault}
-use Rattle.backref.specs.Plans.{PlannedDrop}
 
 -- bytes in front of which a reference stands, with its count at a position of its payload, 0 where it has none
 unfoldable pub with_count : ℕ → ℕ → List ℕ → List ℕ
@@ -82,6 +76,13 @@ pub record Raised (from to : ℕ) (wanted : RefName) (count total amount : ℕ) 
 
 -- ---- drops
 
+-- one goes off a block or data reference
+abbrev pub OneOff : RefName → ℕ → Type 0
+OneOff (Block name) amount = amount ≡ 1
+OneOff (Data name) amount = amount ≡ 1
+OneOff (SharedBlock parent) amount = Unit {0}
+OneOff (SharedData parent) amount = Unit {0}
+
 -- drop_inline_tree_ref and drop_inline_data_ref, and an amount off a shared reference, in one
 abbrev pub drop_named : ℕ → List ℕ → RefName → ℕ → Answer (List ℕ)
 drop_named type body (Block name) amount = drop_inline_tree_ref type body name
@@ -89,49 +90,16 @@ drop_named type body (Data name) amount = drop_inline_data_ref type body name
 drop_named type body (SharedBlock parent) amount = drop_inline type body 182 (one parent) amount (lowered_by_part amount)
 drop_named type body (SharedData parent) amount = drop_inline type body 184 (one parent) amount (lowered_by_part amount)
 
+-- the question of it that is answered "no", or 0
+unfoldable pub drop_fault : RefName → ℕ → ℕ → ℕ → ℕ
+drop_fault (Block name) amount standing total = one_fault total
+drop_fault (Data name) amount standing total = one_fault total
+drop_fault (SharedBlock parent) amount standing total = part_fault amount standing
+drop_fault (SharedData parent) amount standing total = part_fault amount standing
+
 -- take_inline_shared behind its question 3
 unfoldable pub take_inline : ℕ → List ℕ → RefName → Answer TakenOut
 take_inline type body wanted =
     on_body type body (λ b.
     bind (found (first_cut (named (kind_of wanted) (fields_of wanted)) b.refs)) (λ c.
     accepted (record { bytes = body_bytes (body_with b b.total (c.front ++ c.back)); count = c.hit.weight })))
-
--- ---- the same by what goes off
-
-unfoldable pub off_of : RefName → ℕ → Off
-off_of (Block name) amount = One
-off_of (Data name) amount = One
-off_of (SharedBlock parent) amount = Part amount
-off_of (SharedData parent) amount = Part amount
-
--- the question of it that is answered "no", or 0
-unfoldable pub off_fault : Off → ℕ → ℕ → ℕ
-off_fault One standing total = one_fault total
-off_fault (Part amount) standing total = part_fault amount standing
-off_fault Whole standing total = 0
-
--- no count is above 32 bits
-unfoldable pub amount_off : Off → ℕ
-amount_off One = 1
-amount_off (Part amount) = amount
-amount_off Whole = 4294967295
-
-unfoldable pub total_off : Off → ℕ → ℕ
-total_off One total = total - 1
-total_off (Part amount) total = total - amount
-total_off Whole total = total
-
--- the questions of it, and the new total
-unfoldable pub lowered_off : Off → ℕ → ℕ → Answer ℕ
-lowered_off One standing total = lowered_by_one total
-lowered_off (Part amount) standing total = lowered_by_part amount standing total
-lowered_off Whole standing total = accepted total
-
-abbrev pub drop_off : ℕ → List ℕ → RefName → Off → Answer (List ℕ)
-drop_off type body wanted off = drop_inline type body (kind_of wanted) (fields_of wanted) (amount_off off) (lowered_off off)
-
--- a drop's plan with the count that the reference had
-pub record PlannedOff (p : DropPlan) (type : ℕ) (body : List ℕ) (wanted : RefName) (off : Off) : Type 0 where
-  pub drops : PlannedDrop p body (drop_off type body wanted off) (left_in type (kind_of wanted) (fields_of wanted))
-  pub counted : (b : Body) (c : Cut Ref) → read_body type body ≡ accepted b → first_cut (named (kind_of wanted) (fields_of wanted)) b.refs ≡ some c
-      → p.plan.outcome ≡ Edit → p.plan.count ≡ c.hit.weight

@@ -1,4 +1,4 @@
 pub mod Reads
 pub mod Totals
-pub mod Plans
 pub mod ByName
+pub mod Plans

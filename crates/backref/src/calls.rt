@@ -1,25 +1,24 @@
 // The calls that write an edited body to a lent output.
 ghost use Rattle.std.specs.Prelude.{length};
-ghost use Rattle.format.specs.Questions.{Answered, AnsweredDropped, AnsweredTaken};
+ghost use Rattle.format.specs.Questions.{Answered, AnsweredTaken};
 ghost use Rattle.format.specs.Bodies.{held_body, drop_inline_tree_ref, drop_inline_data_ref, add_inline_tree_ref, add_inline_data_ref, add_inline_shared, add_inline_keyed, held_taken, take_inline_shared};
-ghost use Rattle.format.specs.Left.{drop_inline_tree_ref_left, drop_inline_data_ref_left, take_inline_shared_left};
 ghost use Rattle.backref.specs.ByName.{add_keyed};
 
-use format::{BlockRef, DataRef, Dropped, Edited, Keyed, SharedRef, Taken};
+use format::{BlockRef, DataRef, Edited, Keyed, SharedRef, Taken};
 use inline_refs::{OwnRank, RefName};
 
-pub fn drop_inline_tree_ref(item_type: u8, body: &[u8], tree: u64, out: &mut [u8]) -> Dropped
-    ensures { AnsweredDropped (held_body (length out.old) (drop_inline_tree_ref item_type body.now (record { tree = tree }))) (drop_inline_tree_ref_left item_type body.now (record { tree = tree })) result out.old out.new }
+pub fn drop_inline_tree_ref(item_type: u8, body: &[u8], tree: u64, out: &mut [u8]) -> Edited
+    ensures { Answered (held_body (length out.old) (drop_inline_tree_ref item_type body.now (record { tree = tree }))) result out.old out.new }
 {
     let plan = crate::plan_drop(item_type, body, RefName::Block(BlockRef { tree }), 1);
-    crate::write_dropped(body, plan, out)
+    crate::write_plan(body, plan, out)
 }
 
-pub fn drop_inline_data_ref(item_type: u8, body: &[u8], name: DataRef, out: &mut [u8]) -> Dropped
-    ensures { AnsweredDropped (held_body (length out.old) (drop_inline_data_ref item_type body.now name)) (drop_inline_data_ref_left item_type body.now name) result out.old out.new }
+pub fn drop_inline_data_ref(item_type: u8, body: &[u8], name: DataRef, out: &mut [u8]) -> Edited
+    ensures { Answered (held_body (length out.old) (drop_inline_data_ref item_type body.now name)) result out.old out.new }
 {
     let plan = crate::plan_drop(item_type, body, RefName::Data(name), 1);
-    crate::write_dropped(body, plan, out)
+    crate::write_plan(body, plan, out)
 }
 
 pub fn add_inline_tree_ref(item_type: u8, body: &[u8], tree: u64, out: &mut [u8]) -> Edited
@@ -85,7 +84,7 @@ pub fn add_inline_keyed(
 }
 
 pub fn take_inline_shared(item_type: u8, body: &[u8], name: SharedRef, out: &mut [u8]) -> Taken
-    ensures { AnsweredTaken (held_taken (length out.old) (take_inline_shared item_type body.now name)) (take_inline_shared_left item_type body.now name) result out.old out.new }
+    ensures { AnsweredTaken (held_taken (length out.old) (take_inline_shared item_type body.now name)) result out.old out.new }
 {
     let plan = crate::plans::plan_take_shared(item_type, body, name);
     crate::write_taken(body, plan, out)

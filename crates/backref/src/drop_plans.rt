@@ -1,110 +1,63 @@
 // Plans that take references away.
 ghost use Rattle.std.specs.Prelude.{◌≡◌};
-ghost use Rattle.format.specs.Left.{left_in};
-ghost use Rattle.inline_refs.specs.Scans.{kind_of, fields_of};
-ghost use Rattle.backref.specs.Plans.{PlannedDrop, PlannedTake};
-ghost use Rattle.backref.specs.ByName.{off_of, off_fault, amount_off, total_off, PlannedOff, drop_named, take_inline};
+ghost use Rattle.backref.specs.Plans.{Planned, PlannedTaken};
+ghost use Rattle.backref.specs.ByName.{OneOff, drop_fault, drop_named, take_inline};
 
-use crate::{DropPlan, Outcome, no_drop, total_plans};
-use inline_refs::{DropScan, RefName};
+use crate::{Outcome, Plan, total_plans};
+use inline_refs::{Found, RefName, Scan};
 
-// What goes off a reference: one; an amount, off a shared one; or all of it, where the total stays.
-#[derive(Drop)]
-pub enum Off {
-    One,
-    Part(u32),
-    Whole,
-}
-
-// What a drop takes off: one of a block or data reference, the amount of a shared one.
-fn off_of(wanted: RefName, amount: u32) -> Off
-    ensures { result ≡ off_of wanted amount }
+// The question of a drop that is answered "no", or 0: 13 of a block or data reference, 10 and 22 of a shared one.
+fn drop_fault(wanted: RefName, amount: u32, weight: u32, total: u64) -> u32
+    ensures { result ≡ drop_fault wanted amount weight total }
 {
     match wanted {
-        RefName::Block(_) => Off::One,
-        RefName::Data(_) => Off::One,
-        RefName::SharedBlock(_) => Off::Part(amount),
-        RefName::SharedData(_) => Off::Part(amount),
+        RefName::Block(_) => total_plans::one_fault(total),
+        RefName::Data(_) => total_plans::one_fault(total),
+        RefName::SharedBlock(_) => total_plans::part_fault(amount, weight),
+        RefName::SharedData(_) => total_plans::part_fault(amount, weight),
     }
 }
 
-// The question of it that is answered "no", or 0: 13, or 10 and 22, or none.
-fn off_fault(off: Off, weight: u32, total: u64) -> u32
-    ensures { result ≡ off_fault off weight total }
+// So much off the wanted reference, and off the total: one of a block or data reference. Place 0: no gap is looked for, so no
+// hash is computed.
+pub fn plan_drop(item_type: u8, body: &[u8], wanted: RefName, amount: u32) -> Plan
+    requires { OneOff wanted amount }
+    ensures { Planned result body.now (drop_named item_type body.now wanted amount) }
 {
-    match off {
-        Off::One => total_plans::one_fault(total),
-        Off::Part(amount) => total_plans::part_fault(amount, weight),
-        Off::Whole => 0,
-    }
-}
-
-// How much that is; no count is above the highest number.
-fn amount_off(off: Off) -> u32
-    ensures { result ≡ amount_off off }
-{
-    match off {
-        Off::One => 1,
-        Off::Part(amount) => amount,
-        Off::Whole => 4294967295,
-    }
-}
-
-// The new total.
-fn total_off(off: Off, total: u64) -> u64
-    ensures { result ≡ total_off off total }
-{
-    match off {
-        Off::One => total_plans::total_less(total, 1),
-        Off::Part(amount) => total_plans::total_less(total, amount),
-        Off::Whole => total,
-    }
-}
-
-// So much off the wanted reference. All drops share this function, which the compiler then keeps whole, the scan in it: handed on
-// in memory, the name and the body cost a short call a third of its time.
-fn plan_off(item_type: u8, body: &[u8], wanted: RefName, off: Off) -> DropPlan
-    ensures { PlannedOff result item_type body.now wanted off }
-{
-    match inline_refs::scan_to_drop(item_type, body, wanted) {
-        DropScan::Fault(refusal) => no_drop(crate::refuse(refusal)),
-        DropScan::Nothing => no_drop(crate::without(Outcome::Absent)),
-        DropScan::First {
-            at,
-            next,
-            weight,
-            behind,
-        } => {
+    match inline_refs::scan_body(item_type, body, wanted, 0) {
+        Scan::Fault(refusal) => crate::refuse(refusal),
+        Scan::Read(seen) => {
+            let Found::At { at, next, weight } = inline_refs::hit_of(seen) else {
+                return crate::without(Outcome::Absent);
+            };
             let total = fields::get_u64_le(body, 0);
-            let fault = off_fault(off, weight, total);
+            let fault = drop_fault(wanted, amount, weight, total);
             if fault != 0 {
-                return no_drop(crate::refuse(fault));
+                return crate::refuse(fault);
             }
-            let amount = amount_off(off);
-            let rest = total_off(off, total);
+            let rest = total_plans::total_less(total, amount);
             if weight <= amount {
-                let plan = crate::edit(at, next, [0; 32], 0, rest, weight);
-                return DropPlan { plan, left: behind };
+                return crate::edit(at, next, [0; 32], 0, rest, 0);
             }
             let new = crate::new_bytes::bytes_of(wanted, weight - amount);
             let size = crate::new_bytes::size_of(wanted);
-            let plan = crate::edit(at, next, new, size, rest, weight);
-            let left = behind + (weight - amount) as u64;
-            DropPlan { plan, left }
+            crate::edit(at, next, new, size, rest, 0)
         }
     }
 }
 
-// So much off the wanted reference, and off the total: one of a block or data reference.
-pub fn plan_drop(item_type: u8, body: &[u8], wanted: RefName, amount: u32) -> DropPlan
-    ensures { PlannedDrop result body.now (drop_named item_type body.now wanted amount) (left_in item_type (kind_of wanted) (fields_of wanted)) }
-{
-    plan_off(item_type, body, wanted, off_of(wanted, amount))
-}
-
 // The wanted reference goes whole, and the total stays.
-pub fn plan_take(item_type: u8, body: &[u8], wanted: RefName) -> DropPlan
-    ensures { PlannedTake result body.now (take_inline item_type body.now wanted) (left_in item_type (kind_of wanted) (fields_of wanted)) }
+pub fn plan_take(item_type: u8, body: &[u8], wanted: RefName) -> Plan
+    ensures { PlannedTaken result body.now (take_inline item_type body.now wanted) }
 {
-    plan_off(item_type, body, wanted, Off::Whole)
+    match inline_refs::scan_body(item_type, body, wanted, 0) {
+        Scan::Fault(refusal) => crate::refuse(refusal),
+        Scan::Read(seen) => {
+            let Found::At { at, next, weight } = inline_refs::hit_of(seen) else {
+                return crate::without(Outcome::Absent);
+            };
+            let total = fields::get_u64_le(body, 0);
+            crate::edit(at, next, [0; 32], 0, total, weight)
+        }
+    }
 }

@@ -1,10 +1,9 @@
 // The calls on a data reference's item.
 ghost use Rattle.std.specs.Prelude.{length};
-ghost use Rattle.format.specs.Questions.{Answered, AnsweredDropped, accepted};
+ghost use Rattle.format.specs.Questions.{Answered, accepted};
 ghost use Rattle.format.specs.Bodies.{held_body, keyed_data_ref_body, drop_keyed_data_ref};
-ghost use Rattle.format.specs.Left.{drop_keyed_data_ref_left};
 
-use format::{DataRef, Dropped, EXTENT_DATA_REF, Edited};
+use format::{DataRef, EXTENT_DATA_REF, Edited};
 
 // A new item: the triple, and the count where the row of the kind has it.
 pub fn keyed_data_ref_body(name: DataRef, count: u32, out: &mut [u8]) -> Edited
@@ -19,10 +18,9 @@ pub fn keyed_data_ref_body(name: DataRef, count: u32, out: &mut [u8]) -> Edited
     extent_write::put_body(&new[..row.payload], out)
 }
 
-pub fn drop_keyed_data_ref(item: &[u8], name: DataRef, out: &mut [u8]) -> Dropped
-    ensures { AnsweredDropped (held_body (length out.old) (drop_keyed_data_ref item.now name)) (drop_keyed_data_ref_left item.now name) result out.old out.new }
+pub fn drop_keyed_data_ref(item: &[u8], name: DataRef, out: &mut [u8]) -> Edited
+    ensures { Answered (held_body (length out.old) (drop_keyed_data_ref item.now name)) result out.old out.new }
 {
-    let drop = crate::plan_drop_keyed(item, name);
-    let edited = crate::write_same(item, drop.plan, out);
-    crate::with_left(edited, drop.left)
+    let plan = crate::plan_drop_keyed(item, name);
+    crate::write_same(item, plan, out)
 }

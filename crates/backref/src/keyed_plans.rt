@@ -2,10 +2,10 @@
 ghost use Rattle.std.specs.Prelude.{◌≡◌, ◌+◌, replicate};
 ghost use Rattle.fields.specs.Numbers.{le_bytes};
 ghost use Rattle.fields.specs.Parts.{written};
-ghost use Rattle.format.specs.Bodies.{keyed_count, drop_keyed_data_ref};
-ghost use Rattle.backref.specs.Plans.{PlannedDrop};
+ghost use Rattle.format.specs.Bodies.{drop_keyed_data_ref};
+ghost use Rattle.backref.specs.Plans.{Planned};
 
-use crate::{DropPlan, Outcome, no_drop};
+use crate::{Outcome, Plan};
 use format::{DataRef, EXTENT_DATA_REF, MOST_DATA};
 
 // A number of four bytes in front of zeros.
@@ -18,29 +18,27 @@ fn count_bytes(count: u32) -> [u8; 32]
 }
 
 // One count off the item; at count 1 the item goes. Its first eight bytes stay, as a body's total would.
-pub fn plan_drop_keyed(item: &[u8], name: DataRef) -> DropPlan
-    ensures planned_drop { PlannedDrop result item.now (drop_keyed_data_ref item.now name) keyed_count }
-    ensures size_value { result.plan.from + result.plan.size ≡ result.plan.to }
+pub fn plan_drop_keyed(item: &[u8], name: DataRef) -> Plan
+    ensures planned { Planned result item.now (drop_keyed_data_ref item.now name) }
+    ensures size_value { result.from + result.size ≡ result.to }
 {
     if MOST_DATA < item.len() {
-        return no_drop(crate::refuse(3));
+        return crate::refuse(3);
     }
     let row = inline_refs::lengths_of(EXTENT_DATA_REF);
     if item.len() != row.payload {
-        return no_drop(crate::refuse(15));
+        return crate::refuse(15);
     }
     if !inline_refs::names_triple(name, item, 0) {
-        return no_drop(crate::refuse(15));
+        return crate::refuse(15);
     }
     let count = fields::get_u32_le(item, row.count);
     if count == 0 {
-        return no_drop(crate::refuse(16));
+        return crate::refuse(16);
     }
     if count == 1 {
-        return no_drop(crate::without(Outcome::Remove));
+        return crate::without(Outcome::Remove);
     }
     let tree = fields::get_u64_le(item, 0);
-    let plan = crate::edit(row.count, row.payload, count_bytes(count - 1), 4, tree, 0);
-    let left = (count - 1) as u64;
-    DropPlan { plan, left }
+    crate::edit(row.count, row.payload, count_bytes(count - 1), 4, tree, 0)
 }

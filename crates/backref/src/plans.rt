@@ -1,11 +1,10 @@
 // The plans of a shared reference: question 3 of its kind, then those by the wanted name.
 ghost use Rattle.std.specs.Prelude.{◌≡◌, true};
-ghost use Rattle.format.specs.Bodies.{one, add_inline_shared, take_inline_shared, shared_kind};
-ghost use Rattle.format.specs.Left.{left_in};
+ghost use Rattle.format.specs.Bodies.{add_inline_shared, take_inline_shared, shared_kind};
 ghost use Rattle.backref.specs.ByName.{SharedName};
-ghost use Rattle.backref.specs.Plans.{Planned, PlannedTake};
+ghost use Rattle.backref.specs.Plans.{Planned, PlannedTaken};
 
-use crate::{DropPlan, Plan};
+use crate::Plan;
 use format::{SHARED_BLOCK_REF, SHARED_DATA_REF, SharedRef};
 use inline_refs::{OwnRank, RefName};
 
@@ -36,11 +35,11 @@ pub fn plan_add_shared(item_type: u8, body: &[u8], name: SharedRef, amount: u32)
     crate::refuse(3)
 }
 
-pub fn plan_take_shared(item_type: u8, body: &[u8], name: SharedRef) -> DropPlan
-    ensures { PlannedTake result body.now (take_inline_shared item_type body.now name) (left_in item_type name.kind (one name.parent)) }
+pub fn plan_take_shared(item_type: u8, body: &[u8], name: SharedRef) -> Plan
+    ensures { PlannedTaken result body.now (take_inline_shared item_type body.now name) }
 {
     if shared_kind(name.kind) {
         return crate::drop_plans::plan_take(item_type, body, shared_name(name));
     }
-    crate::no_drop(crate::refuse(3))
+    crate::refuse(3)
 }

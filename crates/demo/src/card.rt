@@ -1,5 +1,5 @@
 // A card's item list (document 01's sheet) by value, and the library's calls on it: each gives the next card.
-use format::{Change, Dropped, Edited, Key, Told};
+use format::{Change, Edited, Key, Told};
 use item_list::Checked;
 
 // The list is the first `size` bytes. Every card of this program is small.
@@ -9,12 +9,11 @@ pub struct Card {
     pub size: usize,
 }
 
-// The next card, 0, and how many a drop left under its name; or the card as it was, the refusal, and 0.
+// The next card, and 0; or the card as it was, and the refusal.
 #[derive(Drop)]
 pub struct Edit {
     pub card: Card,
     pub refusal: u32,
-    pub left: u64,
 }
 
 // No items: the version byte alone.
@@ -32,36 +31,26 @@ pub fn list(bytes: &[u8; 4096], size: usize) -> &[u8] {
     &all[0..size]
 }
 
-fn refused(card: Card, refusal: u32) -> Edit {
-    Edit {
-        card,
-        refusal,
-        left: 0,
-    }
-}
-
-fn dropped(card: Card, answer: Dropped, bytes: [u8; 4096]) -> Edit {
+fn edited(card: Card, answer: Edited, bytes: [u8; 4096]) -> Edit {
     match answer {
-        Dropped::Written { size, left } => Edit {
+        Edited::Written(size) => Edit {
             card: Card { bytes, size },
             refusal: 0,
-            left,
         },
-        Dropped::Refused(number) => refused(card, number),
+        Edited::Refused(number) => Edit {
+            card,
+            refusal: number,
+        },
         // The codes that C callers get for these two; no call here answers so.
-        Dropped::Absent => refused(card, 100),
-        Dropped::Remove => refused(card, 101),
+        Edited::Absent => Edit { card, refusal: 100 },
+        Edited::Remove => Edit { card, refusal: 101 },
     }
-}
-
-fn edited(card: Card, answer: Edited, bytes: [u8; 4096]) -> Edit {
-    dropped(card, backref::with_left(answer, 0), bytes)
 }
 
 pub fn post(card: Card, nodesize: u32, change: Change) -> Edit {
     let mut out = [0u8; 4096];
     let answer = ledger::post(list(&card.bytes, card.size), nodesize, change, &mut out);
-    dropped(card, answer, out)
+    edited(card, answer, out)
 }
 
 pub fn insert(card: Card, nodesize: u32, key: Key, body: &[u8]) -> Edit {

@@ -1,5 +1,5 @@
 // The six changes posted one after the other, and some that are refused.
-use crate::card::{Card, Edit};
+use crate::card::Card;
 use crate::{card, say, words};
 use extent_write::TreeBlockAllocation;
 use format::{BlockRef, Change, DataRef, Key, SharedRef};
@@ -65,7 +65,7 @@ fn with_block(card: Card) -> Card {
 }
 
 // One change, in words, and what came of it.
-fn post(card: Card, extent: u64, what: &[u8], change: Change) -> Edit {
+fn post(card: Card, extent: u64, what: &[u8], change: Change) -> Card {
     say::text(b"  ");
     say::text(what);
     say::text(b": ");
@@ -76,39 +76,13 @@ fn post(card: Card, extent: u64, what: &[u8], change: Change) -> Edit {
         say::text(b", now used ");
         say::times(card::used(card::list(&next.bytes, next.size), extent));
     }
-    edit
-}
-
-fn give(card: Card, extent: u64, what: &[u8], change: Change) -> Card {
-    let edit = post(card, extent, what, change);
     say::text(b".\n");
-    edit.card
-}
-
-// How often a user from which something was taken still uses it.
-fn left(user: &[u8], times: u64) {
-    say::text(b"; ");
-    say::text(user);
-    if times == 0 {
-        say::text(b" uses it no more");
-        return;
-    }
-    say::text(b" still uses it ");
-    say::times(times);
-}
-
-fn take(card: Card, extent: u64, user: &[u8], what: &[u8], change: Change) -> Card {
-    let edit = post(card, extent, what, change);
-    if edit.refusal == 0 {
-        left(user, edit.left);
-    }
-    say::text(b".\n");
-    edit.card
+    next
 }
 
 fn give_block(card: Card, tree: u64, what: &[u8]) -> Card {
     let name = BlockRef { tree };
-    give(
+    post(
         card,
         BLOCK,
         what,
@@ -120,7 +94,7 @@ fn give_block(card: Card, tree: u64, what: &[u8]) -> Card {
 }
 
 fn give_data(card: Card, name: DataRef, amount: u32, what: &[u8]) -> Card {
-    give(
+    post(
         card,
         MAP,
         what,
@@ -134,10 +108,9 @@ fn give_data(card: Card, name: DataRef, amount: u32, what: &[u8]) -> Card {
 
 fn take_block(card: Card, tree: u64, what: &[u8]) -> Card {
     let name = BlockRef { tree };
-    take(
+    post(
         card,
         BLOCK,
-        b"the tree",
         what,
         Change::DropBlock {
             extent: BLOCK,
@@ -147,21 +120,14 @@ fn take_block(card: Card, tree: u64, what: &[u8]) -> Card {
 }
 
 fn take_data(card: Card, name: DataRef, what: &[u8]) -> Card {
-    take(
-        card,
-        MAP,
-        b"the file",
-        what,
-        Change::DropData { extent: MAP, name },
-    )
+    post(card, MAP, what, Change::DropData { extent: MAP, name })
 }
 
 fn take_shared(card: Card, amount: u32, what: &[u8]) -> Card {
     let name = leaf();
-    take(
+    post(
         card,
         MAP,
-        b"the leaf",
         what,
         Change::DropShared {
             extent: MAP,
@@ -192,7 +158,7 @@ fn gives(card: Card) -> Card {
         name,
         amount: 3,
     };
-    give(
+    post(
         d,
         MAP,
         b"give the map to the shared leaf at 8388608, three times",
@@ -222,8 +188,7 @@ pub fn show() {
     let before = with_block(with_map(card::empty()));
     words::print(card::list(&before.bytes, before.size));
     say::text(
-        b"\n_eleven changes, posted one after the other, each with the answer and the total that its record then has,\n\
-          and a take with how often the one that it takes from still uses the extent:\n\n",
+        b"\nEleven changes, posted one after the other, each with the answer and the total that its record then has:\n\n",
     );
     let after = takes(gives(before));
     say::text(b"\nThe card afterwards:\n\n");

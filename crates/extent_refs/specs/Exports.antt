@@ -3,8 +3,6 @@
 use Rattle.std.specs.Prelude.{◌≡◌, Bool, cond, List, [], ◌∷◌, ℕ, length}
 use Rattle.format.specs.declared.Edited.{Edited}
 use Rattle.format.specs.declared.Edited.TheVariants.{Written, Absent, Remove, Refused}
-use Rattle.format.specs.declared.Dropped.{Dropped}
-use Rattle.format.specs.declared.Dropped.TheVariants.{Written as Less, Absent as Unfound, Remove as Last, Refused as Undropped}
 use Rattle.format.specs.declared.Taken.{Taken}
 use Rattle.format.specs.declared.Taken.TheVariants.{Written as Out, Absent as NoMatch, Refused as Denied}
 use Rattle.format.specs.declared.Told.{Told}
@@ -27,19 +25,11 @@ pub record Coded (a : Answer (List ℕ)) (r len : ℕ) (old new : List ℕ) : Ty
   pub size : len ≡ length (lent_part a)
   pub output : new ≡ lent a old
 
--- the same with how many are left under the name that a drop touched
-pub record CodedDropped (a : Answer (List ℕ)) (left : ℕ) (r len count : ℕ) (old new : List ℕ) : Type 0 where
-  pub code : r ≡ code_of a
-  pub size : len ≡ length (lent_part a)
-  pub number : count ≡ result_or 0 (λ result. left) a
-  pub output : new ≡ lent a old
-
--- and with the count of the reference that was taken out
-pub record CodedTaken (a : Answer TakenOut) (left : ℕ) (r len count rest : ℕ) (old new : List ℕ) : Type 0 where
+-- the same with the count of the reference that was taken out
+pub record CodedTaken (a : Answer TakenOut) (r len count : ℕ) (old new : List ℕ) : Type 0 where
   pub code : r ≡ code_of a
   pub size : len ≡ length (lent_part (bytes_of a))
   pub number : count ≡ result_or 0 (λ out. out.count) a
-  pub further : rest ≡ result_or 0 (λ out. left) a
   pub output : new ≡ lent (bytes_of a) old
 
 -- a number
@@ -81,16 +71,10 @@ edited_numbers Absent = 100 ∷ 0 ∷ []
 edited_numbers Remove = 101 ∷ 0 ∷ []
 edited_numbers (Refused refusal) = refusal ∷ 0 ∷ []
 
-abbrev pub dropped_numbers : Dropped → List ℕ
-dropped_numbers (Less size left) = 0 ∷ size ∷ left ∷ []
-dropped_numbers Unfound = 100 ∷ 0 ∷ 0 ∷ []
-dropped_numbers Last = 101 ∷ 0 ∷ 0 ∷ []
-dropped_numbers (Undropped refusal) = refusal ∷ 0 ∷ 0 ∷ []
-
 abbrev pub taken_numbers : Taken → List ℕ
-taken_numbers (Out size count left) = 0 ∷ size ∷ count ∷ left ∷ []
-taken_numbers NoMatch = 100 ∷ 0 ∷ 0 ∷ 0 ∷ []
-taken_numbers (Denied refusal) = refusal ∷ 0 ∷ 0 ∷ 0 ∷ []
+taken_numbers (Out size count) = 0 ∷ size ∷ count ∷ []
+taken_numbers NoMatch = 100 ∷ 0 ∷ 0 ∷ []
+taken_numbers (Denied refusal) = refusal ∷ 0 ∷ 0 ∷ []
 
 abbrev pub told_numbers : Told → List ℕ
 told_numbers (Value number) = 0 ∷ number ∷ []

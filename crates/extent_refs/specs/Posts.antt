@@ -5,14 +5,13 @@ use Rattle.std.specs.Prelude.{Bool, false, ◌&&◌, cond, List, [], ◌∷◌, 
 use Rattle.std.proofs.Math.Option.{Option, none, some}
 use Rattle.format.specs.declared.Change.{Change}
 use Rattle.format.specs.declared.Change.TheVariants.{AddBlock, AddData, AddShared, DropBlock, DropData, DropShared}
-use Rattle.format.specs.declared.Dropped.{Dropped}
-use Rattle.format.specs.declared.Dropped.TheVariants.{Written, Refused}
+use Rattle.format.specs.declared.Edited.{Edited}
+use Rattle.format.specs.declared.Edited.TheVariants.{Written, Refused}
 use Rattle.format.specs.Questions.{Answer, accepted}
 use Rattle.format.specs.Items.{on_sheet, held_sheet}
 use Rattle.format.specs.Ledger.{posted}
-use Rattle.format.specs.Left.{post_left}
 use Rattle.theorems.specs.Calls.{Call, next_sheet}
-use Rattle.extent_refs.specs.Exports.{CodedDropped}
+use Rattle.extent_refs.specs.Exports.{Coded}
 
 -- the change of that number, with its name's fields in document 01's order. A shared kind is the whole 64-bit field
 unfoldable pub change_of : ℕ → ℕ → ℕ → ℕ → ℕ → ℕ → Option Change
@@ -30,10 +29,6 @@ unfoldable pub posted_if : ℕ → List ℕ → Option Change → ℕ → Answer
 posted_if nodesize sheet (some change) room = posted nodesize sheet change room
 posted_if nodesize sheet none room = held_sheet room (on_sheet sheet false (λ items. accepted items))
 
-unfoldable pub left_if : ℕ → List ℕ → Option Change → ℕ
-left_if nodesize sheet (some change) = post_left nodesize sheet change
-left_if nodesize sheet none = 0
-
 -- ---- the same as a change that `Change` can hold, whose kind has 8 bits: what would be refused with 3 is one of kind 0
 
 unfoldable pub narrowed : ℕ → ℕ
@@ -48,7 +43,7 @@ stand_in (some (DropBlock extent name)) = DropBlock extent name
 stand_in (some (DropData extent name)) = DropData extent name
 stand_in (some (DropShared extent name amount)) = DropShared extent (record { kind = narrowed name.kind; parent = name.parent }) amount
 
--- ---- one call: the numbers that it was given, what the lent output held before and after, the code and the lent numbers
+-- ---- one call: the numbers that it was given, what the lent output held before and after, the code and the lent length
 
 pub record PostCall : Type 0 where
   pub nodesize : ℕ
@@ -62,16 +57,13 @@ pub record PostCall : Type 0 where
   pub new : List ℕ
   pub code : ℕ
   pub size : ℕ
-  pub left : ℕ
 
 abbrev pub asked : PostCall → Option Change
 asked p = change_of p.number p.extent p.a p.b p.c p.amount
 
 -- the contract of the call
 abbrev pub PostKept : List ℕ → PostCall → Type 0
-PostKept sheet p =
-    CodedDropped (posted_if p.nodesize sheet (asked p) (length p.old)) (left_if p.nodesize sheet (asked p)) p.code p.size p.left
-    p.old p.new
+PostKept sheet p = Coded (posted_if p.nodesize sheet (asked p) (length p.old)) p.code p.size p.old p.new
 
 -- what the types of the numbers give: the fields of a name are 64 bits wide
 abbrev pub is_wide : PostCall → Bool
@@ -80,8 +72,8 @@ is_wide p = ltb p.a (2 ^ 64) && (ltb p.b (2 ^ 64) && ltb p.c (2 ^ 64))
 -- ---- the call of `post` that it is
 
 -- as the caller reads it: code 0 is accepted, another the refusal
-abbrev pub answer_by : ℕ → ℕ → ℕ → Dropped
-answer_by code size left = cond (eqb code 0) (Written size left) (Refused code)
+abbrev pub answer_by : ℕ → ℕ → Edited
+answer_by code size = cond (eqb code 0) (Written size) (Refused code)
 
 -- a number that is no change's, and a shared kind above 8 bits, are a change that is refused 3
 abbrev pub call_of : PostCall → Call
@@ -91,7 +83,7 @@ call_of p =
       change = stand_in (asked p);
       old = p.old;
       new = p.new;
-      result = answer_by p.code p.size p.left;
+      result = answer_by p.code p.size;
     }
 
 -- ---- a list of calls

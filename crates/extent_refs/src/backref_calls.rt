@@ -2,9 +2,8 @@
 ghost use Rattle.std.specs.Prelude.{length};
 ghost use Rattle.format.specs.Questions.{accepted};
 ghost use Rattle.format.specs.Bodies.{held_body, held_taken, flags, inline_refs, inline_ref, take_inline_shared, add_inline_keyed, drop_inline_data_ref, drop_keyed_data_ref, lower_total, reduce_total, raise_total, holds_inline_data_ref, add_inline_data_ref, add_inline_tree_ref, keyed_data_ref_body, add_inline_shared, drop_inline_tree_ref, with_flags};
-ghost use Rattle.format.specs.Left.{drop_inline_tree_ref_left, drop_inline_data_ref_left, take_inline_shared_left, drop_keyed_data_ref_left};
 ghost use Rattle.format.specs.Sheets.{held_cuts};
-ghost use Rattle.extent_refs.specs.Exports.{Coded, CodedBool, CodedDropped, CodedNumber, CodedRef, CodedTaken};
+ghost use Rattle.extent_refs.specs.Exports.{Coded, CodedBool, CodedNumber, CodedRef, CodedTaken};
 
 use format::{BlockRef, DataRef, Keyed, SharedRef};
 
@@ -55,12 +54,11 @@ pub extern "C" fn backref_take_inline_shared(
     out: &mut [u8],
     len: &mut u64,
     count: &mut u64,
-    left: &mut u64,
 ) -> u32
-    ensures { CodedTaken (held_taken (length out.old) (take_inline_shared item_type body.now (record { kind = kind; parent = parent }))) (take_inline_shared_left item_type body.now (record { kind = kind; parent = parent })) result len.new count.new left.new out.old out.new }
+    ensures { CodedTaken (held_taken (length out.old) (take_inline_shared item_type body.now (record { kind = kind; parent = parent }))) result len.new count.new out.old out.new }
 {
     let answer = backref::take_inline_shared(item_type, body, SharedRef { kind, parent }, out);
-    crate::put_taken(answer, len, count, left)
+    crate::put_taken(answer, len, count)
 }
 
 #[unsafe(no_mangle)]
@@ -110,9 +108,8 @@ pub extern "C" fn backref_drop_inline_data_ref(
     offset: u64,
     out: &mut [u8],
     len: &mut u64,
-    left: &mut u64,
 ) -> u32
-    ensures { CodedDropped (held_body (length out.old) (drop_inline_data_ref item_type body.now (record { tree = tree; objectid = objectid; offset = offset }))) (drop_inline_data_ref_left item_type body.now (record { tree = tree; objectid = objectid; offset = offset })) result len.new left.new out.old out.new }
+    ensures { Coded (held_body (length out.old) (drop_inline_data_ref item_type body.now (record { tree = tree; objectid = objectid; offset = offset }))) result len.new out.old out.new }
 {
     let answer = backref::drop_inline_data_ref(
         item_type,
@@ -124,7 +121,7 @@ pub extern "C" fn backref_drop_inline_data_ref(
         },
         out,
     );
-    crate::put_dropped(answer, len, left)
+    crate::put_edited(answer, len)
 }
 
 #[unsafe(no_mangle)]
@@ -135,9 +132,8 @@ pub extern "C" fn backref_drop_keyed_data_ref(
     offset: u64,
     out: &mut [u8],
     len: &mut u64,
-    left: &mut u64,
 ) -> u32
-    ensures { CodedDropped (held_body (length out.old) (drop_keyed_data_ref item.now (record { tree = tree; objectid = objectid; offset = offset }))) (drop_keyed_data_ref_left item.now (record { tree = tree; objectid = objectid; offset = offset })) result len.new left.new out.old out.new }
+    ensures { Coded (held_body (length out.old) (drop_keyed_data_ref item.now (record { tree = tree; objectid = objectid; offset = offset }))) result len.new out.old out.new }
 {
     let answer = backref::drop_keyed_data_ref(
         item,
@@ -148,7 +144,7 @@ pub extern "C" fn backref_drop_keyed_data_ref(
         },
         out,
     );
-    crate::put_dropped(answer, len, left)
+    crate::put_edited(answer, len)
 }
 
 #[unsafe(no_mangle)]
@@ -306,12 +302,11 @@ pub extern "C" fn backref_drop_inline_tree_ref(
     tree: u64,
     out: &mut [u8],
     len: &mut u64,
-    left: &mut u64,
 ) -> u32
-    ensures { CodedDropped (held_body (length out.old) (drop_inline_tree_ref item_type body.now (record { tree = tree }))) (drop_inline_tree_ref_left item_type body.now (record { tree = tree })) result len.new left.new out.old out.new }
+    ensures { Coded (held_body (length out.old) (drop_inline_tree_ref item_type body.now (record { tree = tree }))) result len.new out.old out.new }
 {
     let answer = backref::drop_inline_tree_ref(item_type, body, tree, out);
-    crate::put_dropped(answer, len, left)
+    crate::put_edited(answer, len)
 }
 
 #[unsafe(no_mangle)]

@@ -1,8 +1,8 @@
 // Answers as numbers: the code is returned, the result's numbers are lent, and they are 0 without a result.
 ghost use Rattle.std.specs.Prelude.{◌≡◌, [], ◌∷◌};
-ghost use Rattle.extent_refs.specs.Exports.{edited_numbers, dropped_numbers, taken_numbers, told_numbers, filed_numbers, judged_numbers, picked_numbers};
+ghost use Rattle.extent_refs.specs.Exports.{edited_numbers, taken_numbers, told_numbers, filed_numbers, judged_numbers, picked_numbers};
 
-use format::{Dropped, Edited, Filed, Judged, Picked, Taken, Told};
+use format::{Edited, Filed, Judged, Picked, Taken, Told};
 
 const ACCEPTED: u32 = 0;
 
@@ -25,41 +25,18 @@ pub fn put_edited(answer: Edited, written: &mut u64) -> u32
     }
 }
 
-pub fn put_dropped(answer: Dropped, written: &mut u64, left: &mut u64) -> u32
-    ensures { result ∷ written.new ∷ left.new ∷ [] ≡ dropped_numbers answer }
+pub fn put_taken(answer: Taken, size: &mut u64, count: &mut u64) -> u32
+    ensures { result ∷ size.new ∷ count.new ∷ [] ≡ taken_numbers answer }
 {
-    *written = 0;
-    *left = 0;
-    match answer {
-        Dropped::Written {
-            size,
-            left: counted,
-        } => {
-            *written = size as u64;
-            *left = counted;
-            ACCEPTED
-        }
-        Dropped::Absent => ABSENT,
-        Dropped::Remove => REMOVE,
-        Dropped::Refused(refusal) => refusal,
-    }
-}
-
-pub fn put_taken(answer: Taken, written: &mut u64, count: &mut u64, left: &mut u64) -> u32
-    ensures { result ∷ written.new ∷ count.new ∷ left.new ∷ [] ≡ taken_numbers answer }
-{
-    *written = 0;
+    *size = 0;
     *count = 0;
-    *left = 0;
     match answer {
         Taken::Written {
-            size,
-            count: taken,
-            left: counted,
+            size: written,
+            count: counted,
         } => {
-            *written = size as u64;
-            *count = taken as u64;
-            *left = counted;
+            *size = written as u64;
+            *count = counted as u64;
             ACCEPTED
         }
         Taken::Absent => ABSENT,

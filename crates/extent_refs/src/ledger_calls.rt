@@ -13,11 +13,10 @@ pub extern "C" fn ledger_post(
     amount: u32,
     out: &mut [u8],
     len: &mut u64,
-    left: &mut u64,
 ) -> u32
-    ensures { PostKept sheet.now (record { nodesize = nodesize; number = change; extent = extent; a = a; b = b; c = c; amount = amount; old = out.old; new = out.new; code = result; size = len.new; left = left.new }) }
+    ensures { PostKept sheet.now (record { nodesize = nodesize; number = change; extent = extent; a = a; b = b; c = c; amount = amount; old = out.old; new = out.new; code = result; size = len.new }) }
 {
     let posting = crate::change_of(change, extent, a, b, c, amount);
     let answer = ledger::post(sheet, nodesize, posting, out);
-    crate::put_dropped(answer, len, left)
+    crate::put_edited(answer, len)
 }

@@ -3,8 +3,7 @@ ghost use Rattle.std.specs.Prelude.{length};
 ghost use Rattle.format.specs.Bodies.{held_body, held_only_by, keyed_data_ref_names, shared_add_key, shared_add_item, shared_add_inline_size};
 ghost use Rattle.format.specs.Items.{held_sheet};
 ghost use Rattle.format.specs.Apply.{max_inline_extent_item, record_number, apply_keyed_add_to, apply_shared_add_to, apply_shared_drop_to, drop_kept_tree_ref_from};
-ghost use Rattle.format.specs.Left.{apply_shared_drop_left, drop_kept_tree_ref_left};
-ghost use Rattle.extent_refs.specs.Exports.{Coded, CodedBool, CodedDropped, CodedKey, CodedNumber};
+ghost use Rattle.extent_refs.specs.Exports.{Coded, CodedBool, CodedKey, CodedNumber};
 
 use format::{BlockRef, DataRef, Keyed, SharedRef};
 
@@ -187,13 +186,12 @@ pub extern "C" fn transaction_apply_shared_drop(
     as_item: bool,
     out: &mut [u8],
     len: &mut u64,
-    left: &mut u64,
 ) -> u32
-    ensures { CodedDropped (held_sheet (length out.old) (apply_shared_drop_to sheet.now bytenr (record { kind = kind; parent = parent }) count as_item)) (apply_shared_drop_left sheet.now bytenr (record { kind = kind; parent = parent }) count as_item) result len.new left.new out.old out.new }
+    ensures { Coded (held_sheet (length out.old) (apply_shared_drop_to sheet.now bytenr (record { kind = kind; parent = parent }) count as_item)) result len.new out.old out.new }
 {
     let name = SharedRef { kind, parent };
     let answer = transaction::apply_shared_drop(sheet, bytenr, name, count, as_item, out);
-    crate::put_dropped(answer, len, left)
+    crate::put_edited(answer, len)
 }
 
 #[unsafe(no_mangle)]
@@ -205,11 +203,10 @@ pub extern "C" fn transaction_drop_kept_tree_ref(
     own: bool,
     out: &mut [u8],
     len: &mut u64,
-    left: &mut u64,
 ) -> u32
-    ensures { CodedDropped (held_sheet (length out.old) (drop_kept_tree_ref_from sheet.now bytenr level (record { tree = tree }) own)) (drop_kept_tree_ref_left sheet.now bytenr level (record { tree = tree }) own) result len.new left.new out.old out.new }
+    ensures { Coded (held_sheet (length out.old) (drop_kept_tree_ref_from sheet.now bytenr level (record { tree = tree }) own)) result len.new out.old out.new }
 {
     let name = BlockRef { tree };
     let answer = transaction::drop_kept_tree_ref(sheet, bytenr, level, name, own, out);
-    crate::put_dropped(answer, len, left)
+    crate::put_edited(answer, len)
 }

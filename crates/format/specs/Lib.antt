@@ -9,6 +9,5 @@ pub mod LeafImage
 pub mod Apply
 pub mod Names
 pub mod Ledger
-pub mod Left
 pub mod History
 pub mod Lister

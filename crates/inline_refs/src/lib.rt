@@ -1,7 +1,6 @@
 // The readers of inline references: the table of the five kinds, a cursor that reads one reference after the other, a reader that
 // borrows the body, and the one scan that all calls on a body share.
 mod count;
-mod drop_scan;
 mod kinds;
 mod lengths;
 mod noted;
@@ -12,9 +11,8 @@ mod start;
 mod step;
 
 pub use count::{Counted, count_refs};
-pub use drop_scan::{DropScan, scan_to_drop};
 pub use kinds::{Row, row_of, rows};
-pub use lengths::{Lengths, lengths_for, lengths_of};
+pub use lengths::{Lengths, lengths_of};
 pub use noted::{AddAt, Found, add_anywhere, add_by_scan, any_others, hit_of};
 pub use reader::{Reader, Stepped, step_from};
 pub use ref_name::{OwnRank, Ranked, RefName, kind_of, names, names_triple, rank_at, rank_of};

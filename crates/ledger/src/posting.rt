@@ -1,17 +1,16 @@
 // One change posted: questions 1 to 5 first, then the change's own.
 ghost use Rattle.std.specs.Prelude.{◌≡◌, ◌&&◌, T, length};
-ghost use Rattle.format.specs.Questions.{AnsweredDropped};
+ghost use Rattle.format.specs.Questions.{Answered};
 ghost use Rattle.format.specs.Items.{nodesize_fits, held_sheet};
 ghost use Rattle.format.specs.Names.{balanced};
 ghost use Rattle.format.specs.Ledger.{name_of, kind_fits, changed};
-ghost use Rattle.format.specs.Left.{changed_left};
 ghost use Rattle.item_list.specs.Steps.{IsList, list_items};
 ghost use Rattle.record_edit.specs.Records.{StandsFor};
 ghost use Rattle.ledger.specs.Posting.{unbalanced_or};
 ghost use Rattle.theorems.specs.Calls.{CallKept};
 
 use crate::adds;
-use format::{Change, Dropped};
+use format::{Change, Edited};
 use inline_refs::RefName;
 use record_edit::{FoundRecord, RecordAt};
 
@@ -58,17 +57,23 @@ fn change_at(
     nodesize: u32,
     change: Change,
     out: &mut [u8],
-) -> Dropped
+) -> Edited
     requires stands_for { StandsFor sheet.now (name_of change).extent target }
     requires t { T (balanced (list_items sheet.now)) }
     requires t_2 { T (kind_fits change) }
-    ensures { AnsweredDropped (held_sheet (length out.old) (changed nodesize change (list_items sheet.now))) (changed_left change (changed nodesize change (list_items sheet.now))) result out.old out.new }
+    ensures { Answered (held_sheet (length out.old) (changed nodesize change (list_items sheet.now))) result out.old out.new }
 {
     match change {
         Change::AddBlock { extent, name } => {
-            let wanted = RefName::Block(name);
-            let edited = adds::add(sheet, target, nodesize, extent, wanted, 1, out);
-            return backref::with_left(edited, 0);
+            return adds::add(
+                sheet,
+                target,
+                nodesize,
+                extent,
+                RefName::Block(name),
+                1,
+                out,
+            );
         }
         Change::AddData {
             extent,
@@ -76,8 +81,7 @@ fn change_at(
             amount,
         } => {
             let wanted = RefName::Data(name);
-            let edited = adds::add(sheet, target, nodesize, extent, wanted, amount, out);
-            return backref::with_left(edited, 0);
+            return adds::add(sheet, target, nodesize, extent, wanted, amount, out);
         }
         Change::AddShared {
             extent,
@@ -85,8 +89,7 @@ fn change_at(
             amount,
         } => {
             let wanted = backref::shared_name(name);
-            let edited = adds::add(sheet, target, nodesize, extent, wanted, amount, out);
-            return backref::with_left(edited, 0);
+            return adds::add(sheet, target, nodesize, extent, wanted, amount, out);
         }
         Change::DropBlock { name, .. } => {
             return transaction::drop_ref(sheet, target, RefName::Block(name), 1, out);
@@ -114,20 +117,20 @@ fn unbalanced_or(sheet: &[u8], otherwise: u32) -> u32
 }
 
 // Document 01's posting: the sheet with the change, into `out`.
-pub fn post(sheet: &[u8], nodesize: u32, change: Change, out: &mut [u8]) -> Dropped
+pub fn post(sheet: &[u8], nodesize: u32, change: Change, out: &mut [u8]) -> Edited
     ensures* { λ r. ⌜ CallKept sheet.now (record { nodesize = nodesize; change = change; old = out.old; new = out.new; result = r }) ⌝ }
 {
     let three = change_fits(nodesize, change);
     let found = record_edit::find_record(sheet, extent_of(change), three);
     match found {
-        FoundRecord::Refused(refusal) => return Dropped::Refused(refusal),
-        FoundRecord::Missing => return Dropped::Refused(unbalanced_or(sheet, 5)),
+        FoundRecord::Refused(refusal) => return Edited::Refused(refusal),
+        FoundRecord::Missing => return Edited::Refused(unbalanced_or(sheet, 5)),
         FoundRecord::At { target, .. } => {
             let refusal = unbalanced_or(sheet, 0);
             if refusal == 0 {
                 return change_at(sheet, target, nodesize, change, out);
             }
-            return Dropped::Refused(refusal);
+            return Edited::Refused(refusal);
         }
     }
 }

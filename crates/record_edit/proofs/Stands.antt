@@ -1,5 +1,5 @@
 -- What follows of a record from where it stands: its bytes, and the bytes of the list. Assumes nothing.
-use mathlib.Core.Path.{◌≡◌, sym, ap, ◌∙◌}
+use mathlib.Core.Path.{◌≡◌, sym, ap, ◌∙◌, subst}
 use mathlib.Core.Option.{Option}
 use mathlib.Core.List.{List, ◌∷◌, ◌++◌}
 use Prim.Native.Nat.{ℕ, ◌+◌, ◌-◌, ◌≤◌}
@@ -10,8 +10,9 @@ use Rattle.fields.specs.Lists.{all, Cut}
 use Rattle.fields.specs.Numbers.{are_bytes}
 use Rattle.fields.specs.Parts.{part}
 use Rattle.fields.proofs.Lists.{Found, cut-some}
-use Rattle.format.specs.Questions.{Answer, accepted, bind, needed}
-use Rattle.format.specs.Items.{Item, read_sheet, items_bytes, sheet_bytes, data_fits}
+use Rattle.format.specs.declared.Edited.{Edited}
+use Rattle.format.specs.Questions.{Answer, accepted, bind, needed, Answered}
+use Rattle.format.specs.Items.{Item, read_sheet, items_bytes, sheet_bytes, data_fits, held_sheet}
 use Rattle.format.specs.Sheets.{has_key}
 use Rattle.format.specs.Apply.{is_record}
 use Rattle.format.proofs.Items.{length-sheet_bytes, sheet-sane, sheet_bytes-read, sane-fit}
@@ -78,3 +79,8 @@ pub on-key : {A : Type 0} {s : List ℕ} {target : RecordAt} (h : StandsAt s tar
     → on_key target.key (list_items s) next ≡ next h.at_cut
 unfolding on_key bind needed
 on-key h next = ap (λ (o : Option (Cut Item)). bind (needed 5 o) next) h.finds
+
+pub key-answered : {s : List ℕ} {target : RecordAt} (h : StandsAt s target) (next : Cut Item → Answer (List Item)) (room : ℕ) (r : Edited) (old new : List ℕ)
+    → Answered (held_sheet room (next h.at_cut)) r old new → Answered (held_sheet room (on_key target.key (list_items s) next)) r old new
+key-answered h next room r old new w =
+    subst (λ (a : Answer (List Item)). Answered (held_sheet room a) r old new) (sym (on-key h next)) w

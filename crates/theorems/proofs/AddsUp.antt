@@ -17,7 +17,7 @@ use Rattle.format.specs.declared.Change.{Change}
 use Rattle.format.specs.declared.Change.TheVariants.{DropShared}
 use Rattle.format.specs.Questions.{accepted}
 use Rattle.format.specs.References.{Ref, Body, body_with, body_bytes}
-use Rattle.format.specs.Bodies.{named, weighed, shared_kind, less}
+use Rattle.format.specs.Bodies.{named, one, weighed, shared_kind, less}
 use Rattle.format.specs.Items.{Item, key_of, sheet_bytes, data_fits, sheet_holds, with_bytes, put_back}
 use Rattle.format.specs.Apply.{record_of}
 use Rattle.format.specs.Names.{Name, count, good}
@@ -29,6 +29,7 @@ use Rattle.theorems.specs.Acceptance.{DropsShared}
 use Rattle.theorems.specs.PartDrops.{InTwoParts, AddsUp}
 use Rattle.theorems.proofs.Sums.{same_name-refl}
 use Rattle.theorems.proofs.Naming.{Naming, shared-naming}
+use Rattle.theorems.proofs.Order.{named-yes}
 use Rattle.theorems.proofs.Facts.{shared-fits, shared-set}
 use Rattle.theorems.proofs.Steps.{tidy, tidy-bytes, Step}
 use Rattle.theorems.proofs.OneDrop.{shared_drop, shared-changes}
@@ -65,8 +66,9 @@ module _ (nodesize extent : ℕ) (s : SharedRef) (sk : T (shared_kind s.kind)) (
       let fits = S.fits in
       let less₁ : lessened b x first (b.total - first) ≡ b₁ =
       ap (λ (l : List Ref). body_with b (b.total - first) (x.front ++ (l ++ x.back))) (left-some (weighed x.hit) w first lt) in
+      let naming = subst Naming (sym (named-yes s.kind (one s.parent) x.hit f.hit).0) (shared-naming s.kind sk) in
       let sound : Sound type b₁ =
-      sound-with type b (b.total - first) b₁.refs S (omega arith) (less-whole x (rw f.same at S.wholes) first lt) in
+      sound-with type b (b.total - first) b₁.refs S (omega arith) (less-whole x naming (rw f.same at S.wholes) first one≤ lt) in
       let R₁ = recorded-again extent c.front c.hit c.back b₁ g.miss g.hit sound (rw less₁ at fit) in
       let within₁ : second ≤ w - first = omega arith in
       let total : b.total - first - second ≡ b.total - (first + second) = omega arith in

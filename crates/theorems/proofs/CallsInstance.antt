@@ -4,9 +4,8 @@ use mathlib.Core.Path.{◌≡◌, refl, sym, ap, ap₂, ◌∙◌, subst}
 use mathlib.Core.List.{List, [], ◌∷◌}
 use Prim.Native.Nat.{ℕ}
 use lib.ListN.{length, replicate, length-replicate}
-use Rattle.format.specs.Questions.{Answer, dropped_of, lent}
+use Rattle.format.specs.Questions.{Answer, edited_of, lent}
 use Rattle.format.specs.Ledger.{posted}
-use Rattle.format.specs.Left.{post_left}
 use Rattle.format.specs.History.{Posting, run}
 use Rattle.format.proofs.Computed.{computed}
 use Rattle.format.proofs.Postings.{opening, closing, postings, opens, closes}
@@ -20,8 +19,7 @@ abbrev call_for : List ℕ → Posting → Call
 call_for sheet p =
     let old : List ℕ = replicate p.room 0 in
     let answer : Answer (List ℕ) = posted p.nodesize sheet p.change (length old) in
-    let result = dropped_of (post_left p.nodesize sheet p.change) answer in
-    record { nodesize = p.nodesize; change = p.change; old = old; new = lent answer old; result = result }
+    record { nodesize = p.nodesize; change = p.change; old = old; new = lent answer old; result = edited_of answer }
 
 abbrev next_for : List ℕ → Posting → List ℕ
 next_for sheet p = next_sheet sheet (call_for sheet p).result (call_for sheet p).new

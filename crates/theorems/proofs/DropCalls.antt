@@ -13,8 +13,8 @@ use Rattle.fields.specs.Lists.{all, same, Cut, first_cut}
 use Rattle.fields.specs.Numbers.{le, le_bytes, words, word_bytes, are_bytes}
 use Rattle.fields.specs.Parts.{written}
 use Rattle.fields.proofs.Lists.{cond_no, all-mid, same-yes, same_refl, Found, cut-some}
-use Rattle.fields.proofs.Parts.{length-written}
-use Rattle.fields.proofs.Numbers.{are_bytes-le_bytes, are_bytes-written, length-le_bytes, words-word_bytes, word_bytes-words, words-bound}
+use Rattle.fields.proofs.Parts.{length-written, part-written}
+use Rattle.fields.proofs.Numbers.{are_bytes-le_bytes, are_bytes-written, length-le_bytes, le-le_bytes, words-word_bytes, word_bytes-words, words-bound}
 use Rattle.format.specs.declared.BlockRef.{BlockRef}
 use Rattle.format.specs.declared.DataRef.{DataRef}
 use Rattle.format.specs.declared.SharedRef.{SharedRef}
@@ -29,7 +29,6 @@ use Rattle.format.specs.Apply.{on_record, replaced}
 use Rattle.format.specs.Names.{Name, item_entries, good}
 use Rattle.format.specs.Ledger.{name_of, dropped_at, shared_count, less_item}
 use Rattle.format.proofs.Answers.{ask-yes, bind_ok, needed-ok, found_ok, if_absent-ok, accepted-inj, refused-not}
-use Rattle.format.proofs.Left.{keyed-left}
 use Rattle.format.proofs.Keys.{same_key-yes}
 use Rattle.theorems.proofs.Naming.{Naming, is176, is178, is182, is184, shared-naming, Formed, formed}
 use Rattle.theorems.proofs.Edit.{only, only-name, Balanced}
@@ -82,13 +81,13 @@ drop-step p P items after balance tidies e =
 
     -- inline
     part : (c : Cut Item) (b : Body) → Here m items c b → (x : Cut Ref) → Found (named m.kind m.fields) b.refs x
-        → n ≤ x.hit.weight → (d : Bool) → ltb n x.hit.weight ≡ d
+        → 1 ≤ n → n ≤ x.hit.weight → (d : Bool) → ltb n x.hit.weight ≡ d
         → Step m 0 n items
         (put_back c (body_bytes (body_with b (b.total - n) (x.front ++ (cond d (weighed x.hit (x.hit.weight - n) ∷ []) [] ++ x.back)))))
-    part c b H x f within true q =
-        inline-less m P.form.naming items c b H balance tidies x f.same f.hit n
+    part c b H x f one≤ within true q =
+        inline-less m P.form.naming items c b H balance tidies x f.same f.hit n one≤
         (ltb→lt n x.hit.weight (subst T (sym q) tt))
-    part c b H x f within false q =
+    part c b H x f one≤ within false q =
         let l : x.hit.weight ≤ n = nltb→le n x.hit.weight (subst (λ (z : Bool). T (not z)) (sym q) tt) in
         inline-gone m P.form.naming items c b H balance tidies x f.same f.hit n (omega arith)
 
@@ -109,7 +108,7 @@ drop-step p P items after balance tidies e =
         (weight-at m P.form.naming items c b H balance tidies x f.same f.hit) h₂.1 in
         let q : body_bytes (body_with b (b.total - n) (x.front ++ (less x.hit n ++ x.back))) ≡ h.0 =
         ap (λ (t : ℕ). body_bytes (body_with b t (x.front ++ (less x.hit n ++ x.back)))) te ∙ accepted-inj h₂.2 in
-        subst (Step m 0 n items) (ap (put_back c) q ∙ accepted-inj h.2) (part c b H x f within (ltb n x.hit.weight) refl)
+        subst (Step m 0 n items) (ap (put_back c) q ∙ accepted-inj h.2) (part c b H x f one≤ within (ltb n x.hit.weight) refl)
     go c b H (inr (_, e)) =
         let h₁ = bind_ok (needed 5 (first_cut (has_key (item_key p c.hit.key.objectid)) items)) _ e in
         let k : Cut Item = h₁.0 in
@@ -215,7 +214,11 @@ module _ (extent : ℕ) (d : DataRef) (i : Item) (key : i.key ≡ key_of extent 
       ∙ words-word_bytes (triple d) (n ++ rest) (rw triples at (words-bound 3 i.bytes (omega (arith, size)) bytes))
 
   again-count : keyed_count again ≡ w - 1
-  again-count = keyed-left i.bytes (w - 1) size (omega (arith, count_fits i.bytes size bytes))
+  unfolding keyed_count
+  again-count =
+      let fits = count_fits i.bytes size bytes in
+      ap le (part-written 24 4 (le_bytes 4 (w - 1)) i.bytes (length-le_bytes 4 (w - 1)) (omega (arith, size)))
+      ∙ le-le_bytes 4 (w - 1) (omega arith)
 
   again-good : T (good (with_bytes i again))
   unfolding rank

@@ -21,25 +21,29 @@ use Rattle.format.specs.Apply.{is_record, record_of, replaced}
 use Rattle.format.specs.Names.{Name, Entry, extent_record, view_of, ref_entries, item_entries, entries, under, count, good, stands, of_extent}
 use Rattle.format.specs.Ledger.{dropped_at}
 use Rattle.format.proofs.Answers.{bind_ok, needed-ok, accepted-inj}
-use Rattle.format.proofs.Refs.{whole, whole-less}
+use Rattle.format.proofs.Refs.{whole, whole_out}
 use Rattle.format.proofs.Bodies.{Sound, sound-with, are_bytes-body_bytes}
 use Rattle.format.proofs.Keys.{same_key-yes, same_key-refl}
 use Rattle.theorems.proofs.Sums.{empty, sum-mid, sum-two, sum-refs}
-use Rattle.theorems.proofs.Naming.{Naming, not-172, naming-no-record}
+use Rattle.theorems.proofs.Naming.{Naming, not-172, weighs-one, naming-no-record}
 use Rattle.theorems.proofs.Order.{named-yes, ordered-weighed, ordered-drop}
 use Rattle.theorems.proofs.Edit.{only, worth, only-stands, only-counts, Balanced, Fresh, Half, half-drop, half-swap, edit-item, extent-self, record-entries}
-use Rattle.theorems.proofs.Facts.{named-entries, unstood, positive, not-empty, view-written}
+use Rattle.theorems.proofs.Facts.{named-entries, whole-weighed, unstood, positive, not-empty, view-written}
 use Rattle.theorems.proofs.Steps.{tidy, tidy-with, tidy-bytes, Step, Here, ordered_at, inline-step}
 use Rattle.theorems.proofs.Bounds.{total-is}
 
 -- ---- inline: the reference at a cut has the name
 
 -- with some of its count off it is whole
-pub less-whole : (x : Cut Ref) → T (all whole (x.front ++ x.hit ∷ x.back)) → (n : ℕ) → n < x.hit.weight
+pub less-whole : (x : Cut Ref) → Naming x.hit.kind → T (all whole (x.front ++ x.hit ∷ x.back)) → (n : ℕ) → 1 ≤ n
+    → n < x.hit.weight
     → T (all whole (x.front ++ weighed x.hit (x.hit.weight - n) ∷ x.back))
-less-whole x ws n less =
+less-whole x naming ws n one≤ less =
+    let t : T (whole x.hit) = all-mid whole x.front x.hit x.back ws in
+    let w = whole_out x.hit t in
     all-put whole x.front (weighed x.hit (x.hit.weight - n)) x.back (all_rest whole x.front x.hit x.back ws)
-    (whole-less x.hit n (all-mid whole x.front x.hit x.back ws) less)
+    (whole-weighed x.hit (x.hit.weight - n) t (λ u. (let z = w.weighs u in omega arith))
+    (λ u. (let z = w.weight_fixed u in let y = weighs-one x.hit.kind naming 0 u in absurd (omega arith))))
 
 module _ (m : Name) (naming : Naming m.kind) (items : List Item) (c : Cut Item) (b : Body) (H : Here m items c b)
     (balance : Balanced items) (tidies : T (all tidy items))
@@ -77,10 +81,10 @@ module _ (m : Name) (naming : Naming m.kind) (items : List Item) (c : Cut Item) 
       omega arith
 
   -- some of its count goes
-  pub inline-less : (n : ℕ) → n < x.hit.weight
+  pub inline-less : (n : ℕ) → 1 ≤ n → n < x.hit.weight
       → Step m 0 n items (put_back c (body_bytes (body_with b (b.total - n) (x.front ++ weighed x.hit (x.hit.weight - n) ∷ x.back))))
   unfolding ref_entries
-  inline-less n less =
+  inline-less n one≤ less =
       let within = within-at in
       let w : ℕ = x.hit.weight in
       let S = H.sound in
@@ -102,7 +106,7 @@ module _ (m : Name) (naming : Naming m.kind) (items : List Item) (c : Cut Item) 
       })
       (ordered-weighed x.front x.hit (w - n) x.back (rw e at (ordered_at m items c b H balance tidies))) (omega arith)
       (sound-with c.hit.key.kind b (b.total - n) (x.front ++ x' ∷ x.back) S lt
-      (less-whole x (rw e at S.wholes) n less))
+      (less-whole x (rw k naming) (rw e at S.wholes) n one≤ less))
       n 0 (omega arith) (not-empty m (w - n) v) tt
 
   -- all of it goes

@@ -3,12 +3,11 @@
 use Rattle.std.specs.Prelude.{◌≡◌, Bool, true, false, not, List, [], ◌∷◌, ℕ, ◌+◌, T, length, take}
 use Rattle.fields.specs.Lists.{all}
 use Rattle.format.specs.declared.Change.{Change}
-use Rattle.format.specs.declared.Dropped.{Dropped}
-use Rattle.format.specs.declared.Dropped.TheVariants.{Written, Absent, Remove, Refused}
-use Rattle.format.specs.Questions.{is_refusal, AnsweredDropped}
+use Rattle.format.specs.declared.Edited.{Edited}
+use Rattle.format.specs.declared.Edited.TheVariants.{Written, Absent, Remove, Refused}
+use Rattle.format.specs.Questions.{is_refusal, Answered}
 use Rattle.format.specs.Names.{Name, count}
 use Rattle.format.specs.Ledger.{posted}
-use Rattle.format.specs.Left.{post_left}
 use Rattle.format.specs.History.{Posting, Seen, Tally, history, touched, items_of, sheet_items, balanced_sheet}
 use Rattle.theorems.specs.Demand.{Correct}
 
@@ -19,30 +18,28 @@ pub record Call : Type 0 where
   pub change : Change
   pub old : List ℕ
   pub new : List ℕ
-  pub result : Dropped
+  pub result : Edited
 
 abbrev pub CallKept : List ℕ → Call → Type 0
-CallKept sheet c =
-    AnsweredDropped (posted c.nodesize sheet c.change (length c.old)) (post_left c.nodesize sheet c.change) c.result c.old
-    c.new
+CallKept sheet c = Answered (posted c.nodesize sheet c.change (length c.old)) c.result c.old c.new
 
 -- "accepted", as the caller sees it
-abbrev pub was_written : Dropped → Bool
-was_written (Written size left) = true
+abbrev pub was_written : Edited → Bool
+was_written (Written size) = true
 was_written Absent = false
 was_written Remove = false
 was_written (Refused number) = false
 
 -- accepted, or refused with a question's number
-abbrev pub was_decided : Dropped → Bool
-was_decided (Written size left) = true
+abbrev pub was_decided : Edited → Bool
+was_decided (Written size) = true
 was_decided Absent = false
 was_decided Remove = false
 was_decided (Refused number) = is_refusal number
 
 -- the sheet for the next call: the front of the lent output where it was written, else the same sheet
-abbrev pub next_sheet : List ℕ → Dropped → List ℕ → List ℕ
-next_sheet sheet (Written size left) new = take size new
+abbrev pub next_sheet : List ℕ → Edited → List ℕ → List ℕ
+next_sheet sheet (Written size) new = take size new
 next_sheet sheet Absent new = sheet
 next_sheet sheet Remove new = sheet
 next_sheet sheet (Refused number) new = sheet

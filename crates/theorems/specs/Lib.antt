@@ -3,5 +3,4 @@ pub mod Acceptance
 pub mod Demand
 pub mod PartDrops
 pub mod Calls
-pub mod Left
 pub mod LeafImages

@@ -5,18 +5,15 @@ use mathlib.Core.Option.{Option}
 use mathlib.Core.List.{List}
 use Prim.Native.Nat.{ℕ}
 use lib.Dec.{T, eqb}
-use Rattle.fields.specs.Lists.{Cut, first_cut}
+use Rattle.fields.specs.Lists.{Cut}
 use Rattle.fields.proofs.Lists.{Found, cut-some}
 use Rattle.format.specs.declared.BlockRef.{BlockRef}
 use Rattle.format.specs.declared.Key.{Key}
-use Rattle.format.specs.declared.Dropped.{Dropped}
-use Rattle.format.specs.Questions.{Answer, refused, accepted, ask, bind, needed, result_or, AnsweredDropped}
-use Rattle.format.specs.Bodies.{one}
+use Rattle.format.specs.declared.Edited.{Edited}
+use Rattle.format.specs.Questions.{Answer, refused, ask, bind, needed, Answered}
 use Rattle.format.specs.Items.{Item, key_of, read_sheet, on_sheet, held_sheet}
 use Rattle.format.specs.Sheets.{has_key}
 use Rattle.format.specs.Apply.{is_record, drop_tree_ref, drop_kept_tree_ref, drop_kept_tree_ref_from}
-use Rattle.format.specs.Left.{left_at, drop_kept_tree_ref_left}
-use Rattle.format.proofs.Answers.{bind_ok, needed-ok}
 use Rattle.format.proofs.Keys.{same_key-yes}
 use Rattle.inline_refs.specs.declared.ref_name.RefName.TheVariants.{Block}
 use Rattle.item_list.specs.declared.Sought.TheVariants.{Present, Absent}
@@ -25,9 +22,7 @@ use Rattle.item_list.specs.Seeks.{seek_in}
 use Rattle.item_list.proofs.Reading.{Counted}
 use Rattle.item_list.proofs.Positions.{Sits, sits, no_cut, Inside, inside}
 use Rattle.record_edit.specs.Records.{StandsAt, on_key}
-use Rattle.transaction.specs.Drops.{drop_ref, on_key_left, ref_left}
-use Rattle.transaction.proofs.Reports.{reports-held}
-use Rattle.transaction.proofs.LeftItems.{kept-left}
+use Rattle.transaction.specs.Drops.{drop_ref}
 
 module _ (s : List ℕ) (bytenr level : ℕ) (name : BlockRef) (own : Bool) where
   pub kept-refused : (k : ℕ) → read_sheet s ≡ refused k → drop_kept_tree_ref_from s bytenr level name own ≡ refused k
@@ -68,27 +63,16 @@ module _ (s : List ℕ) (bytenr level : ℕ) (name : BlockRef) (own : Bool) wher
           ends = sym t.stands.ends;
         }
 
-    -- what it leaves
-    left-kept : (after : List Item) → drop_kept_tree_ref_from s bytenr level name own ≡ accepted after
-        → on_key_left key (list_items s) (ref_left (Block name) 1 (list_items s)) ≡ drop_kept_tree_ref_left s bytenr level name own
-    unfolding on_key on_key_left drop_kept_tree_ref_left
-    left-kept after e =
-        let h = bind_ok (needed 5 (first_cut (has_key key) (list_items s))) _ (sym kept-is ∙ e) in
-        ap (result_or 0 (ref_left (Block name) 1 (list_items s))) h.1
-        ∙ kept-left name own (list_items s) bytenr level h.0 (needed-ok 5 (first_cut (has_key key) (list_items s)) h.1) after h.2
-        ∙ sym (ap (result_or 0 (left_at (has_key key) 176 (one name.tree))) e)
-
     -- by the flag that code tested
-    pub kept-told : (flag : Bool) (room : ℕ) (r : Dropped) (old new : List ℕ) → own ≡ flag
-        → AnsweredDropped (held_sheet room (on_key key (list_items s) (drop_tree_ref name flag (list_items s)))) (on_key_left key (list_items s) (ref_left (Block name) 1 (list_items s))) r old new
-        → AnsweredDropped (held_sheet room (drop_kept_tree_ref_from s bytenr level name own)) (drop_kept_tree_ref_left s bytenr level name own) r old new
+    pub kept-told : (flag : Bool) (room : ℕ) (r : Edited) (old new : List ℕ) → own ≡ flag
+        → Answered (held_sheet room (on_key key (list_items s) (drop_tree_ref name flag (list_items s)))) r old new
+        → Answered (held_sheet room (drop_kept_tree_ref_from s bytenr level name own)) r old new
     kept-told flag room r old new e w =
-        reports-held room (drop_kept_tree_ref_from s bytenr level name own) left-kept
-        (subst (λ (a : Answer (List Item)). AnsweredDropped (held_sheet room a) (on_key_left key (list_items s) (ref_left (Block name) 1 (list_items s))) r old new)
-        (ap (λ (b : Bool). on_key key (list_items s) (drop_tree_ref name b (list_items s))) (sym e) ∙ sym kept-is) w)
+        subst (λ (a : Answer (List Item)). Answered (held_sheet room a) r old new)
+        (ap (λ (b : Bool). on_key key (list_items s) (drop_tree_ref name b (list_items s))) (sym e) ∙ sym kept-is) w
 
-    pub kept-plain : (room : ℕ) (r : Dropped) (old new : List ℕ) → own ≡ false
-        → AnsweredDropped (held_sheet room (on_key key (list_items s) (drop_ref (Block name) 1 (list_items s)))) (on_key_left key (list_items s) (ref_left (Block name) 1 (list_items s))) r old new
-        → AnsweredDropped (held_sheet room (drop_kept_tree_ref_from s bytenr level name own)) (drop_kept_tree_ref_left s bytenr level name own) r old new
+    pub kept-plain : (room : ℕ) (r : Edited) (old new : List ℕ) → own ≡ false
+        → Answered (held_sheet room (on_key key (list_items s) (drop_ref (Block name) 1 (list_items s)))) r old new
+        → Answered (held_sheet room (drop_kept_tree_ref_from s bytenr level name own)) r old new
     unfolding drop_ref
     kept-plain room r old new e w = kept-told false room r old new e w

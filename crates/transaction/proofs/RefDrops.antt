@@ -20,9 +20,8 @@ use Rattle.format.specs.declared.DataRef.{DataRef}
 use Rattle.format.specs.declared.SharedRef.{SharedRef}
 use Rattle.format.specs.declared.Key.{Key}
 use Rattle.format.specs.declared.Edited.{Edited}
-use Rattle.format.specs.declared.Dropped.{Dropped}
-use Rattle.format.specs.declared.Dropped.TheVariants.{Refused as Undropped}
-use Rattle.format.specs.Questions.{Answer, refused, absent, remove, accepted, bind, needed, if_absent, held, result_or, Answered, AnsweredDropped}
+use Rattle.format.specs.declared.Edited.TheVariants.{Refused as Denied}
+use Rattle.format.specs.Questions.{Answer, refused, absent, remove, accepted, bind, needed, if_absent, held, Answered}
 use Rattle.format.specs.References.{known, row_in, total_of, rank_of, make_ref}
 use Rattle.format.specs.Bodies.{body_fits, on_head, one, lowered_by_part, on_total, lower_total, drop_inline, drop_inline_tree_ref, keyed_count, drop_keyed_data_ref}
 use Rattle.format.specs.Items.{Item, key_of, held_sheet, put_back, without}
@@ -30,8 +29,7 @@ use Rattle.format.specs.Sheets.{has_key, deleted}
 use Rattle.format.specs.Apply.{is_record, replaced, flagged, drop_tree_ref}
 use Rattle.format.specs.Names.{is_ref_item, in_form, view_ref_item, view_of, well_formed, good}
 use Rattle.format.specs.Ledger.{dropped_at, drop_data_ref, shared_count, less_item, drop_shared_ref}
-use Rattle.format.specs.Left.{left_in}
-use Rattle.format.proofs.Answers.{ask-ok, bind_ok, accepted-inj, refused-not, absent-not, remove-not}
+use Rattle.format.proofs.Answers.{ask-ok, bind_ok, accepted-inj, remove-not}
 use Rattle.format.proofs.Keys.{same_key-yes}
 use Rattle.inline_refs.specs.declared.ref_name.RefName.{RefName}
 use Rattle.inline_refs.specs.declared.ref_name.RefName.TheVariants.{Block, Data, SharedBlock, SharedData}
@@ -39,33 +37,32 @@ use Rattle.inline_refs.specs.Scans.{kind_of, fields_of}
 use Rattle.item_list.specs.declared.Sought.TheVariants.{Present, Absent as Missing}
 use Rattle.item_list.specs.Steps.{list_items, list_items_from}
 use Rattle.item_list.specs.Seeks.{seek_in}
+use Rattle.item_list.proofs.ItemWrites.{answered-no}
 use Rattle.backref.specs.declared.plan.Outcome.TheVariants.{Absent}
 use Rattle.backref.specs.declared.plan.Plan.{Plan}
-use Rattle.backref.specs.Plans.{plan_answer, Planned, dropped_from}
+use Rattle.backref.specs.Plans.{plan_answer, Planned}
 use Rattle.backref.specs.ByName.{shared_ref, drop_named}
-use Rattle.backref.proofs.PlanAnswers.{wrote-dropped}
 use Rattle.record_edit.specs.declared.RecordAt.{RecordAt}
 use Rattle.record_edit.specs.Records.{data_of, edited_sheet, nothing, held_edit}
 use Rattle.record_edit.proofs.Held.{held-bind}
-use Rattle.transaction.specs.Drops.{held_at, drop_ref, SharedInForm, lowered_total, item_drop, item_left, CountFits, on_key_left, own_left, left_by, ref_left}
+use Rattle.transaction.specs.Drops.{held_at, drop_ref, SharedInForm, lowered_total, item_drop, item_left, CountFits}
 use Rattle.record_edit.proofs.Stands.{Stands}
-use Rattle.transaction.proofs.Turns.{not-absent, is-absent, stays, turns}
-use Rattle.transaction.proofs.Reports.{reports-no, reports-held}
+use Rattle.transaction.proofs.Turns.{is-absent, turns}
 use Rattle.transaction.proofs.BehindRecord.{BehindAt, behind-at, behind-none}
 use Rattle.transaction.proofs.Puts.{inline-answered, held-second, item-bytes, without-it, replaced-without, counted-it, replaced-counted}
-use Rattle.transaction.proofs.ItemDrops.{keyed-out, keyed-gone, shared-is}
+use Rattle.transaction.proofs.ItemDrops.{keyed-out, shared-is}
 use Rattle.transaction.proofs.Plans.{put-held}
 use Rattle.transaction.proofs.Rewrites.{last-four}
 
 -- ---- at the item
 
-module _ (w : RefName) (amount : ℕ) (s : List ℕ) (target : RecordAt) (from to room : ℕ) (r : Dropped) (old new : List ℕ) where
+module _ (w : RefName) (amount : ℕ) (s : List ℕ) (target : RecordAt) (from to room : ℕ) (r : Edited) (old new : List ℕ) where
   abbrev body : List ℕ
   body = data_of s target.start target.end
 
   -- the total is lowered so, and so much is left of the item
   abbrev Drops : Answer (List ℕ) → ℕ → Answer (List ℕ) → Type 0
-  Drops total left rest = AnsweredDropped (bind total (held_at room s target from to left rest)) left r old new
+  Drops total left rest = Answered (bind total (held_at room s target from to left rest)) r old new
 
   abbrev AtItem : Type 0
   AtItem = Drops (lowered_total w amount (data_of s from to) body) (item_left w amount (le (part (to - 4) 4 s))) (item_drop w amount (data_of s from to))
@@ -250,17 +247,6 @@ left_over (SharedData parent) amount item d f l e last is =
       written_is = b.1 ∙ ap (λ (n : ℕ). le_bytes 4 (n - amount)) (ap le (sym whole) ∙ is 0 f) ∙ sym (written_all (le_bytes 4 (last - amount)) item (f ∙ sym (length-le_bytes 4 (last - amount))));
     }
 
--- an item of data that goes or is left has 28 bytes
-keyed-long : (k : Cut Item) (item : List ℕ) (d : DataRef) (others : List Item) → dropped_at k (drop_keyed_data_ref item d) ≡ accepted others → length item ≡ 28
-unfolding dropped_at
-keyed-long k item d others = go (drop_keyed_data_ref item d) refl
-  where
-    go : (a : Answer (List ℕ)) → drop_keyed_data_ref item d ≡ a → dropped_at k a ≡ accepted others → length item ≡ 28
-    go (refused n) h e = refused-not e
-    go absent h e = absent-not e
-    go remove h e = (keyed-gone item d h).0
-    go (accepted bytes) h e = (keyed-out item d h).0
-
 -- ---- the call
 
 module _ {s : List ℕ} {c : Cut Item} {target : RecordAt} (st : Stands s c target) (w : RefName) (amount : ℕ) (p : Plan)
@@ -274,40 +260,13 @@ module _ {s : List ℕ} {c : Cut Item} {target : RecordAt} (st : Stands s c targ
   abbrev other : Answer (List Item)
   other = bind (needed 5 (first_cut (has_key (own_key amount (list_items s) c w)) (list_items s))) (at_item amount (list_items s) c w)
 
-  -- ---- inline
-
-  -- the answer is that of the body
-  by-body : (p.outcome ≡ Absent → ⊥)
-      → drop_ref w amount (list_items s) c ≡ bind (drop_named c.hit.key.kind c.hit.bytes w amount) (λ body. accepted (put_back c body))
-  by-body there =
-      in-one-form amount (list_items s) c w
-      ∙ stays (drop_named c.hit.key.kind c.hit.bytes w amount) (put_back c) other
-      (λ e. not-absent p (data_of s target.start target.end) there (says ∙ e))
-
-  -- and so is what is left
-  inline-left : (left : ℕ) → (p.outcome ≡ Absent → ⊥)
-      → ((rest : List ℕ) → drop_named target.key.kind (data_of s target.start target.end) w amount ≡ accepted rest → left ≡ left_in target.key.kind (kind_of w) (fields_of w) rest)
-      → (after : List Item) → drop_ref w amount (list_items s) c ≡ accepted after → left ≡ ref_left w amount (list_items s) c
-  unfolding ref_left left_by
-  inline-left left there leaves after e =
-      let h = bind_ok (drop_named c.hit.key.kind c.hit.bytes w amount) _ (sym (by-body there) ∙ e) in
-      leaves h.0 (sym planned.says ∙ says ∙ h.1)
-      ∙ ap (λ (i : Item). left_in i.key.kind (kind_of w) (fields_of w) h.0) hit-is
-      ∙ sym (ap (left_by w amount (list_items s) c) h.1)
-
-  pub drop-inline : (left : ℕ) → (p.outcome ≡ Absent → ⊥)
-      → ((rest : List ℕ) → drop_named target.key.kind (data_of s target.start target.end) w amount ≡ accepted rest → left ≡ left_in target.key.kind (kind_of w) (fields_of w) rest)
-      → (e : Edited) (r : Dropped) (old new : List ℕ)
-      → Answered (bind (plan_answer p (data_of s target.start target.end)) (held_edit room target.item_count 65564 (edited_sheet s target (nothing (length s))))) e old new
-      → r ≡ dropped_from left e
-      → AnsweredDropped (held_sheet room (drop_ref w amount (list_items s) c)) (ref_left w amount (list_items s) c) r old new
-  drop-inline left there leaves e r old new h is =
-      reports-held room (drop_ref w amount (list_items s) c) (inline-left left there leaves)
-      (wrote-dropped (subst (λ (a : Answer (List Item)). Answered (held_sheet room a) e old new) (sym (in-one-form amount (list_items s) c w))
-      (inline-answered st p (drop_named c.hit.key.kind c.hit.bytes w amount) other room e old new there says
-      (put-held s target p (nothing (length s)) room target.item_count e old new planned.inside h))) is)
-
-  -- ---- at its item
+  pub drop-inline : (p.outcome ≡ Absent → ⊥) → (r : Edited) (old new : List ℕ)
+      → Answered (bind (plan_answer p (data_of s target.start target.end)) (held_edit room target.item_count 65564 (edited_sheet s target (nothing (length s))))) r old new
+      → Answered (held_sheet room (drop_ref w amount (list_items s) c)) r old new
+  drop-inline there r old new h =
+      subst (λ (a : Answer (List Item)). Answered (held_sheet room a) r old new) (sym (in-one-form amount (list_items s) c w))
+      (inline-answered st p (drop_named c.hit.key.kind c.hit.bytes w amount) other room r old new there says
+      (put-held s target p (nothing (length s)) room target.item_count r old new planned.inside h))
 
   module _ (out : p.outcome ≡ Absent) (kind rank : ℕ) (kind-is : kind ≡ kind_of w) (rank_is : rank ≡ rank_of (kind_of w) (fields_of w)) where
     abbrev item-key : Key
@@ -329,10 +288,10 @@ module _ {s : List ℕ} {c : Cut Item} {target : RecordAt} (st : Stands s c targ
         ∙ ap (λ (k : Key). bind (needed 5 (first_cut (has_key k) (list_items s))) (at_item amount (list_items s) c w)) (sym key-same)
         ∙ ap (λ (x : Option (Cut Item)). bind (needed 5 x) (at_item amount (list_items s) c w)) e
 
-    pub drop-none : (at left : ℕ) (old : List ℕ) → seek_in item-key target.end (list_items_from s target.end) ≡ Missing at
-        → AnsweredDropped (held_sheet room (drop_ref w amount (list_items s) c)) left (Undropped 5) old old
+    pub drop-none : (at : ℕ) (old : List ℕ) → seek_in item-key target.end (list_items_from s target.end) ≡ Missing at
+        → Answered (held_sheet room (drop_ref w amount (list_items s) c)) (Denied 5) old old
     unfolding bind needed
-    drop-none at left old e = reports-no room _ 5 left old (turned none (behind-none st item-key extent high at e))
+    drop-none at old e = answered-no _ room 5 old (turned none (behind-none st item-key extent high at e))
 
     module _ {from to : ℕ} (k : BehindAt s c target.end item-key from to) where
       -- the number in its last four bytes
@@ -340,11 +299,6 @@ module _ {s : List ℕ} {c : Cut Item} {target : RecordAt} (st : Stands s c targ
       last-is at l =
           ap (λ (d : List ℕ). le (part at 4 d)) (item-bytes st k)
           ∙ ap le (last-four s from to at k.stands.ordered k.stands.within (sym (ap length (item-bytes st k)) ∙ l))
-
-      four-left : (at : ℕ) → length k.item.hit.bytes ≡ at + 4 → le (part (to - 4) 4 s) ≡ le (part (length k.item.hit.bytes - 4) 4 k.item.hit.bytes)
-      four-left at l =
-          let same : at ≡ length k.item.hit.bytes - 4 = omega arith in
-          sym (last-is at l) ∙ ap (λ (n : ℕ). le (part n 4 k.item.hit.bytes)) same
 
       -- by the answer of the item's own drop
       held-at : CountFits w k.item.hit.bytes → (a : Answer (List ℕ)) → item_drop w amount k.item.hit.bytes ≡ a → (body : List ℕ)
@@ -364,26 +318,6 @@ module _ {s : List ℕ} {c : Cut Item} {target : RecordAt} (st : Stands s c targ
           ∙ ap (held_sheet room) (replaced-counted st k h.at (sym h.long) count body)
           ∙ held-second st (counted-it st k h.at (sym h.long) count) room body
 
-      -- what is left there, read off its data
-      data-left : (v : RefName) → CountFits v k.item.hit.bytes → (others : List Item) → dropped_at k.item (item_drop v amount k.item.hit.bytes) ≡ accepted others
-          → item_left v amount (le (part (to - 4) 4 s)) ≡ own_left v amount k.item
-      unfolding item_drop item_left own_left
-      data-left (Block name) f others e = refl
-      data-left (Data name) f others e = ap (λ (n : ℕ). n - 1) (four-left 24 (keyed-long k.item k.item.hit.bytes name others e))
-      data-left (SharedBlock parent) f others e = refl
-      data-left (SharedData parent) f others e = ap (λ (n : ℕ). n - amount) (four-left 0 f)
-
-      item-left : CountFits w k.item.hit.bytes → (after : List Item) → drop_ref w amount (list_items s) c ≡ accepted after
-          → item_left w amount (le (part (to - 4) 4 s)) ≡ ref_left w amount (list_items s) c
-      unfolding bind needed ref_left left_by on_key_left
-      item-left f after e =
-          let h₁ = bind_ok (lowered_total w amount k.item.hit.bytes c.hit.bytes) _ (sym (turned (some k.item) k.finds) ∙ e) in
-          let h₂ = bind_ok (dropped_at k.item (item_drop w amount k.item.hit.bytes)) _ h₁.2 in
-          data-left w f h₂.0 h₂.1
-          ∙ ap (λ (o : Option (Cut Item)). result_or 0 (own_left w amount) (needed 5 o)) (sym k.finds)
-          ∙ ap (λ (x : Key). result_or 0 (own_left w amount) (needed 5 (first_cut (has_key x) (list_items s)))) key-same
-          ∙ sym (ap (left_by w amount (list_items s) c) (sym says ∙ is-absent p (data_of s target.start target.end) out))
-
     -- the item of shared data is its count
     pub count_fits : (from to : ℕ) → seek_in item-key target.end (list_items_from s target.end) ≡ Present from to → SharedInForm w (list_items s) → CountFits w (data_of s from to)
     count_fits from to e form =
@@ -400,10 +334,10 @@ module _ {s : List ℕ} {c : Cut Item} {target : RecordAt} (st : Stands s c targ
             ∙ four_bytes k.item.hit kind-184
             (all-mid good k.item.front k.item.hit k.item.back (subst (λ (l : List Item). T (all good l)) k.same f))
 
-    pub drop-item : (from to : ℕ) (r : Dropped) (old new : List ℕ) → seek_in item-key target.end (list_items_from s target.end) ≡ Present from to
+    pub drop-item : (from to : ℕ) (r : Edited) (old new : List ℕ) → seek_in item-key target.end (list_items_from s target.end) ≡ Present from to
         → SharedInForm w (list_items s)
         → AtItem w amount s target from to room r old new
-        → AnsweredDropped (held_sheet room (drop_ref w amount (list_items s) c)) (ref_left w amount (list_items s) c) r old new
+        → Answered (held_sheet room (drop_ref w amount (list_items s) c)) r old new
     unfolding bind needed
     drop-item from to r old new e form written =
         let k : BehindAt s c target.end item-key from to = behind-at st item-key extent high from to e in
@@ -414,7 +348,6 @@ module _ {s : List ℕ} {c : Cut Item} {target : RecordAt} (st : Stands s c targ
         let h : held_sheet room (drop_ref w amount (list_items s) c) ≡ bind (lowered_total w amount item c.hit.bytes) put =
         ap (held_sheet room) (turned (some k.item) k.finds)
         ∙ held-bind room (lowered_total w amount item c.hit.bytes) _ put (λ body f. held-at k fits (item_drop w amount item) refl body f) in
-        reports-held room (drop_ref w amount (list_items s) c) (item-left k fits)
-        (subst (λ (a : Answer (List ℕ)). AnsweredDropped a left r old new)
+        subst (λ (a : Answer (List ℕ)). Answered a r old new)
         (ap₂ (λ (x y : List ℕ). bind (lowered_total w amount y x) (held_at room s target from to left (item_drop w amount y)))
-        (ap (λ (i : Item). i.bytes) hit-is) (sym (item-bytes st k)) ∙ sym h) written)
+        (ap (λ (i : Item). i.bytes) hit-is) (sym (item-bytes st k)) ∙ sym h) written

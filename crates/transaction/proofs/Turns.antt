@@ -9,8 +9,7 @@ use lib.ListN.{length}
 use denote.Enum.Declared.{tag_of}
 use Rattle.format.specs.declared.Edited.{Edited}
 use Rattle.format.specs.declared.Edited.TheVariants.{Absent as NoMatch}
-use Rattle.format.specs.declared.Dropped.{Dropped}
-use Rattle.format.specs.Questions.{Answer, refused, absent, remove, accepted, ask, bind, if_absent, lent, edited_of, Answered, AnsweredDropped}
+use Rattle.format.specs.Questions.{Answer, refused, absent, remove, accepted, ask, bind, if_absent, lent, edited_of, Answered}
 use Rattle.format.specs.contracts.Edited.{the_type}
 use Rattle.backref.specs.declared.plan.Outcome.{Outcome}
 use Rattle.backref.specs.declared.plan.Outcome.TheVariants.{Edit, Absent, Remove, Refused}
@@ -29,12 +28,6 @@ remove_absent e = let z : ◌≡◌ {A = ℕ} 0 1 = cc in absurd (omega arith)
 
 pub accepted-absent : {A : Type 0} {a : A} → ◌≡◌ {A = Answer A} (accepted a) absent → ⊥
 accepted-absent e = let z : ◌≡◌ {A = ℕ} 0 1 = cc in absurd (omega arith)
-
--- a question that is answered "no" refuses
-pub asked-absent : {A : Type 0} (b : Bool) (n : ℕ) (next : Answer A) → ask b n next ≡ absent → next ≡ absent
-unfolding ask
-asked-absent true n next e = e
-asked-absent false n next e = absurd (refused-absent e)
 
 -- ---- by the outcome of the inline plan
 
@@ -96,9 +89,8 @@ module _ (p : Plan) (body : List ℕ) (room count limit : ℕ) (sheet : List ℕ
       go (Refused n) e = let f = sym (says-by e) ∙ is in let z : ◌≡◌ {A = ℕ} 0 1 = cc in absurd (omega arith)
 
 -- an answer in the output as it was left is one in the output as it was lent
-pub lent_again : (f : ℕ → Answer (List ℕ)) (left : ℕ) (r : Dropped) (old mid new : List ℕ) → mid ≡ old → AnsweredDropped (f (length mid)) left r mid new
-    → AnsweredDropped (f (length old)) left r old new
-lent_again f left r old mid new same w = subst (λ (x : List ℕ). AnsweredDropped (f (length x)) left r x new) same w
+pub lent_again : (f : ℕ → Answer (List ℕ)) (r : Edited) (old mid new : List ℕ) → mid ≡ old → Answered (f (length mid)) r mid new → Answered (f (length old)) r old new
+lent_again f r old mid new same w = subst (λ (x : List ℕ). Answered (f (length x)) r x new) same w
 
 -- ---- which of two decides
 

@@ -1,15 +1,14 @@
 // drop_kept_tree_ref: a block reference out of the record of type 169 whose offset is the level.
 ghost use Rattle.std.specs.Prelude.{◌≡◌, true, ◌+◌, ◌≤◌, length};
-ghost use Rattle.format.specs.Questions.{AnsweredDropped};
+ghost use Rattle.format.specs.Questions.{Answered};
 ghost use Rattle.format.specs.Items.{held_sheet};
 ghost use Rattle.format.specs.Apply.{drop_tree_ref, drop_kept_tree_ref_from};
-ghost use Rattle.format.specs.Left.{drop_kept_tree_ref_left};
 ghost use Rattle.item_list.specs.Steps.{list_items};
 ghost use Rattle.record_edit.specs.Records.{StandsAt, on_key};
-ghost use Rattle.transaction.specs.Drops.{with_own_flag, on_key_left, ref_left};
+ghost use Rattle.transaction.specs.Drops.{with_own_flag};
 
 use super::drop_refs;
-use format::{BlockRef, Dropped, FLAG_FULL_BACKREF, Key, METADATA_ITEM};
+use format::{BlockRef, Edited, FLAG_FULL_BACKREF, Key, METADATA_ITEM};
 use inline_refs::RefName;
 use item_list::Listing;
 use record_edit::RecordAt;
@@ -24,18 +23,18 @@ fn set_own(out: &mut [u8], at: usize)
 }
 
 // The drop with the own-flag: no byte moves for it, so it is set in the list that was written.
-fn drop_owned(sheet: &[u8], target: RecordAt, name: BlockRef, out: &mut [u8]) -> Dropped
+fn drop_owned(sheet: &[u8], target: RecordAt, name: BlockRef, out: &mut [u8]) -> Edited
     requires { StandsAt sheet.now target }
-    ensures { AnsweredDropped (held_sheet (length out.old) (on_key target.key (list_items sheet.now) (drop_tree_ref name true (list_items sheet.now)))) (on_key_left target.key (list_items sheet.now) (ref_left (RefName.Block name) 1 (list_items sheet.now))) result out.old out.new }
+    ensures { Answered (held_sheet (length out.old) (on_key target.key (list_items sheet.now) (drop_tree_ref name true (list_items sheet.now)))) result out.old out.new }
 {
-    let dropped = drop_refs::drop_ref(sheet, target, RefName::Block(name), 1, out);
-    match dropped {
-        Dropped::Absent => return Dropped::Absent,
-        Dropped::Remove => return Dropped::Remove,
-        Dropped::Refused(refusal) => return Dropped::Refused(refusal),
-        Dropped::Written { size, left } => {
+    let edited = drop_refs::drop_ref(sheet, target, RefName::Block(name), 1, out);
+    match edited {
+        Edited::Absent => return Edited::Absent,
+        Edited::Remove => return Edited::Remove,
+        Edited::Refused(refusal) => return Edited::Refused(refusal),
+        Edited::Written(size) => {
             set_own(out, target.start + 37);
-            return Dropped::Written { size, left };
+            return Edited::Written(size);
         }
     }
 }
@@ -48,8 +47,8 @@ pub fn drop_kept_tree_ref(
     name: BlockRef,
     own: bool,
     out: &mut [u8],
-) -> Dropped
-    ensures { AnsweredDropped (held_sheet (length out.old) (drop_kept_tree_ref_from sheet.now bytenr level name own)) (drop_kept_tree_ref_left sheet.now bytenr level name own) result out.old out.new }
+) -> Edited
+    ensures { Answered (held_sheet (length out.old) (drop_kept_tree_ref_from sheet.now bytenr level name own)) result out.old out.new }
 {
     let key = Key {
         objectid: bytenr,
@@ -58,8 +57,8 @@ pub fn drop_kept_tree_ref(
     };
     let listing = item_list::find(sheet, item_list::ItemQuery::AtOrPast(key));
     match listing {
-        Listing::Refused(refusal) => return Dropped::Refused(refusal),
-        Listing::Missing { .. } => return Dropped::Refused(5),
+        Listing::Refused(refusal) => return Edited::Refused(refusal),
+        Listing::Missing { .. } => return Edited::Refused(5),
         Listing::Found {
             count,
             start,
@@ -67,7 +66,7 @@ pub fn drop_kept_tree_ref(
             ..
         } => {
             if item_list::is_past(sheet, start, key) {
-                return Dropped::Refused(5);
+                return Edited::Refused(5);
             }
             let target = RecordAt {
                 key,

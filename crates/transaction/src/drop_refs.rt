@@ -3,37 +3,31 @@ ghost use Rattle.std.specs.Prelude.{◌+◌, ◌-◌, ◌≤◌, length};
 ghost use Rattle.fields.specs.Numbers.{le};
 ghost use Rattle.fields.specs.Parts.{part};
 ghost use Rattle.format.specs.Constants.{item_head, most_sheet};
-ghost use Rattle.format.specs.Questions.{AnsweredDropped, bind, remove};
+ghost use Rattle.format.specs.Questions.{Answered, bind, remove};
 ghost use Rattle.format.specs.Bodies.{lowered_by_part, on_total, lower_total, drop_keyed_data_ref};
 ghost use Rattle.format.specs.Items.{held_sheet};
 ghost use Rattle.format.specs.Ledger.{less_item};
 ghost use Rattle.item_list.specs.Steps.{list_items};
+ghost use Rattle.backref.specs.ByName.{OneOff};
 ghost use Rattle.record_edit.specs.Records.{data_of, StandsAt, on_key};
-ghost use Rattle.transaction.specs.Drops.{held_at, drop_ref, SharedInForm, lowered_total, item_drop, item_left, CountFits, on_key_left, ref_left};
+ghost use Rattle.transaction.specs.Drops.{held_at, drop_ref, SharedInForm, lowered_total, item_drop, item_left, CountFits};
 
 use super::drop_edits;
 use backref::{Outcome, TotalChange};
-use format::{DataRef, Dropped, Edited, ITEM_HEAD, Key};
+use format::{DataRef, Edited, ITEM_HEAD, Key};
 use inline_refs::RefName;
 use item_list::Sought;
 use record_edit::RecordAt;
 
 // One off the record's total; the block reference's item goes.
-fn drop_block_item(
-    sheet: &[u8],
-    target: RecordAt,
-    from: usize,
-    to: usize,
-    out: &mut [u8],
-) -> Dropped
+fn drop_block_item(sheet: &[u8], target: RecordAt, from: usize, to: usize, out: &mut [u8]) -> Edited
     requires { (target.start + item_head ≤ target.end) × (target.end ≤ from) × (from + item_head ≤ to) × (to ≤ length sheet.now) × (length sheet.now ≤ most_sheet) }
-    ensures { AnsweredDropped (bind (lower_total (data_of sheet.now target.start target.end)) (held_at (length out.old) sheet.now target from to 0 remove)) 0 result out.old out.new }
+    ensures { Answered (bind (lower_total (data_of sheet.now target.start target.end)) (held_at (length out.old) sheet.now target from to 0 remove)) result out.old out.new }
 {
     let start = target.start;
     let end = target.end;
     let lowered = backref::plan_total(&sheet[start + ITEM_HEAD..end], TotalChange::LowerByOne);
-    let edited = drop_edits::put_without(sheet, target, lowered, from, to, out);
-    backref::with_left(edited, 0)
+    drop_edits::put_without(sheet, target, lowered, from, to, out)
 }
 
 // The amount off the record's total, then off the shared reference's item, which counts `standing`: with its last count it goes.
@@ -45,20 +39,17 @@ fn drop_part(
     standing: u32,
     amount: u32,
     out: &mut [u8],
-) -> Dropped
+) -> Edited
     requires { (target.start + item_head ≤ target.end) × (target.end ≤ from) × (from + item_head ≤ to) × (to ≤ length sheet.now) × (length sheet.now ≤ most_sheet) }
-    ensures { AnsweredDropped (bind (on_total (data_of sheet.now target.start target.end) (lowered_by_part amount standing)) (held_at (length out.old) sheet.now target from to (standing - amount) (less_item standing amount))) (standing - amount) result out.old out.new }
+    ensures { Answered (bind (on_total (data_of sheet.now target.start target.end) (lowered_by_part amount standing)) (held_at (length out.old) sheet.now target from to (standing - amount) (less_item standing amount))) result out.old out.new }
 {
     let start = target.start;
     let end = target.end;
     let reduced = backref::plan_total_part(&sheet[start + ITEM_HEAD..end], amount, standing);
     if amount < standing {
-        let rest = standing - amount;
-        let edited = drop_edits::put_count(sheet, target, reduced, to, rest, out);
-        return backref::with_left(edited, rest as u64);
+        return drop_edits::put_count(sheet, target, reduced, to, standing - amount, out);
     }
-    let edited = drop_edits::put_without(sheet, target, reduced, from, to, out);
-    backref::with_left(edited, 0)
+    drop_edits::put_without(sheet, target, reduced, from, to, out)
 }
 
 // One off the record's total, then one count off the data reference's item: at count 1 the item goes.
@@ -69,32 +60,26 @@ fn drop_count(
     to: usize,
     name: DataRef,
     out: &mut [u8],
-) -> Dropped
+) -> Edited
     requires { (target.start + item_head ≤ target.end) × (target.end ≤ from) × (from + item_head ≤ to) × (to ≤ length sheet.now) × (length sheet.now ≤ most_sheet) }
-    ensures { AnsweredDropped (bind (lower_total (data_of sheet.now target.start target.end)) (held_at (length out.old) sheet.now target from to (le (part (to - 4) 4 sheet.now) - 1) (drop_keyed_data_ref (data_of sheet.now from to) name))) (le (part (to - 4) 4 sheet.now) - 1) result out.old out.new }
+    ensures { Answered (bind (lower_total (data_of sheet.now target.start target.end)) (held_at (length out.old) sheet.now target from to (le (part (to - 4) 4 sheet.now) - 1) (drop_keyed_data_ref (data_of sheet.now from to) name))) result out.old out.new }
 {
     let start = target.start;
     let end = target.end;
     let rest = backref::plan_total(&sheet[start + ITEM_HEAD..end], TotalChange::LowerByOne);
     let total = rest.outcome;
     let Outcome::Edit = total else {
-        let edited = record_edit::put_record(sheet, target, rest, crate::NO_LIMIT, out);
-        return backref::with_left(edited, 0);
+        return record_edit::put_record(sheet, target, rest, crate::NO_LIMIT, out);
     };
     let item = backref::plan_drop_keyed(&sheet[from + ITEM_HEAD..to], name);
-    let plan = item.plan;
-    let outcome = plan.outcome;
+    let outcome = item.outcome;
     match outcome {
-        Outcome::Refused(refusal) => Dropped::Refused(refusal),
-        Outcome::Absent => Dropped::Absent,
-        Outcome::Remove => {
-            let edited = drop_edits::put_without(sheet, target, rest, from, to, out);
-            backref::with_left(edited, 0)
-        }
+        Outcome::Refused(refusal) => Edited::Refused(refusal),
+        Outcome::Absent => Edited::Absent,
+        Outcome::Remove => drop_edits::put_without(sheet, target, rest, from, to, out),
         Outcome::Edit => {
-            let count = fields::get_u32_le(sheet, to - 4) - 1;
-            let edited = drop_edits::put_count(sheet, target, rest, to, count, out);
-            backref::with_left(edited, count as u64)
+            let count = fields::get_u32_le(sheet, to - 4);
+            drop_edits::put_count(sheet, target, rest, to, count - 1, out)
         }
     }
 }
@@ -108,10 +93,10 @@ fn drop_at_item(
     name: RefName,
     amount: u32,
     out: &mut [u8],
-) -> Dropped
+) -> Edited
     requires count_fits { CountFits name (data_of sheet.now from to) }
     requires item_head_bound { (target.start + item_head ≤ target.end) × (target.end ≤ from) × (from + item_head ≤ to) × (to ≤ length sheet.now) × (length sheet.now ≤ most_sheet) }
-    ensures { AnsweredDropped (bind (lowered_total name amount (data_of sheet.now from to) (data_of sheet.now target.start target.end)) (held_at (length out.old) sheet.now target from to (item_left name amount (le (part (to - 4) 4 sheet.now))) (item_drop name amount (data_of sheet.now from to)))) (item_left name amount (le (part (to - 4) 4 sheet.now))) result out.old out.new }
+    ensures { Answered (bind (lowered_total name amount (data_of sheet.now from to) (data_of sheet.now target.start target.end)) (held_at (length out.old) sheet.now target from to (item_left name amount (le (part (to - 4) 4 sheet.now))) (item_drop name amount (data_of sheet.now from to)))) result out.old out.new }
 {
     match name {
         RefName::Block(_) => drop_block_item(sheet, target, from, to, out),
@@ -131,23 +116,23 @@ pub fn drop_ref(
     name: RefName,
     amount: u32,
     out: &mut [u8],
-) -> Dropped
+) -> Edited
     requires stands_at { StandsAt sheet.now target }
+    requires one_off { OneOff name amount }
     requires shared_in_form { SharedInForm name (list_items sheet.now) }
-    ensures { AnsweredDropped (held_sheet (length out.old) (on_key target.key (list_items sheet.now) (drop_ref name amount (list_items sheet.now)))) (on_key_left target.key (list_items sheet.now) (ref_left name amount (list_items sheet.now))) result out.old out.new }
+    ensures { Answered (held_sheet (length out.old) (on_key target.key (list_items sheet.now) (drop_ref name amount (list_items sheet.now)))) result out.old out.new }
 {
     let start = target.start;
     let end = target.end;
-    let drop = backref::plan_drop(
+    let plan = backref::plan_drop(
         target.key.kind,
         &sheet[start + ITEM_HEAD..end],
         name,
         amount,
     );
-    let left = drop.left;
-    let edited = record_edit::put_record(sheet, target, drop.plan, crate::NO_LIMIT, out);
+    let edited = record_edit::put_record(sheet, target, plan, crate::NO_LIMIT, out);
     let Edited::Absent = edited else {
-        return backref::with_left(edited, left);
+        return edited;
     };
     let item = Key {
         objectid: target.key.objectid,
@@ -160,7 +145,7 @@ pub fn drop_ref(
         end: to,
     } = position
     else {
-        return Dropped::Refused(5);
+        return Edited::Refused(5);
     };
     drop_at_item(sheet, target, from, to, name, amount, out)
 }

@@ -54,7 +54,7 @@ pub fn rows(b: &mut Bench) {
         "backref_drop_keyed_data_ref",
         "",
         || backref::drop_keyed_data_ref(&item, 5, 257, 0),
-        |out, len| lent::backref_drop_keyed_data_ref(&item, 5, 257, 0, out, len, &mut 0).into(),
+        |out, len| lent::backref_drop_keyed_data_ref(&item, 5, 257, 0, out, len).into(),
     );
     b.row(
         "transaction_keyed_data_ref_names",
@@ -67,9 +67,6 @@ pub fn rows(b: &mut Bench) {
     made(b);
     for count in [1, 6, 60, 250, 1_000] {
         with_references(b, count);
-    }
-    for count in [6, 60, 250, 1_000] {
-        drops_of_the_first(b, count);
     }
 }
 
@@ -220,9 +217,7 @@ fn with_references(b: &mut Bench, count: u64) {
         "backref_drop_inline_data_ref",
         size,
         || backref::drop_inline_data_ref(168, &two, 5, inode, 0),
-        |out, len| {
-            lent::backref_drop_inline_data_ref(168, &two, 5, inode, 0, out, len, &mut 0).into()
-        },
+        |out, len| lent::backref_drop_inline_data_ref(168, &two, 5, inode, 0, out, len).into(),
     );
     b.row(
         "backref_add_inline_shared",
@@ -235,8 +230,7 @@ fn with_references(b: &mut Bench, count: u64) {
         size,
         || backref::take_inline_shared(168, &shared, 184, 4096),
         |out, len| {
-            lent::backref_take_inline_shared(168, &shared, 184, 4096, out, len, &mut 0, &mut 0)
-                .into()
+            lent::backref_take_inline_shared(168, &shared, 184, 4096, out, len, &mut 0).into()
         },
     );
     b.row(
@@ -256,39 +250,6 @@ fn with_references(b: &mut Bench, count: u64) {
         "backref_drop_inline_tree_ref",
         size,
         || backref::drop_inline_tree_ref(169, &two, 5),
-        |out, len| lent::backref_drop_inline_tree_ref(169, &two, 5, out, len, &mut 0).into(),
-    );
-}
-
-/// The first reference is the one that is dropped, so that what is left is summed over all the others.
-fn drops_of_the_first(b: &mut Bench, count: u64) {
-    let size = &format!("{count} references, the first")[..];
-    let (data, shared, block) = (data_body(count), shared_body(count), block_body(count));
-    let refs = backref::inline_refs(168, &data).expect("readable");
-    let inode = u64::from_le_bytes(refs[0].payload[8..16].try_into().expect("8 bytes"));
-    b.row(
-        "backref_drop_inline_data_ref",
-        size,
-        || backref::drop_inline_data_ref(168, &data, 5, inode, 0),
-        |out, len| {
-            lent::backref_drop_inline_data_ref(168, &data, 5, inode, 0, out, len, &mut 0).into()
-        },
-    );
-    let parent = 4096 * count;
-    b.row(
-        "backref_take_inline_shared",
-        size,
-        || backref::take_inline_shared(168, &shared, 184, parent),
-        |out, len| {
-            lent::backref_take_inline_shared(168, &shared, 184, parent, out, len, &mut 0, &mut 0)
-                .into()
-        },
-    );
-    let tree = 4 + count;
-    b.row(
-        "backref_drop_inline_tree_ref",
-        size,
-        || backref::drop_inline_tree_ref(169, &block, tree),
-        |out, len| lent::backref_drop_inline_tree_ref(169, &block, tree, out, len, &mut 0).into(),
+        |out, len| lent::backref_drop_inline_tree_ref(169, &two, 5, out, len).into(),
     );
 }

@@ -83,7 +83,7 @@ fn only_item(b: &mut Bench) {
         "1 item",
         &items,
         |items| public::apply_keyed_add(16_384, items, 4096, block, 1, false),
-        |out, len| lent::ledger_post(16_384, &sheet, 1, 4096, 7, 0, 0, 1, out, len, &mut 0).into(),
+        |out, len| lent::ledger_post(16_384, &sheet, 1, 4096, 7, 0, 0, 1, out, len).into(),
     );
 }
 
@@ -213,9 +213,7 @@ pub fn with_items(b: &mut Bench, count: u64) {
         size,
         &items,
         |items| public::apply_keyed_add(16_384, items, middle, name, 1, false),
-        |out, len| {
-            lent::ledger_post(16_384, &sheet, 2, middle, 6, 257, 0, 1, out, len, &mut 0).into()
-        },
+        |out, len| lent::ledger_post(16_384, &sheet, 2, middle, 6, 257, 0, 1, out, len).into(),
     );
 }
 
@@ -232,10 +230,8 @@ fn drops(b: &mut Bench, size: &str, items: &[OwnedItem], middle: u64, last: u64)
         &items,
         |items| public::apply_shared_drop(items, middle, 184, 8192, 2, false),
         |out, len| {
-            lent::transaction_apply_shared_drop(
-                &sheet, middle, 184, 8192, 2, false, out, len, &mut 0,
-            )
-            .into()
+            lent::transaction_apply_shared_drop(&sheet, middle, 184, 8192, 2, false, out, len)
+                .into()
         },
     );
     b.row_by_value(
@@ -243,8 +239,6 @@ fn drops(b: &mut Bench, size: &str, items: &[OwnedItem], middle: u64, last: u64)
         size,
         &items,
         |items| public::drop_kept_tree_ref(items, last, 7, 0, false),
-        |out, len| {
-            lent::transaction_drop_kept_tree_ref(&sheet, last, 0, 7, false, out, len, &mut 0).into()
-        },
+        |out, len| lent::transaction_drop_kept_tree_ref(&sheet, last, 0, 7, false, out, len).into(),
     );
 }

@@ -101,12 +101,11 @@ fn real_leaves(b: &mut Bench) {
                 for &(extent, kind) in extents {
                     let kind = kind.into();
                     let code = lent::ledger_post(
-                        NODE, sheet, 3, extent, kind, PARENT, 0, 1, &mut given, len, &mut 0,
+                        NODE, sheet, 3, extent, kind, PARENT, 0, 1, &mut given, len,
                     );
                     let there = &given[..*len as usize];
-                    let back = lent::ledger_post(
-                        NODE, there, 6, extent, kind, PARENT, 0, 1, out, len, &mut 0,
-                    );
+                    let back =
+                        lent::ledger_post(NODE, there, 6, extent, kind, PARENT, 0, 1, out, len);
                     if code + back != 0 || *len as usize != sheet.len() {
                         return 1;
                     }
@@ -143,19 +142,7 @@ fn in_a_row(b: &mut Bench) {
                 let (extent, parent) = named(n);
                 let code = if n % 2 == 0 {
                     let length = *len as usize;
-                    lent::ledger_post(
-                        NODE,
-                        &here[..length],
-                        3,
-                        extent,
-                        184,
-                        parent,
-                        0,
-                        1,
-                        out,
-                        len,
-                        &mut 0,
-                    )
+                    lent::ledger_post(NODE, &here[..length], 3, extent, 184, parent, 0, 1, out, len)
                 } else {
                     let length = *len as usize;
                     lent::ledger_post(
@@ -169,7 +156,6 @@ fn in_a_row(b: &mut Bench) {
                         1,
                         &mut here,
                         len,
-                        &mut 0,
                     )
                 };
                 if code != 0 {
@@ -197,9 +183,7 @@ fn other_types(b: &mut Bench) {
         "199 items, every second of another type",
         &items,
         |items| public::apply_shared_add(NODE, items, extent, 184, PARENT, 1, false),
-        |out, len| {
-            lent::ledger_post(NODE, &bytes, 3, extent, 184, PARENT, 0, 1, out, len, &mut 0).into()
-        },
+        |out, len| lent::ledger_post(NODE, &bytes, 3, extent, 184, PARENT, 0, 1, out, len).into(),
     );
 }
 

@@ -149,7 +149,7 @@ pub fn table(bench: &mut Bench) {
     let mut usual = None;
     for (name, refusal, sheet) in lists {
         let Some(ns) = bench.alone("ledger_post", |out, len| {
-            let code = lent::ledger_post(16_384, &sheet, 5, 4096, 1, 1, 1, 0, out, len, &mut 0);
+            let code = lent::ledger_post(16_384, &sheet, 5, 4096, 1, 1, 1, 0, out, len);
             assert_eq!(code, refusal, "{name}");
             code.into()
         }) else {

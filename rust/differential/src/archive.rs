@@ -30,7 +30,7 @@ pub fn by_each(call: &str, runs: &str, run: impl Fn(&str, Caller) -> String) -> 
 
 impl Default for Archive {
     fn default() -> Self {
-        // No call has more than 11 parameters.
+        // No call has more than 10 parameters.
         Archive { regions: (0..12).map(|_| Guarded::new()).collect() }
     }
 }

@@ -15,33 +15,6 @@ pub fn reference(r: &mut Random) -> Reference {
     }
 }
 
-/// The body with one of its names once or twice more, among the others or in order, with counts of its
-/// own, none and the most among them, and now and then references of other kinds with its first field.
-pub fn repeating(r: &mut Random, item_type: u8, body: Vec<u8>) -> Vec<u8> {
-    let Ok(mut read) = Body::read(item_type, &body) else { return body };
-    if read.references.is_empty() {
-        return body;
-    }
-    let name = read.references[r.below(read.references.len())].clone();
-    let mut more = vec![name.clone(); 1 + r.below(2)];
-    for again in &mut more {
-        again.count = again.count.map(|own| r.pick(&[own, 0, 1, 2, u32::MAX - 1, u32::MAX]));
-    }
-    for _ in 0..r.below(3) {
-        let mut other = reference(r);
-        other.fields[0] = name.fields[0];
-        more.push(other);
-    }
-    for reference in more {
-        read.total = read.total.wrapping_add(reference.weight());
-        read.references.insert(r.below(read.references.len() + 1), reference);
-    }
-    if r.chance(1, 3) {
-        in_order(&mut read.references);
-    }
-    read.bytes()
-}
-
 /// In the order that a balanced body has: types rise, first fields and hashes fall.
 pub fn in_order(references: &mut [Reference]) {
     let place = |r: &Reference| match r.kind {

@@ -1,7 +1,6 @@
 //! One call, all comparisons.
 use crate::archive::{self, Archive};
 use crate::generate::{ample, edges, lent, random};
-use crate::left_seen::Seen;
 use crate::questions::Reached;
 use crate::random::Random;
 use crate::show;
@@ -77,8 +76,7 @@ impl Tally {
 const LONGER: Duration = Duration::from_secs(20);
 
 /// The comparisons of one call, within a time: some random cases whatever the time, the edges,
-/// then random cases again, and past the time until every code of the call has come up and, of a
-/// drop, everything that has to.
+/// then random cases again, and past the time until every code of the call has come up.
 pub fn call(name: &'static str, time: Duration) -> Vec<String> {
     let begun = Spent::begin();
     let mut both = Both::new(name);
@@ -92,7 +90,7 @@ pub fn call(name: &'static str, time: Duration) -> Vec<String> {
     }
     for _ in 0..MOST {
         let over = begun.elapsed();
-        if over > time && (both.whole() || over > time + LONGER) {
+        if over > time && (both.reached.whole() || over > time + LONGER) {
             break;
         }
         let args = random(name, &mut r);
@@ -106,8 +104,6 @@ struct Both {
     archive: Option<Archive>,
     turn: usize,
     reached: Reached,
-    /// Of a call that drops, what came up.
-    seen: Option<Seen>,
     model_original: Tally,
     archive_model: Tally,
     archive_original: Tally,
@@ -120,16 +116,10 @@ impl Both {
             archive: archive::has(call).then(Archive::default),
             turn: 0,
             reached: Reached::new(call),
-            seen: Seen::of(call),
             model_original: Tally::default(),
             archive_model: Tally::default(),
             archive_original: Tally::default(),
         }
-    }
-
-    /// Whether all that has to come up has.
-    fn whole(&self) -> bool {
-        self.reached.whole() && self.seen.as_ref().is_none_or(|seen| seen.missing().is_none())
     }
 
     /// With ample room, then with exactly enough, one too few and none.
@@ -139,9 +129,6 @@ impl Both {
         let said = outcome(call, &args);
         self.turn += 1;
         self.reached.note(&said.args, said.code, true);
-        if let Some(seen) = &mut self.seen {
-            seen.note(&args, &said);
-        }
         let verdict = match inside(call, said.code) {
             true => of_original(call, &args),
             false => Verdict::NotAsked,
@@ -197,7 +184,6 @@ impl Both {
 
     fn lines(&self) -> Vec<String> {
         let mut lines = vec![self.reached.line()];
-        lines.extend(self.seen.as_ref().map(Seen::line));
         let beside_original = ORIGINAL_HERE && has_original(self.call);
         if beside_original {
             lines.push(self.model_original.line(self.call, "original/model"));

@@ -1,10 +1,10 @@
 //! The table of docs/DIFFERENCES.md, row by row: what the original does on the row's input, and
 //! the code here. The document is read, so that it has no row that is not executed as it says.
 use crate::archive::{self, Archive};
-use crate::generate::{ample, lent, with_outputs};
+use crate::generate::{ample, lent};
 use crate::verdict::{of_original, Verdict, ORIGINAL_HERE};
 use model::body::{keyed_data_ref_body, tree_block_body, Body, Reference};
-use model::calls::Arg::{self, Bytes, Number, Words};
+use model::calls::Arg::{self, Bytes, Cuts, Lent, Number, Out, Words};
 use model::calls::{outcome, Written};
 use model::sheet::{bytes, Item};
 
@@ -22,7 +22,6 @@ struct Row {
     place: &'static str,
     input: &'static str,
     call: &'static str,
-    /// Without what is lent.
     args: Vec<Arg>,
     /// Bytes of output that are lent; `None`: enough.
     room: Option<usize>,
@@ -51,6 +50,11 @@ fn result(bytes: Vec<u8>) -> Does {
     Does::Gives(Written { numbers: vec![bytes.len() as u64], bytes, ..Written::default() })
 }
 
+/// An output and its length, behind the other arguments.
+fn edit(args: impl IntoIterator<Item = Arg>) -> Vec<Arg> {
+    args.into_iter().chain([Out(vec![]), Lent(0)]).collect()
+}
+
 const MOST: u32 = u32::MAX;
 
 /// A record in a list of its own, whose body has this total and these references.
@@ -64,7 +68,7 @@ fn sums() -> Vec<Row> {
         place,
         input,
         call,
-        args,
+        args: edit(args),
         room: None,
         does,
         code,
@@ -158,13 +162,13 @@ fn parameters() -> Vec<Row> {
         code: 3,
     };
     let block = tree_block_body(7, 5);
-    let without_it = Written { bytes: block[..24].to_vec(), numbers: vec![24, 1, 0], cuts: vec![] };
+    let without_it = Written { bytes: block[..24].to_vec(), numbers: vec![24, 1], cuts: vec![] };
     let raised = [&1u64.to_le_bytes()[..], &[0; 65_528]].concat();
     let insert = |input, nodesize| {
         let key = [Number(0), Number(1), Number(0)];
         let args = [vec![Number(nodesize), Bytes(vec![1])], key.to_vec(), vec![Bytes(vec![])]];
         let place = "nodesize outside 501 to 65,536";
-        row(place, input, "leaf_edit_insert", args.concat(), result(empties(1)))
+        row(place, input, "leaf_edit_insert", edit(args.concat()), result(empties(1)))
     };
     let held = body(4097, &[Reference::data(5, 257, 0, 4097)]);
     vec![
@@ -172,21 +176,21 @@ fn parameters() -> Vec<Row> {
             "`max_inline_extent_item`",
             "nodesize 500",
             "transaction_max_inline_extent_item",
-            vec![Number(500)],
+            vec![Number(500), Lent(0)],
             Does::Panics,
         ),
         row(
             "a shared kind other than 182 and 184",
             "`take_inline_shared` with kind 176",
             "backref_take_inline_shared",
-            vec![Number(169), Bytes(block), Number(176), Number(5)],
+            [edit([Number(169), Bytes(block), Number(176), Number(5)]), vec![Lent(0)]].concat(),
             Does::Gives(without_it),
         ),
         row(
             "a body above 65,535 bytes",
             "`raise_total` of 65,536 bytes",
             "backref_raise_total",
-            vec![Number(168), Bytes(vec![0; 65_536]), Number(1)],
+            edit([Number(168), Bytes(vec![0; 65_536]), Number(1)]),
             result(raised),
         ),
         insert("`insert` with nodesize 500", 500),
@@ -195,28 +199,28 @@ fn parameters() -> Vec<Row> {
             "more than 4,096 offsets for `held_only_by`",
             "4,097 offsets",
             "transaction_held_only_by",
-            vec![Bytes(held), Number(5), Number(257), Words(vec![0; 4097])],
+            vec![Bytes(held), Number(5), Number(257), Words(vec![0; 4097]), Lent(0)],
             numbers(&[1]),
         ),
         row(
             "`shared_add_item`",
             "kind 176",
             "transaction_shared_add_item",
-            vec![Number(176), Number(1)],
+            edit([Number(176), Number(1)]),
             result(vec![]),
         ),
         row(
             "`shared_add_key`",
             "kind 176",
             "transaction_shared_add_key",
-            vec![Number(4096), Number(176), Number(5)],
+            vec![Number(4096), Number(176), Number(5), Lent(0), Lent(0), Lent(0)],
             numbers(&[4096, 176, 5]),
         ),
         row(
             "`shared_add_inline_size`",
             "kind 176",
             "transaction_shared_add_inline_size",
-            vec![Number(176)],
+            vec![Number(176), Lent(0)],
             numbers(&[9]),
         ),
     ]
@@ -234,9 +238,8 @@ fn limits() -> Vec<Row> {
         code,
     };
     let key = |objectid| [Number(objectid), Number(1), Number(0)];
-    let twice = [Bytes(bytes(&[empty(0), empty(0)]))].into_iter().chain(key(0)).collect();
-    let insert =
-        [Bytes(empties(4096))].into_iter().chain(key(4096)).chain([Bytes(vec![])]).collect();
+    let twice = [Bytes(bytes(&[empty(0), empty(0)]))].into_iter().chain(key(0));
+    let insert = [Bytes(empties(4096))].into_iter().chain(key(4096)).chain([Bytes(vec![])]);
     let blocks = |count, tree| {
         let mut references = vec![Reference::block(7); count];
         references.extend((tree > 0).then(|| Reference::block(tree)));
@@ -249,7 +252,7 @@ fn limits() -> Vec<Row> {
             "an item list that is not sorted",
             "`delete` from two items of one key",
             "leaf_edit_delete",
-            twice,
+            edit(twice),
             result(empties(1)),
             2,
         ),
@@ -257,7 +260,7 @@ fn limits() -> Vec<Row> {
             "an item list above 4,096 items",
             "`split` of 4,097 items",
             "leaf_edit_split",
-            vec![Bytes(empties(4097))],
+            vec![Bytes(empties(4097)), Cuts(vec![]), Lent(0)],
             Does::Gives(half),
             1,
         ),
@@ -265,7 +268,7 @@ fn limits() -> Vec<Row> {
             "an item above 65,535 data bytes",
             "the only item, of 65,536 bytes",
             "leaf_edit_item",
-            vec![Bytes(long), Number(0)],
+            vec![Bytes(long), Number(0), Lent(0), Lent(0)],
             numbers(&[22, 65_536]),
             1,
         ),
@@ -273,7 +276,7 @@ fn limits() -> Vec<Row> {
             "a result above the limits",
             "`insert_unbounded` into 4,096 items",
             "leaf_edit_insert_unbounded",
-            insert,
+            edit(insert),
             result(empties(4097)),
             21,
         ),
@@ -281,7 +284,7 @@ fn limits() -> Vec<Row> {
             "a result above the limits",
             "`add_inline_tree_ref` to 7,279 block references",
             "backref_add_inline_tree_ref",
-            vec![Number(168), Bytes(blocks(7_279, 0)), Number(5)],
+            edit([Number(168), Bytes(blocks(7_279, 0)), Number(5)]),
             result(blocks(7_279, 5)),
             21,
         ),
@@ -289,7 +292,7 @@ fn limits() -> Vec<Row> {
             place: "a lent output that is too small",
             input: "`keyed_data_ref_body` with room 0",
             call: "backref_keyed_data_ref_body",
-            args: [1, 2, 3, 4].map(Number).to_vec(),
+            args: edit([1, 2, 3, 4].map(Number)),
             room: Some(0),
             does: result(keyed_data_ref_body([1, 2, 3], 4)),
             code: 21,
@@ -329,8 +332,7 @@ fn held_to(document: &str, rows: &[Row]) -> Vec<String> {
 }
 
 fn executed(row: &Row, written: &[[&str; 4]]) -> String {
-    let args = with_outputs(row.call, row.args.clone());
-    let args = lent(&args, row.room.unwrap_or(ample(&args)));
+    let args = lent(&row.args, row.room.unwrap_or(ample(&row.args)));
     let said = outcome(row.call, &args);
     let mut faults = Vec::new();
     match written.iter().find(|[place, input, ..]| row.place == *place && row.input == *input) {

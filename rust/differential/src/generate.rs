@@ -29,11 +29,6 @@ pub fn parameters(call: &str) -> &'static [(&'static str, &'static str)] {
     row(call).parameters
 }
 
-/// Whether a call says how many are left under a name.
-pub fn drops(call: &str) -> bool {
-    parameters(call).iter().any(|p| p.0 == "left")
-}
-
 /// What the parameters of one case are drawn from, so that they meet.
 struct Draw<'a> {
     r: &'a mut Random,
@@ -58,10 +53,7 @@ struct Draw<'a> {
 /// One random case; outputs are lent later.
 pub fn random(call: &'static str, r: &mut Random) -> Vec<Arg> {
     let item_type = r.pick(&[168, 168, 168, 169, 169, 0, 178]);
-    let mut body = bodies::body(r, item_type);
-    if drops(call) && r.chance(1, 3) {
-        body = bodies::repeating(r, item_type, body);
-    }
+    let body = bodies::body(r, item_type);
     let mut d = drawn(call, r, item_type, body, None);
     if call == "transaction_held_only_by" && d.r.chance(4, 5) {
         let count = match d.r.below(60) {
@@ -151,9 +143,6 @@ fn drawn<'a>(
         Some(sheet) => sheet,
         None if !on_sheet => vec![],
         None if call.contains("split") && r.chance(3, 4) => sheets::to_split(r),
-        None if call.starts_with("transaction") && drops(call) && r.chance(1, 3) => {
-            sheets::repeating(r)
-        }
         None => sheets::sheet(r),
     };
     let items = unordered(&sheet).unwrap_or_default();
@@ -532,16 +521,13 @@ impl Draw<'_> {
     }
 }
 
-/// What a lent number holds before a call, so that one that is not written shows.
-pub const BEFORE: u64 = 0xdead_beef_dead_beef;
-
 /// The case with outputs of that many elements, filled so that a stray write shows.
 pub fn lent(args: &[Arg], room: usize) -> Vec<Arg> {
     args.iter()
         .map(|arg| match arg {
             Arg::Out(_) => Arg::Out((0..room).map(|i| 0xa5 ^ i as u8).collect()),
             Arg::Cuts(_) => Arg::Cuts((0..room).map(|i| 0xa5a5 ^ i as u16).collect()),
-            Arg::Lent(_) => Arg::Lent(BEFORE),
+            Arg::Lent(_) => Arg::Lent(0xdead_beef_dead_beef),
             other => other.clone(),
         })
         .collect()
@@ -581,19 +567,8 @@ pub fn total(items: &[Item], extent: u64) -> u64 {
 pub fn posting(nodesize: u64, sheet: &[u8], numbers: [u64; 6]) -> Vec<Arg> {
     let mut args = vec![Arg::Number(nodesize), Arg::Bytes(sheet.to_vec())];
     args.extend(numbers.map(Arg::Number));
-    with_outputs("ledger_post", args)
-}
-
-/// The inputs of a call, with the outputs and numbers that it is lent behind them.
-pub fn with_outputs(call: &str, mut inputs: Vec<Arg>) -> Vec<Arg> {
-    let lent = parameters(call)[inputs.len()..].iter().map(|(_, kind)| match *kind {
-        "out" => Arg::Out(vec![]),
-        "cuts" => Arg::Cuts(vec![]),
-        "lent" => Arg::Lent(0),
-        other => panic!("{call} wants a {other}"),
-    });
-    inputs.extend(lent.collect::<Vec<_>>());
-    inputs
+    args.extend([Arg::Out(vec![]), Arg::Lent(0)]);
+    args
 }
 
 /// The name that a case of the ledger carries, for reports.

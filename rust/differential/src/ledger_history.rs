@@ -1,7 +1,6 @@
 //! Histories: lists of changes posted to a balanced sheet, held to a plain tally.
 use crate::archive::{by_each, Caller};
 use crate::generate::{lent, name_of, part, posting};
-use crate::left_seen::reported;
 use crate::random::Random;
 use crate::sheets;
 use crate::spent::Spent;
@@ -13,9 +12,8 @@ use std::time::Duration;
 /// Of each change, how often it was accepted and refused.
 type Answers = [[usize; 2]; 6];
 
-/// Opening, given and taken of a name.
-type Row = (i128, i128, i128);
-type Rows = BTreeMap<(u64, Name), Row>;
+/// Opening, given and taken of each name.
+type Rows = BTreeMap<(u64, Name), (i128, i128, i128)>;
 
 /// What answers a posting.
 pub type Poster<'a> = Caller<'a>;
@@ -67,19 +65,7 @@ fn drawn(r: &mut Random, items: &[Item]) -> [u64; 6] {
     [change, extent, a, b, c, amount]
 }
 
-/// The row after an accepted change; what the name then counts, where that is a drop.
-fn booked((opening, given, taken): &mut Row, change: u64, amount: u64) -> i128 {
-    let amount = if [1, 4, 5].contains(&change) { 1 } else { i128::from(amount) };
-    if change <= 3 {
-        *given += amount;
-        return 0;
-    }
-    *taken += amount;
-    *opening + *given - *taken
-}
-
-/// Forty postings, each to the list that the last accepted one made. A drop reports what its name is
-/// then at, and nothing else reports anything.
+/// Forty postings, each to the list that the last accepted one made.
 fn history(r: &mut Random, post: Poster, answers: &mut Answers) -> Result<(), String> {
     let mut sheet = bytes(&sheets::balanced(r));
     let opening = read(&sheet).map_err(|_| "a list that does not read")?;
@@ -96,14 +82,16 @@ fn history(r: &mut Random, post: Poster, answers: &mut Answers) -> Result<(), St
             .entry(name)
             .or_insert_with_key(|(extent, name)| (count(&opening, *extent, name) as i128, 0, 0));
         answers[change as usize - 1][usize::from(said.code != 0)] += 1;
-        let stands = if said.code == 0 { booked(row, change, amount) } else { 0 };
-        if i128::from(reported(&said)) != stands {
-            return Err(format!("change {change} reports {} left of {stands}", reported(&said)));
-        }
         if said.code != 0 {
             continue;
         }
         named.insert(extent);
+        match change {
+            1 => row.1 += 1,
+            2 | 3 => row.1 += i128::from(amount),
+            4 | 5 => row.2 += 1,
+            _ => row.2 += i128::from(amount),
+        }
         sheet = crate::verdict::written("ledger_post", &said).bytes;
         items =
             read(&sheet).map_err(|_| format!("change {change} gave a sheet that does not read"))?;
@@ -167,17 +155,6 @@ mod tests {
         assert!(line(&no_drop).starts_with("FAIL"));
         // One that drops all of a shared reference, whatever the amount.
         assert!(line(&crate::parts::wrong::drops_all).starts_with("FAIL"));
-        // One that reports what is left of an add, too, and one that reports nothing.
-        let reports = |all: bool| {
-            move |args: &[Arg]| {
-                changed(args, |said| {
-                    let left = if all { reported(said).max(1) } else { 0 };
-                    *said.args.last_mut().expect("a number") = Arg::Lent(left);
-                })
-            }
-        };
-        assert!(line(&reports(true)).contains("reports"));
-        assert!(line(&reports(false)).contains("reports"));
         // One that hands the list back.
         let back = |args: &[Arg]| {
             let mut after = args.to_vec();
@@ -186,7 +163,6 @@ mod tests {
                 out[..sheet.len()].copy_from_slice(sheet);
             }
             after[9] = Arg::Lent(sheet.len() as u64);
-            after[10] = Arg::Lent(0);
             Some(Outcome { code: 0, args: after })
         };
         assert!(line(&back).starts_with("FAIL"));

@@ -1,14 +1,14 @@
 //! The differential run. The last line is 'N passed, M failed'; what was left out stands before it.
 //!
 //!     differential               every call; DIFFERENTIAL_SECONDS (100) of processor time
-//!     differential --only CALL   one call; or `tables`, `words`, `runs`, `images` or `left`
+//!     differential --only CALL   one call; or `tables`, `words`, `runs` or `images`
 //!     differential --replay      the original's recorded answers alone
 //!     differential --record      writes recorded/answers.txt from the original
 //!
-//! Each call runs in a process of its own, and so do the images, the runs and what is left: a read past
-//! a lent slice ends that process alone.
+//! Each call runs in a process of its own, and so do the images and the runs: a read past a lent slice
+//! ends that process alone.
 use differential::{compare, differences, generate, recorded, verdict};
-use differential::{histories, images, left, parts, runs, swapped, tables, words};
+use differential::{histories, images, parts, runs, swapped, tables, words};
 use std::process::{Command, ExitCode, Output};
 use std::sync::atomic::{AtomicUsize, Ordering};
 use std::sync::Mutex;
@@ -49,7 +49,6 @@ fn one(call: &str, seconds: f64) -> ExitCode {
         None if call == "words" => words(),
         None if call == "runs" => runs(),
         None if call == "images" => images(time),
-        None if call == "left" => left(time),
         None => {
             println!("there is no call {call}");
             return ExitCode::from(2);
@@ -71,12 +70,12 @@ fn all(seconds: f64) -> ExitCode {
     }
     count.lines(archive_faults(extent_refs::LINKED, extent_refs::MISSING));
     // The images get their part, which is ten seconds of the usual run; of the rest a share goes to
-    // each call, and one each to the recorded answers, the histories, the parts, what is left and the
-    // swap. The tables, the word steps and the runs are always as many. As many are compared at once
-    // as there are processors, each in a process of its own.
+    // each call, and one each to the recorded answers, the histories, the parts and the swap. The
+    // tables, the word steps and the runs are always as many. As many are compared at once as there
+    // are processors, each in a process of its own.
     let of_images = seconds * 2.0 / 15.0;
-    let share = (seconds - of_images) / (calls.len() + 5) as f64;
-    let mut tasks = vec![("images", of_images), ("runs", 0.0), ("left", share)];
+    let share = (seconds - of_images) / (calls.len() + 4) as f64;
+    let mut tasks = vec![("images", of_images), ("runs", 0.0)];
     tasks.extend(calls.iter().map(|&call| (call, share)));
     for ((call, _), run) in tasks.iter().zip(side_by_side(&tasks)) {
         let text = String::from_utf8_lossy(&run.stdout).into_owned();

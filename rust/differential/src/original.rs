@@ -94,60 +94,16 @@ fn edited(result: Result<Vec<u8>>) -> Verdict {
     result.map_or(Refused, bytes)
 }
 
-fn listed(result: Result<Vec<OwnedItem>>) -> Verdict {
-    result.map_or(Refused, |items| bytes(sheet(&items)))
-}
-
-/// What a drop gives, with how many are left in it.
-fn with_left(given: Vec<u8>, left: u64) -> Verdict {
-    let numbers = vec![given.len() as u64, left];
-    Accepted(Written { bytes: given, numbers, ..Written::default() })
-}
-
-fn dropped(result: Result<Option<Vec<u8>>>, none: Verdict, left: impl Fn(&[u8]) -> u64) -> Verdict {
+fn found(result: Result<Option<Vec<u8>>>, none: Verdict) -> Verdict {
     match result {
-        Ok(Some(given)) => {
-            let left = left(&given);
-            with_left(given, left)
-        }
+        Ok(Some(body)) => bytes(body),
         Ok(None) => none,
         Err(_) => Refused,
     }
 }
 
-fn listed_left(result: Result<Vec<OwnedItem>>, left: impl Fn(&[OwnedItem]) -> u64) -> Verdict {
-    result.map_or(Refused, |items| with_left(sheet(&items), left(&items)))
-}
-
-/// How many are left of a name in a body that the original gave, by the original's own reader.
-fn left(item_type: u8, body: &[u8], kind: u8, fields: &[u64]) -> u64 {
-    let refs = backref::inline_refs(item_type, body).expect("the original reads what it gave");
-    let name: Vec<u8> = fields.iter().flat_map(|field| field.to_le_bytes()).collect();
-    let named = refs.iter().filter(|r| r.kind == kind && r.payload.starts_with(&name));
-    named.map(|r| u64::from(own_count(&r.payload[name.len()..]))).sum()
-}
-
-/// The same of the body of an item that stands in a list.
-fn left_in(record: Option<&OwnedItem>, kind: u8, fields: &[u64]) -> u64 {
-    let record = record.expect("the original keeps the record");
-    left(record.key.key_type, &record.data, kind, fields)
-}
-
-/// How many are left of the name of a posting's drop, in the record and as an item; an add leaves 0.
-fn left_by(items: &[OwnedItem], change: u64, extent: u64, [a, b, c]: [u64; 3]) -> u64 {
-    let (kind, fields, offset) = match change {
-        4 => (176, vec![a], a),
-        5 => (178, vec![a, b, c], extent_write::data_ref_hash(a, b, c)),
-        6 => (a as u8, vec![b], b),
-        _ => return 0,
-    };
-    let key = DiskKey { objectid: extent, key_type: kind, offset };
-    let own = items.iter().find(|i| i.key == key).map_or(0, |item| match kind {
-        178 if public::keyed_data_ref_names(&item.data, a, b, c) => own_count(&item.data[24..]),
-        178 => 0,
-        _ => own_count(&item.data),
-    });
-    left_in(public::record_of(items, extent), kind, &fields) + u64::from(own)
+fn listed(result: Result<Vec<OwnedItem>>) -> Verdict {
+    result.map_or(Refused, |items| bytes(sheet(&items)))
 }
 
 /// The references run to the end of the body, so they place themselves from there.
@@ -203,12 +159,10 @@ pub fn verdict(call: &str, args: &[Arg]) -> Verdict {
             numbers(&[u64::from(r.kind), r.offset(), start, r.payload.len() as u64])
         }
         "backref_take_inline_shared" => {
-            let (item_type, body, kind, parent) = (g.u8(), g.bytes(), g.u8(), g.u64());
-            match backref::take_inline_shared(item_type, body, kind, parent) {
-                Ok(Some((given, count))) => {
-                    let left = left(item_type, &given, kind, &[parent]);
-                    let numbers = vec![given.len() as u64, count.into(), left];
-                    Accepted(Written { bytes: given, numbers, ..Written::default() })
+            match backref::take_inline_shared(g.u8(), g.bytes(), g.u8(), g.u64()) {
+                Ok(Some((left, count))) => {
+                    let numbers = vec![left.len() as u64, u64::from(count)];
+                    Accepted(Written { bytes: left, numbers, ..Written::default() })
                 }
                 Ok(None) => Absent,
                 Err(_) => Refused,
@@ -224,14 +178,12 @@ pub fn verdict(call: &str, args: &[Arg]) -> Verdict {
             let keyed = Keyed::Data { tree: g.u64(), objectid: g.u64(), offset: g.u64() };
             edited(backref::add_inline_keyed(item_type, body, keyed, g.u32()))
         }
-        "backref_drop_inline_data_ref" => {
-            let (item_type, body, a, b, c) = (g.u8(), g.bytes(), g.u64(), g.u64(), g.u64());
-            let given = backref::drop_inline_data_ref(item_type, body, a, b, c);
-            dropped(given, Absent, |body| left(item_type, body, 178, &[a, b, c]))
-        }
+        "backref_drop_inline_data_ref" => found(
+            backref::drop_inline_data_ref(g.u8(), g.bytes(), g.u64(), g.u64(), g.u64()),
+            Absent,
+        ),
         "backref_drop_keyed_data_ref" => {
-            let given = backref::drop_keyed_data_ref(g.bytes(), g.u64(), g.u64(), g.u64());
-            dropped(given, Remove, |item| own_count(&item[24..]).into())
+            found(backref::drop_keyed_data_ref(g.bytes(), g.u64(), g.u64(), g.u64()), Remove)
         }
         "backref_lower_total" => edited(backref::lower_total(g.u8(), g.bytes())),
         "backref_reduce_total" => edited(backref::reduce_total(g.u8(), g.bytes(), g.u64())),
@@ -253,9 +205,7 @@ pub fn verdict(call: &str, args: &[Arg]) -> Verdict {
             edited(backref::add_inline_shared(g.u8(), g.bytes(), g.u8(), g.u64(), g.u32()))
         }
         "backref_drop_inline_tree_ref" => {
-            let (item_type, body, tree) = (g.u8(), g.bytes(), g.u64());
-            let given = backref::drop_inline_tree_ref(item_type, body, tree);
-            dropped(given, Absent, |body| left(item_type, body, 176, &[tree]))
+            found(backref::drop_inline_tree_ref(g.u8(), g.bytes(), g.u64()), Absent)
         }
         "backref_with_flags" => edited(backref::with_flags(g.bytes(), g.u64())),
 
@@ -316,19 +266,12 @@ pub fn verdict(call: &str, args: &[Arg]) -> Verdict {
             ))
         }
         "transaction_apply_shared_drop" => {
-            let (items, bytenr, kind, parent) = (g.items(), g.u64(), g.u8(), g.u64());
-            let (count, as_item) = (g.u32(), g.bool());
-            let given = public::apply_shared_drop(items, bytenr, kind, parent, count, as_item);
-            listed_left(given, |items| match as_item {
-                true => 0,
-                false => left_in(public::record_of(items, bytenr), kind, &[parent]),
-            })
+            let items = g.items();
+            listed(public::apply_shared_drop(items, g.u64(), g.u8(), g.u64(), g.u32(), g.bool()))
         }
         "transaction_drop_kept_tree_ref" => {
-            let (items, bytenr, level, tree) = (g.items(), g.u64(), g.u8(), g.u64());
-            let key = DiskKey { objectid: bytenr, key_type: 169, offset: level.into() };
-            let given = public::drop_kept_tree_ref(items, bytenr, tree, level, g.bool());
-            listed_left(given, |items| left_in(items.iter().find(|i| i.key == key), 176, &[tree]))
+            let (items, bytenr, level) = (g.items(), g.u64(), g.u8());
+            listed(public::drop_kept_tree_ref(items, bytenr, g.u64(), level, g.bool()))
         }
 
         "leaf_edit_insert" => {
@@ -391,8 +334,7 @@ pub fn verdict(call: &str, args: &[Arg]) -> Verdict {
             if change == 6 && stands(&items, extent, a as u8, b).is_some_and(|all| all != amount) {
                 return NotAsked;
             }
-            let given = post(size, items, change, extent, [a, b, c], amount);
-            listed_left(given, |items| left_by(items, change, extent, [a, b, c]))
+            listed(post(size, items, change, extent, [a, b, c], amount))
         }
         other => panic!("no call {other}"),
     }
@@ -422,7 +364,7 @@ fn stands(items: &[OwnedItem], extent: u64, kind: u8, parent: u64) -> Option<u32
     items.iter().find(|i| i.key == key).map(|item| own_count(&item.data))
 }
 
-/// The count that stands behind a reference's fields; a block or a shared block has none and counts 1.
+/// The count of a shared reference's item: a shared block's has no data, and counts 1.
 fn own_count(data: &[u8]) -> u32 {
     data.try_into().map_or(1, u32::from_le_bytes)
 }

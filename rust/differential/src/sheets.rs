@@ -106,22 +106,6 @@ fn loose(r: &mut Random) -> Vec<Item> {
     items
 }
 
-/// A list whose records hold names more than once, and now and then one that is an item, too.
-pub fn repeating(r: &mut Random) -> Vec<u8> {
-    let mut items = if r.chance(1, 2) { balanced(r) } else { loose(r) };
-    let mut own = Vec::new();
-    for item in items.iter_mut().filter(|i| [168, 169].contains(&i.key.1)) {
-        item.data = bodies::repeating(r, item.key.1, std::mem::take(&mut item.data));
-        let inline = bodies::references(item.key.1, &item.data);
-        if !inline.is_empty() && r.chance(1, 3) {
-            own.push(item_of(item.key.0, &inline[r.below(inline.len())]));
-        }
-    }
-    items.extend(own);
-    in_order(&mut items);
-    bytes(&items)
-}
-
 /// A balanced list with one thing wrong, or right in another way.
 fn nearly(r: &mut Random) -> Vec<Item> {
     let mut items = balanced(r);

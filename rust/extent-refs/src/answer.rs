@@ -22,17 +22,7 @@ pub fn edited(
     Ok(there.then_some(out))
 }
 
-/// The same for a drop, with how many are left under the name that it touched.
-pub fn dropped(
-    room: usize,
-    call: impl FnOnce(&mut [u8], &mut u64, &mut u64) -> u32,
-) -> Result<Option<(Vec<u8>, u64)>> {
-    let mut left = 0;
-    let given = edited(room, |out, len| call(out, len, &mut left))?;
-    Ok(given.map(|bytes| (bytes, left)))
-}
-
-/// The same as `edited` for a call that is never absent.
+/// The same for a call that is never absent.
 pub fn written(room: usize, call: impl FnOnce(&mut [u8], &mut u64) -> u32) -> Result<Vec<u8>> {
     Ok(edited(room, call)?.unwrap_or_default())
 }

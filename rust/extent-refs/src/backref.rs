@@ -1,10 +1,5 @@
 //! Inline references of an extent item, with the signatures of the driver's `backref`.
-//!
-//! A drop also reports how many are left: the sum of what all references of the name that it touched
-//! still count in the body or item that it gives, 0 once the name is gone. The driver's signatures have
-//! no place for that number, so each drop has a second function, of the same name with `_left` behind
-//! it, that gives both.
-use crate::answer::{accepted, cuts, dropped, number, written};
+use crate::answer::{accepted, cuts, edited, number, written};
 use crate::error::Result;
 use crate::lent;
 
@@ -91,23 +86,11 @@ pub fn take_inline_shared(
     kind: u8,
     parent: u64,
 ) -> Result<Option<(Vec<u8>, u32)>> {
-    let taken = take_inline_shared_left(item_type, body, kind, parent)?;
-    Ok(taken.map(|(body, count, _)| (body, count)))
-}
-
-/// [`take_inline_shared`] with what is left: the body, the count of the reference that was taken out,
-/// and what the others of its name still count, which is 0 unless it stood there more than once.
-pub fn take_inline_shared_left(
-    item_type: u8,
-    body: &[u8],
-    kind: u8,
-    parent: u64,
-) -> Result<Option<(Vec<u8>, u32, u64)>> {
     let mut count = 0;
-    let taken = dropped(body.len(), |out, len, left| {
-        lent::backref_take_inline_shared(item_type, body, kind, parent, out, len, &mut count, left)
+    let taken = edited(body.len(), |out, len| {
+        lent::backref_take_inline_shared(item_type, body, kind, parent, out, len, &mut count)
     })?;
-    Ok(taken.map(|(body, left)| (body, count as u32, left)))
+    Ok(taken.map(|left| (left, count as u32)))
 }
 
 pub fn add_inline_keyed(item_type: u8, body: &[u8], keyed: Keyed, count: u32) -> Result<Vec<u8>> {
@@ -128,20 +111,8 @@ pub fn drop_inline_data_ref(
     objectid: u64,
     offset: u64,
 ) -> Result<Option<Vec<u8>>> {
-    let given = drop_inline_data_ref_left(item_type, body, tree, objectid, offset)?;
-    Ok(given.map(|(body, _)| body))
-}
-
-/// [`drop_inline_data_ref`] with what is left: the body, and what the triple still counts in it.
-pub fn drop_inline_data_ref_left(
-    item_type: u8,
-    body: &[u8],
-    tree: u64,
-    objectid: u64,
-    offset: u64,
-) -> Result<Option<(Vec<u8>, u64)>> {
-    dropped(body.len(), |out, len, left| {
-        lent::backref_drop_inline_data_ref(item_type, body, tree, objectid, offset, out, len, left)
+    edited(body.len(), |out, len| {
+        lent::backref_drop_inline_data_ref(item_type, body, tree, objectid, offset, out, len)
     })
 }
 
@@ -151,19 +122,8 @@ pub fn drop_keyed_data_ref(
     objectid: u64,
     offset: u64,
 ) -> Result<Option<Vec<u8>>> {
-    Ok(drop_keyed_data_ref_left(item, tree, objectid, offset)?.map(|(item, _)| item))
-}
-
-/// [`drop_keyed_data_ref`] with what is left: the item's data, and the count in it. `None` where the
-/// item is to be removed, which leaves 0.
-pub fn drop_keyed_data_ref_left(
-    item: &[u8],
-    tree: u64,
-    objectid: u64,
-    offset: u64,
-) -> Result<Option<(Vec<u8>, u64)>> {
-    dropped(item.len(), |out, len, left| {
-        lent::backref_drop_keyed_data_ref(item, tree, objectid, offset, out, len, left)
+    edited(item.len(), |out, len| {
+        lent::backref_drop_keyed_data_ref(item, tree, objectid, offset, out, len)
     })
 }
 
@@ -231,17 +191,8 @@ pub fn add_inline_shared(
 }
 
 pub fn drop_inline_tree_ref(item_type: u8, body: &[u8], tree: u64) -> Result<Option<Vec<u8>>> {
-    Ok(drop_inline_tree_ref_left(item_type, body, tree)?.map(|(body, _)| body))
-}
-
-/// [`drop_inline_tree_ref`] with what is left: the body, and how often the tree still stands in it.
-pub fn drop_inline_tree_ref_left(
-    item_type: u8,
-    body: &[u8],
-    tree: u64,
-) -> Result<Option<(Vec<u8>, u64)>> {
-    dropped(body.len(), |out, len, left| {
-        lent::backref_drop_inline_tree_ref(item_type, body, tree, out, len, left)
+    edited(body.len(), |out, len| {
+        lent::backref_drop_inline_tree_ref(item_type, body, tree, out, len)
     })
 }
 

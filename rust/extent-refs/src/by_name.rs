@@ -100,8 +100,8 @@ pub fn call(name: &str, args: &mut [Value<'_>]) -> Option<u64> {
         ("backref_inline_ref", [Number(item_type), Bytes(body), Number(number), Lent(kind), Lent(offset), Lent(start), Lent(len)]) => {
             u64::from(lent::backref_inline_ref(*item_type as u8, body, *number, kind, offset, start, len))
         }
-        ("backref_take_inline_shared", [Number(item_type), Bytes(body), Number(kind), Number(parent), Out(out), Lent(len), Lent(count), Lent(left)]) => {
-            u64::from(lent::backref_take_inline_shared(*item_type as u8, body, *kind as u8, *parent, out, len, count, left))
+        ("backref_take_inline_shared", [Number(item_type), Bytes(body), Number(kind), Number(parent), Out(out), Lent(len), Lent(count)]) => {
+            u64::from(lent::backref_take_inline_shared(*item_type as u8, body, *kind as u8, *parent, out, len, count))
         }
         ("backref_add_inline_keyed_block", [Number(item_type), Bytes(body), Number(tree), Number(count), Out(out), Lent(len)]) => {
             u64::from(lent::backref_add_inline_keyed_block(*item_type as u8, body, *tree, *count as u32, out, len))
@@ -109,11 +109,11 @@ pub fn call(name: &str, args: &mut [Value<'_>]) -> Option<u64> {
         ("backref_add_inline_keyed_data", [Number(item_type), Bytes(body), Number(tree), Number(objectid), Number(offset), Number(count), Out(out), Lent(len)]) => {
             u64::from(lent::backref_add_inline_keyed_data(*item_type as u8, body, *tree, *objectid, *offset, *count as u32, out, len))
         }
-        ("backref_drop_inline_data_ref", [Number(item_type), Bytes(body), Number(tree), Number(objectid), Number(offset), Out(out), Lent(len), Lent(left)]) => {
-            u64::from(lent::backref_drop_inline_data_ref(*item_type as u8, body, *tree, *objectid, *offset, out, len, left))
+        ("backref_drop_inline_data_ref", [Number(item_type), Bytes(body), Number(tree), Number(objectid), Number(offset), Out(out), Lent(len)]) => {
+            u64::from(lent::backref_drop_inline_data_ref(*item_type as u8, body, *tree, *objectid, *offset, out, len))
         }
-        ("backref_drop_keyed_data_ref", [Bytes(item), Number(tree), Number(objectid), Number(offset), Out(out), Lent(len), Lent(left)]) => {
-            u64::from(lent::backref_drop_keyed_data_ref(item, *tree, *objectid, *offset, out, len, left))
+        ("backref_drop_keyed_data_ref", [Bytes(item), Number(tree), Number(objectid), Number(offset), Out(out), Lent(len)]) => {
+            u64::from(lent::backref_drop_keyed_data_ref(item, *tree, *objectid, *offset, out, len))
         }
         ("backref_lower_total", [Number(item_type), Bytes(body), Out(out), Lent(len)]) => {
             u64::from(lent::backref_lower_total(*item_type as u8, body, out, len))
@@ -139,8 +139,8 @@ pub fn call(name: &str, args: &mut [Value<'_>]) -> Option<u64> {
         ("backref_add_inline_shared", [Number(item_type), Bytes(body), Number(kind), Number(parent), Number(count), Out(out), Lent(len)]) => {
             u64::from(lent::backref_add_inline_shared(*item_type as u8, body, *kind as u8, *parent, *count as u32, out, len))
         }
-        ("backref_drop_inline_tree_ref", [Number(item_type), Bytes(body), Number(tree), Out(out), Lent(len), Lent(left)]) => {
-            u64::from(lent::backref_drop_inline_tree_ref(*item_type as u8, body, *tree, out, len, left))
+        ("backref_drop_inline_tree_ref", [Number(item_type), Bytes(body), Number(tree), Out(out), Lent(len)]) => {
+            u64::from(lent::backref_drop_inline_tree_ref(*item_type as u8, body, *tree, out, len))
         }
         ("backref_with_flags", [Bytes(body), Number(set), Out(out), Lent(len)]) => {
             u64::from(lent::backref_with_flags(body, *set, out, len))
@@ -175,11 +175,11 @@ pub fn call(name: &str, args: &mut [Value<'_>]) -> Option<u64> {
         ("transaction_apply_shared_add", [Number(nodesize), Bytes(sheet), Number(bytenr), Number(kind), Number(parent), Number(count), Number(as_item), Out(out), Lent(len)]) => {
             u64::from(lent::transaction_apply_shared_add(*nodesize as u32, sheet, *bytenr, *kind as u8, *parent, *count as u32, *as_item != 0, out, len))
         }
-        ("transaction_apply_shared_drop", [Bytes(sheet), Number(bytenr), Number(kind), Number(parent), Number(count), Number(as_item), Out(out), Lent(len), Lent(left)]) => {
-            u64::from(lent::transaction_apply_shared_drop(sheet, *bytenr, *kind as u8, *parent, *count as u32, *as_item != 0, out, len, left))
+        ("transaction_apply_shared_drop", [Bytes(sheet), Number(bytenr), Number(kind), Number(parent), Number(count), Number(as_item), Out(out), Lent(len)]) => {
+            u64::from(lent::transaction_apply_shared_drop(sheet, *bytenr, *kind as u8, *parent, *count as u32, *as_item != 0, out, len))
         }
-        ("transaction_drop_kept_tree_ref", [Bytes(sheet), Number(bytenr), Number(level), Number(tree), Number(own), Out(out), Lent(len), Lent(left)]) => {
-            u64::from(lent::transaction_drop_kept_tree_ref(sheet, *bytenr, *level as u8, *tree, *own != 0, out, len, left))
+        ("transaction_drop_kept_tree_ref", [Bytes(sheet), Number(bytenr), Number(level), Number(tree), Number(own), Out(out), Lent(len)]) => {
+            u64::from(lent::transaction_drop_kept_tree_ref(sheet, *bytenr, *level as u8, *tree, *own != 0, out, len))
         }
         ("leaf_edit_insert", [Number(nodesize), Bytes(sheet), Number(objectid), Number(kind), Number(offset), Bytes(data), Out(out), Lent(len)]) => {
             u64::from(lent::leaf_edit_insert(*nodesize as u32, sheet, *objectid, *kind as u8, *offset, data, out, len))
@@ -211,8 +211,8 @@ pub fn call(name: &str, args: &mut [Value<'_>]) -> Option<u64> {
         ("leaf_image_write", [Number(nodesize), Bytes(header), Bytes(sheet), Out(out), Lent(len)]) => {
             u64::from(lent::leaf_image_write(*nodesize as u32, header, sheet, out, len))
         }
-        ("ledger_post", [Number(nodesize), Bytes(sheet), Number(change), Number(extent), Number(a), Number(b), Number(c), Number(amount), Out(out), Lent(len), Lent(left)]) => {
-            u64::from(lent::ledger_post(*nodesize as u32, sheet, *change as u8, *extent, *a, *b, *c, *amount as u32, out, len, left))
+        ("ledger_post", [Number(nodesize), Bytes(sheet), Number(change), Number(extent), Number(a), Number(b), Number(c), Number(amount), Out(out), Lent(len)]) => {
+            u64::from(lent::ledger_post(*nodesize as u32, sheet, *change as u8, *extent, *a, *b, *c, *amount as u32, out, len))
         }
         _ => return None,
     })

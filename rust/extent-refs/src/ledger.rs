@@ -1,5 +1,5 @@
 //! Posting a change to a balanced item list.
-use crate::answer::dropped;
+use crate::answer::written;
 use crate::error::Result;
 use crate::leaf_edit::OwnedItem;
 use crate::lent;
@@ -70,22 +70,10 @@ impl Change {
 
 /// Posts a change to a sheet's bytes.
 pub fn post_sheet(nodesize: u32, sheet: &[u8], extent: u64, change: Change) -> Result<Vec<u8>> {
-    Ok(post_sheet_left(nodesize, sheet, extent, change)?.0)
-}
-
-/// [`post_sheet`] with what is left: the sheet, and what the change's name counts in it after a drop; 0
-/// after an add.
-pub fn post_sheet_left(
-    nodesize: u32,
-    sheet: &[u8],
-    extent: u64,
-    change: Change,
-) -> Result<(Vec<u8>, u64)> {
     let (which, [a, b, c], amount) = change.numbers();
-    let given = dropped(room(sheet, 29), |out, len, left| {
-        lent::ledger_post(nodesize, sheet, which, extent, a, b, c, amount, out, len, left)
-    })?;
-    Ok(given.unwrap_or_default())
+    written(room(sheet, 29), |out, len| {
+        lent::ledger_post(nodesize, sheet, which, extent, a, b, c, amount, out, len)
+    })
 }
 
 pub fn post(
@@ -94,16 +82,5 @@ pub fn post(
     extent: u64,
     change: Change,
 ) -> Result<Vec<OwnedItem>> {
-    Ok(post_left(nodesize, items, extent, change)?.0)
-}
-
-/// [`post`] with what is left, as [`post_sheet_left`] has it.
-pub fn post_left(
-    nodesize: u32,
-    items: &[OwnedItem],
-    extent: u64,
-    change: Change,
-) -> Result<(Vec<OwnedItem>, u64)> {
-    let (sheet, left) = post_sheet_left(nodesize, &from_items(items), extent, change)?;
-    Ok((to_items(&sheet), left))
+    Ok(to_items(&post_sheet(nodesize, &from_items(items), extent, change)?))
 }

@@ -119,7 +119,6 @@ pub fn backref_take_inline_shared(
     out: &mut [u8],
     len: &mut u64,
     count: &mut u64,
-    left: &mut u64,
 ) -> u32 {
     unsafe {
         raw::backref_take_inline_shared(
@@ -132,7 +131,6 @@ pub fn backref_take_inline_shared(
             out.len(),
             len,
             count,
-            left,
         )
     }
 }
@@ -193,7 +191,6 @@ pub fn backref_drop_inline_data_ref(
     offset: u64,
     out: &mut [u8],
     len: &mut u64,
-    left: &mut u64,
 ) -> u32 {
     unsafe {
         raw::backref_drop_inline_data_ref(
@@ -206,7 +203,6 @@ pub fn backref_drop_inline_data_ref(
             out.as_mut_ptr(),
             out.len(),
             len,
-            left,
         )
     }
 }
@@ -218,7 +214,6 @@ pub fn backref_drop_keyed_data_ref(
     offset: u64,
     out: &mut [u8],
     len: &mut u64,
-    left: &mut u64,
 ) -> u32 {
     unsafe {
         raw::backref_drop_keyed_data_ref(
@@ -230,7 +225,6 @@ pub fn backref_drop_keyed_data_ref(
             out.as_mut_ptr(),
             out.len(),
             len,
-            left,
         )
     }
 }
@@ -404,7 +398,6 @@ pub fn backref_drop_inline_tree_ref(
     tree: u64,
     out: &mut [u8],
     len: &mut u64,
-    left: &mut u64,
 ) -> u32 {
     unsafe {
         raw::backref_drop_inline_tree_ref(
@@ -415,7 +408,6 @@ pub fn backref_drop_inline_tree_ref(
             out.as_mut_ptr(),
             out.len(),
             len,
-            left,
         )
     }
 }
@@ -585,7 +577,6 @@ pub fn transaction_apply_shared_drop(
     as_item: bool,
     out: &mut [u8],
     len: &mut u64,
-    left: &mut u64,
 ) -> u32 {
     unsafe {
         raw::transaction_apply_shared_drop(
@@ -599,7 +590,6 @@ pub fn transaction_apply_shared_drop(
             out.as_mut_ptr(),
             out.len(),
             len,
-            left,
         )
     }
 }
@@ -612,7 +602,6 @@ pub fn transaction_drop_kept_tree_ref(
     own: bool,
     out: &mut [u8],
     len: &mut u64,
-    left: &mut u64,
 ) -> u32 {
     unsafe {
         raw::transaction_drop_kept_tree_ref(
@@ -625,7 +614,6 @@ pub fn transaction_drop_kept_tree_ref(
             out.as_mut_ptr(),
             out.len(),
             len,
-            left,
         )
     }
 }
@@ -787,7 +775,6 @@ pub fn ledger_post(
     amount: u32,
     out: &mut [u8],
     len: &mut u64,
-    left: &mut u64,
 ) -> u32 {
     unsafe {
         raw::ledger_post(
@@ -803,7 +790,6 @@ pub fn ledger_post(
             out.as_mut_ptr(),
             out.len(),
             len,
-            left,
         )
     }
 }

@@ -59,7 +59,6 @@ extern "C" {
         out_len: usize,
         len: *mut u64,
         count: *mut u64,
-        left: *mut u64,
     ) -> u32;
     pub fn backref_add_inline_keyed_block(
         item_type: u8,
@@ -93,7 +92,6 @@ extern "C" {
         out: *mut u8,
         out_len: usize,
         len: *mut u64,
-        left: *mut u64,
     ) -> u32;
     pub fn backref_drop_keyed_data_ref(
         item: *const u8,
@@ -104,7 +102,6 @@ extern "C" {
         out: *mut u8,
         out_len: usize,
         len: *mut u64,
-        left: *mut u64,
     ) -> u32;
     pub fn backref_lower_total(
         item_type: u8,
@@ -189,7 +186,6 @@ extern "C" {
         out: *mut u8,
         out_len: usize,
         len: *mut u64,
-        left: *mut u64,
     ) -> u32;
     pub fn backref_with_flags(
         body: *const u8,
@@ -289,7 +285,6 @@ extern "C" {
         out: *mut u8,
         out_len: usize,
         len: *mut u64,
-        left: *mut u64,
     ) -> u32;
     pub fn transaction_drop_kept_tree_ref(
         sheet: *const u8,
@@ -301,7 +296,6 @@ extern "C" {
         out: *mut u8,
         out_len: usize,
         len: *mut u64,
-        left: *mut u64,
     ) -> u32;
     pub fn leaf_edit_insert(
         nodesize: u32,
@@ -400,6 +394,5 @@ extern "C" {
         out: *mut u8,
         out_len: usize,
         len: *mut u64,
-        left: *mut u64,
     ) -> u32;
 }

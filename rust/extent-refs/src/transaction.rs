@@ -1,6 +1,5 @@
-//! The functions of the driver's `transaction` that keep an extent's record in step. The two drops have
-//! a second function each, with `_left` behind its name, as those of [`crate::backref`] have.
-use crate::answer::{accepted, dropped, number, written};
+//! The functions of the driver's `transaction` that keep an extent's record in step.
+use crate::answer::{accepted, number, written};
 use crate::backref::Keyed;
 use crate::chunk::DiskKey;
 use crate::error::Result;
@@ -152,18 +151,9 @@ pub fn apply_shared_add(
 }
 
 pub fn apply_shared_drop(items: Vec<OwnedItem>, drop: &SharedDrop) -> Result<Vec<OwnedItem>> {
-    Ok(apply_shared_drop_left(items, drop)?.0)
-}
-
-/// [`apply_shared_drop`] with what is left: the items, and what the shared reference's name still counts
-/// in the record; 0 with `item_leaf`. The count that is dropped plays no part in it.
-pub fn apply_shared_drop_left(
-    items: Vec<OwnedItem>,
-    drop: &SharedDrop,
-) -> Result<(Vec<OwnedItem>, u64)> {
     let sheet = from_items(&items);
     let as_item = drop.item_leaf.is_some();
-    let given = dropped(room(&sheet, 0), |out, len, left| {
+    let out = written(room(&sheet, 0), |out, len| {
         lent::transaction_apply_shared_drop(
             &sheet,
             drop.bytenr,
@@ -173,11 +163,9 @@ pub fn apply_shared_drop_left(
             as_item,
             out,
             len,
-            left,
         )
     })?;
-    let (sheet, left) = given.unwrap_or_default();
-    Ok((to_items(&sheet), left))
+    Ok(to_items(&out))
 }
 
 pub fn drop_kept_tree_ref(
@@ -185,18 +173,8 @@ pub fn drop_kept_tree_ref(
     rewrite: &Rewrite,
     own: bool,
 ) -> Result<Vec<OwnedItem>> {
-    Ok(drop_kept_tree_ref_left(items, rewrite, own)?.0)
-}
-
-/// [`drop_kept_tree_ref`] with what is left: the items, and how often the tree still stands in the
-/// record. An item (bytenr, 176, tree) is another place and does not count.
-pub fn drop_kept_tree_ref_left(
-    items: Vec<OwnedItem>,
-    rewrite: &Rewrite,
-    own: bool,
-) -> Result<(Vec<OwnedItem>, u64)> {
     let sheet = from_items(&items);
-    let given = dropped(room(&sheet, 0), |out, len, left| {
+    let out = written(room(&sheet, 0), |out, len| {
         lent::transaction_drop_kept_tree_ref(
             &sheet,
             rewrite.old,
@@ -205,11 +183,9 @@ pub fn drop_kept_tree_ref_left(
             own,
             out,
             len,
-            left,
         )
     })?;
-    let (sheet, left) = given.unwrap_or_default();
-    Ok((to_items(&sheet), left))
+    Ok(to_items(&out))
 }
 
 pub fn keyed_data_ref_names(body: &[u8], tree: u64, ino: u64, offset: u64) -> bool {

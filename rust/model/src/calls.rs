@@ -3,7 +3,7 @@ use crate::asked::{ask, Asked, Stop};
 use crate::ledger::Change;
 use crate::sheet::Item;
 use crate::table::CALLS;
-use crate::{apply, body, hash, leaf, ledger, left, sheet};
+use crate::{apply, body, hash, leaf, ledger, sheet};
 
 /// One C argument. Of a lent one it holds the contents before the call, or after it.
 #[derive(Debug, Clone, PartialEq, Eq)]
@@ -100,16 +100,6 @@ impl<'a> Given<'a> {
 
 /// The model's answer, before the lent output's length is looked at.
 pub fn answer(call: &str, args: &[Arg]) -> Asked<Written> {
-    let mut written = given(call, args)?;
-    // A drop's last number.
-    if let Some(touched) = left::touched(call, args) {
-        written.numbers.push(touched.left(&written.bytes));
-    }
-    Ok(written)
-}
-
-/// What a call gives, without the number that a drop reports beside it.
-fn given(call: &str, args: &[Arg]) -> Asked<Written> {
     let mut g = Given(args.iter());
     Ok(match call {
         "crc32c_table_text" => bytes(hash::table_text(g.u32()).into_bytes()),
@@ -127,8 +117,8 @@ fn given(call: &str, args: &[Arg]) -> Asked<Written> {
         "backref_inline_refs" => cuts(body::inline_refs(g.u8(), g.bytes())?),
         "backref_inline_ref" => numbers(&body::inline_ref(g.u8(), g.bytes(), g.u64())?),
         "backref_take_inline_shared" => {
-            let (rest, count) = body::take_inline_shared(g.u8(), g.bytes(), g.u8(), g.u64())?;
-            let mut written = bytes(rest);
+            let (left, count) = body::take_inline_shared(g.u8(), g.bytes(), g.u8(), g.u64())?;
+            let mut written = bytes(left);
             written.numbers.push(count);
             written
         }

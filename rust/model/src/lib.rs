@@ -8,7 +8,6 @@ pub mod calls;
 pub mod hash;
 pub mod leaf;
 pub mod ledger;
-pub mod left;
 pub mod lister;
 pub mod sheet;
 #[rustfmt::skip]

@@ -73,7 +73,7 @@ pub const CALLS: &[Call] = &[
     },
     Call {
         name: "backref_take_inline_shared",
-        parameters: &[("item_type", "u8"), ("body", "bytes"), ("kind", "u8"), ("parent", "u64"), ("out", "out"), ("len", "lent"), ("count", "lent"), ("left", "lent")],
+        parameters: &[("item_type", "u8"), ("body", "bytes"), ("kind", "u8"), ("parent", "u64"), ("out", "out"), ("len", "lent"), ("count", "lent")],
         result: "code",
         asks: &[("", "3 6 7 8 absent 21")],
     },
@@ -91,13 +91,13 @@ pub const CALLS: &[Call] = &[
     },
     Call {
         name: "backref_drop_inline_data_ref",
-        parameters: &[("item_type", "u8"), ("body", "bytes"), ("tree", "u64"), ("objectid", "u64"), ("offset", "u64"), ("out", "out"), ("len", "lent"), ("left", "lent")],
+        parameters: &[("item_type", "u8"), ("body", "bytes"), ("tree", "u64"), ("objectid", "u64"), ("offset", "u64"), ("out", "out"), ("len", "lent")],
         result: "code",
         asks: &[("", "3 6 7 8 absent 13 21")],
     },
     Call {
         name: "backref_drop_keyed_data_ref",
-        parameters: &[("item", "bytes"), ("tree", "u64"), ("objectid", "u64"), ("offset", "u64"), ("out", "out"), ("len", "lent"), ("left", "lent")],
+        parameters: &[("item", "bytes"), ("tree", "u64"), ("objectid", "u64"), ("offset", "u64"), ("out", "out"), ("len", "lent")],
         result: "code",
         asks: &[("", "3 15 16 remove 21")],
     },
@@ -151,7 +151,7 @@ pub const CALLS: &[Call] = &[
     },
     Call {
         name: "backref_drop_inline_tree_ref",
-        parameters: &[("item_type", "u8"), ("body", "bytes"), ("tree", "u64"), ("out", "out"), ("len", "lent"), ("left", "lent")],
+        parameters: &[("item_type", "u8"), ("body", "bytes"), ("tree", "u64"), ("out", "out"), ("len", "lent")],
         result: "code",
         asks: &[("", "3 6 7 8 absent 13 21")],
     },
@@ -223,13 +223,13 @@ pub const CALLS: &[Call] = &[
     },
     Call {
         name: "transaction_apply_shared_drop",
-        parameters: &[("sheet", "bytes"), ("bytenr", "u64"), ("kind", "u8"), ("parent", "u64"), ("count", "u32"), ("as_item", "bool"), ("out", "out"), ("len", "lent"), ("left", "lent")],
+        parameters: &[("sheet", "bytes"), ("bytenr", "u64"), ("kind", "u8"), ("parent", "u64"), ("count", "u32"), ("as_item", "bool"), ("out", "out"), ("len", "lent")],
         result: "code",
         asks: &[("as_item=1", "1 2 3 5 6h 14 21"), ("", "1 2 3 5 6 7 8 5n 14 21")],
     },
     Call {
         name: "transaction_drop_kept_tree_ref",
-        parameters: &[("sheet", "bytes"), ("bytenr", "u64"), ("level", "u8"), ("tree", "u64"), ("own", "bool"), ("out", "out"), ("len", "lent"), ("left", "lent")],
+        parameters: &[("sheet", "bytes"), ("bytenr", "u64"), ("level", "u8"), ("tree", "u64"), ("own", "bool"), ("out", "out"), ("len", "lent")],
         result: "code",
         asks: &[("", "1 2 5 6 7 8 5n 13 21")],
     },
@@ -295,7 +295,7 @@ pub const CALLS: &[Call] = &[
     },
     Call {
         name: "ledger_post",
-        parameters: &[("nodesize", "u32"), ("sheet", "bytes"), ("change", "u8"), ("extent", "u64"), ("a", "u64"), ("b", "u64"), ("c", "u64"), ("amount", "u32"), ("out", "out"), ("len", "lent"), ("left", "lent")],
+        parameters: &[("nodesize", "u32"), ("sheet", "bytes"), ("change", "u8"), ("extent", "u64"), ("a", "u64"), ("b", "u64"), ("c", "u64"), ("amount", "u32"), ("out", "out"), ("len", "lent")],
         result: "code",
         asks: &[("change=1", "1 2 3 4 5 9 (12) 17* 21+"), ("change=2", "1 2 3 4 5 9 10 11 (12) 17* 21+"), ("change=3", "1 2 3 4 5 9 10 11 (12) 17 21+"), ("change=4", "1 2 3 4 5 5n 13 21"), ("change=5", "1 2 3 4 5 5n 13 15 21"), ("change=6", "1 2 3 4 5 5n 10 22 21"), ("", "1 2 3!")],
     },

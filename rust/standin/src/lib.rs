@@ -10,7 +10,6 @@ use std::slice::{from_raw_parts, from_raw_parts_mut};
 use std::sync::OnceLock;
 
 mod images;
-mod lefts;
 mod texts;
 mod values;
 
@@ -37,10 +36,6 @@ fn coded(call: &str, args: &[Arg]) -> Outcome {
         "drops all" if call == "ledger_post" => outcome(call, &of_all(args)),
         _ => wrong_bytes(call, args).unwrap_or_else(|| outcome(call, args)),
     };
-    if let Some(left) = lefts::wrong(fault(), call, args, &said) {
-        said.args.pop();
-        said.args.push(Arg::Lent(left));
-    }
     let length = said.args.iter().find_map(|a| if let Arg::Lent(n) = a { Some(*n) } else { None });
     let length = length.unwrap_or(0) as usize;
     match fault() {

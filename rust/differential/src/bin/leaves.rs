@@ -1,20 +1,18 @@
 //! Real leaves: each image is read by the archive, also damaged, and written back, every record's
-//! references are held to dump-tree's text and dropped, and every extent whose own items balance is
-//! posted to. Each drop is held to how many it leaves.
+//! references are held to dump-tree's text, and every extent whose own items balance is posted to.
 //! The last line is 'N passed, M failed'.
 //!
 //! The leaves are in ../shared/leaves beside the repository, or where EXTENT_REFS_LEAVES says.
 use differential::archive::{self, Archive};
 use differential::dump_tree::{self, Leaf};
-use differential::generate::{ample, lent, posting, with_outputs};
+use differential::generate::{ample, lent, posting};
 use differential::images::{of_read, of_write, READ, WRITE};
 use differential::leaf_draw::{cleared, damaged, gap};
-use differential::left::{self, BOOKS, DATA as DATA_REF, KEPT, KEYED, RECORD, SHARED, TREE};
 use differential::random::Random;
 use differential::verdict::{agreement, inside, of_original, written};
 use differential::verdict::{Agreement, Verdict, ORIGINAL_HERE};
 use model::asked::le64;
-use model::body::{Body, Reference, BLOCK, DATA, OWNER, SHARED_BLOCK, SHARED_DATA};
+use model::body::{Body, BLOCK, DATA, OWNER, SHARED_BLOCK, SHARED_DATA};
 use model::calls::{outcome, Arg, Outcome};
 use model::hash::data_ref_hash;
 use model::ledger::{balanced, count};
@@ -72,9 +70,6 @@ struct Run {
     accepted: usize,
     restored: usize,
     in_parts: usize,
-    /// Drops that left nothing of their name, and drops that left something.
-    last: usize,
-    left: usize,
     archived: usize,
 }
 
@@ -100,12 +95,6 @@ impl Run {
             "{} shared references added and dropped again, {} of them in two parts: the old bytes each time",
             self.restored, self.in_parts
         );
-        println!(
-            "{} drops: {} left nothing of their name, {} something; each as many as its bytes hold",
-            self.last + self.left,
-            self.last,
-            self.left
-        );
         println!("{} calls put to the archive too", self.archived);
     }
 
@@ -126,8 +115,6 @@ impl Run {
             (self.accepted, "accepted posting"),
             (self.restored, "shared reference added and dropped again"),
             (self.in_parts, "shared reference dropped in two parts"),
-            (self.last, "drop that left nothing of its name"),
-            (self.left, "drop that left something of its name"),
             (self.archived, "call put to the archive"),
         ];
         let none = counts.iter().filter(|(count, _)| *count == 0);
@@ -144,7 +131,6 @@ impl Run {
         extents.dedup();
         for extent in extents {
             let own: Vec<Item> = items.iter().filter(|i| i.key.0 == extent).cloned().collect();
-            self.drops(&own)?;
             self.extent(extent, &own, nodesize)?;
         }
         Ok(())
@@ -288,46 +274,6 @@ impl Run {
         }
     }
 
-    /// Every reference of the extent dropped by the calls on bodies, items and records.
-    fn drops(&mut self, own: &[Item]) -> Fault<()> {
-        let sheet = bytes(own);
-        for item in own {
-            let body = match item.key.1 {
-                168 | 169 => Body::read(item.key.1, &item.data).map_err(|s| format!("{s:?}"))?,
-                DATA => {
-                    let data = Arg::Bytes(item.data.clone());
-                    let triple = (0..3).map(|i| Arg::Number(le64(&item.data[8 * i..])));
-                    self.drop(KEYED, [data].into_iter().chain(triple).collect())?;
-                    continue;
-                }
-                _ => continue,
-            };
-            for reference in &body.references {
-                for (call, inputs) in of_reference(&sheet, item, reference) {
-                    self.drop(call, inputs)?;
-                }
-            }
-        }
-        Ok(())
-    }
-
-    fn drop(&mut self, call: &'static str, inputs: Vec<Arg>) -> Fault<()> {
-        let args = with_outputs(call, inputs);
-        let said = self.ask(call, &args)?;
-        self.leaves_as_many(call, &args, &said)
-    }
-
-    /// What an accepted drop leaves is what its bytes hold, by the model, the original and the crate.
-    fn leaves_as_many(&mut self, call: &'static str, args: &[Arg], said: &Outcome) -> Fault<()> {
-        let left = left::held(call, args, said)?;
-        if said.code == 0 && left > 0 {
-            self.left += 1;
-        } else if said.code == 0 {
-            self.last += 1;
-        }
-        Ok(())
-    }
-
     /// Every reference of the extent dropped and added again, new ones added, and shared ones added
     /// and dropped again.
     fn extent(&mut self, extent: u64, own: &[Item], nodesize: u64) -> Fault<()> {
@@ -433,11 +379,8 @@ impl Run {
     ) -> Fault<Outcome> {
         self.posted += 1;
         let args = posting(nodesize, &bytes(items), [change, extent, a, b, c, amount]);
-        let said = self.ask(BOOKS, &args)?;
+        let said = self.ask("ledger_post", &args)?;
         self.accepted += usize::from(said.code == 0);
-        if change > 3 {
-            self.leaves_as_many(BOOKS, &args, &said)?;
-        }
         Ok(said)
     }
 
@@ -475,30 +418,6 @@ fn named(kind: u8, f: &[u64]) -> Option<[u64; 4]> {
     }
 }
 
-/// The drops of one reference of a record.
-fn of_reference(sheet: &[u8], record: &Item, r: &Reference) -> Vec<(&'static str, Vec<Arg>)> {
-    let (extent, item_type, offset) = record.key;
-    let with = |mut args: Vec<Arg>, numbers: &[u64]| {
-        args.extend(numbers.iter().map(|n| Arg::Number(*n)));
-        args
-    };
-    let body = || vec![Arg::Number(item_type.into()), Arg::Bytes(record.data.clone())];
-    let list = || vec![Arg::Bytes(sheet.to_vec())];
-    let (kind, field) = (r.kind.into(), r.fields[0]);
-    match r.kind {
-        BLOCK if item_type == 169 => {
-            vec![(TREE, with(body(), &[field])), (KEPT, with(list(), &[extent, offset, field, 0]))]
-        }
-        BLOCK => vec![(TREE, with(body(), &[field]))],
-        DATA => vec![(DATA_REF, with(body(), &r.fields))],
-        OWNER => vec![],
-        _ => vec![
-            (SHARED, with(body(), &[kind, field])),
-            (RECORD, with(list(), &[extent, kind, field, r.weight(), 0])),
-        ],
-    }
-}
-
 fn kind_name(kind: u8) -> &'static str {
     match kind {
         168 => "EXTENT_ITEM",
@@ -514,7 +433,7 @@ fn kind_name(kind: u8) -> &'static str {
 
 #[test]
 fn an_empty_folder_fails() {
-    assert_eq!(Run::default().nothing().len(), 16);
+    assert_eq!(Run::default().nothing().len(), 14);
     let whole = Run {
         leaves: 1,
         same: 1,
@@ -529,8 +448,6 @@ fn an_empty_folder_fails() {
         accepted: 1,
         restored: 1,
         in_parts: 1,
-        last: 1,
-        left: 1,
         archived: 1,
         ..Run::default()
     };

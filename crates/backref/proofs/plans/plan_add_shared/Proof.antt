@@ -11,10 +11,10 @@ shared c κs = sym c.before.shared-kind.ensures ∙ c.if1.true
 returns : tie.Need-returns
 returns c =
     let wanted = c.before in
-    shared-is _ _ _ wanted.shared-name.result (sym wanted.before.before.shared-kind.ensures ∙ wanted.before.if1.true) wanted.shared-name.ensures _ c.plan-add.ensures
+    shared-is _ _ _ _ wanted.shared-name.result (sym wanted.before.before.shared-kind.ensures ∙ wanted.before.if1.true) wanted.shared-name.ensures _ c.plan-add.ensures
 
 returns-2 : tie.Need-returns-2
-returns-2 c = shared-other _ _ _ (sym c.before.before.shared-kind.ensures ∙ c.before.if1.false) _ c.refuse.ensures.0
+returns-2 c = shared-other _ _ _ _ (sym c.before.before.shared-kind.ensures ∙ c.before.if1.false) c.refuse.ensures.0 _
 
 pub plan-add-shared-spec : {M : Type 1} → statement M
 plan-add-shared-spec =

@@ -1,24 +1,22 @@
 use mathlib.Core.Path.{sym, ◌∙◌}
-use Rattle.backref.proofs.Outcomes.{no-edit}
 use Rattle.backref.proofs.Named.{take-is, take-other}
 use borrow.Author.Rules.{rules}
 use Rattle.backref.proofs.plans.plan_take_shared.Statement.{statement}
 use Rattle.backref.proofs.plans.plan_take_shared.Tie as tie
 
-shared-name-requires : tie.Need-shared-name-requires
-shared-name-requires c κs = sym c.before.shared-kind.ensures ∙ c.if1.true
+-- the kind is shared
+shared : tie.Need-shared-name-requires
+shared c κs = sym c.before.shared-kind.ensures ∙ c.if1.true
 
 returns : tie.Need-returns
 returns c =
     let wanted = c.before in
-    take-is _ _ _ _ (sym wanted.before.before.shared-kind.ensures ∙ wanted.before.if1.true) wanted.shared-name.ensures c.plan-take.ensures
+    take-is _ _ _ _ _ (sym wanted.before.before.shared-kind.ensures ∙ wanted.before.if1.true) wanted.shared-name.ensures c.plan-take.ensures
 
 returns-2 : tie.Need-returns-2
-returns-2 c =
-    let refuse = c.before in
-    take-other _ _ _ (sym refuse.before.before.shared-kind.ensures ∙ refuse.before.if1.false) (no-edit c.no_drop.ensures refuse.refuse.ensures.0)
+returns-2 c = take-other _ _ _ _ (sym c.before.before.shared-kind.ensures ∙ c.before.if1.false) c.refuse.ensures.0
 
 pub plan-take-shared-spec : {M : Type 1} → statement M
 plan-take-shared-spec =
     tie.close
-    (tie.spec (λ c κs. search rules) shared-name-requires (λ c κs. search rules) returns (λ c κs. search rules) (λ c κs. search rules) returns-2)
+    (tie.spec (λ c κs. search rules) shared (λ c κs. search rules) returns (λ c κs. search rules) returns-2)

@@ -10,33 +10,29 @@ returns : tie.Need-returns
 unfolding taken_from
 returns c =
     let write = c.before.before.before.before.before in
-    let a = write.before.before.before.before.before.args in
-    wrote-taken a.drop a.body.now (length a.out.now) _ _ _ _ write.write-plan.ensures
-    (sym (ap (taken_from a.drop.plan.count a.drop.left) c.before.size.given.1))
+    let a = write.before.before.before.before.args in
+    wrote-taken a.plan a.body.now (length a.out.now) _ _ _ _ write.write-plan.ensures (sym (ap (taken_from a.plan.count) c.before.size.given.1))
 
 returns-2 : tie.Need-returns-2
 unfolding taken_from
 returns-2 c =
     let write = c.before.before.before.before in
-    let a = write.before.before.before.before.before.args in
-    wrote-taken a.drop a.body.now (length a.out.now) _ _ _ _ write.write-plan.ensures
-    (sym (ap (taken_from a.drop.plan.count a.drop.left) c.enum_told.given.1))
+    let a = write.before.before.before.before.args in
+    wrote-taken a.plan a.body.now (length a.out.now) _ _ _ _ write.write-plan.ensures (sym (ap (taken_from a.plan.count) c.enum_told.given.1))
 
 returns-3 : tie.Need-returns-3
 unfolding taken_from
 returns-3 c =
     let write = c.before.before.before.before in
-    let a = write.before.before.before.before.before.args in
-    wrote-taken a.drop a.body.now (length a.out.now) _ _ _ _ write.write-plan.ensures
-    (sym (ap (taken_from a.drop.plan.count a.drop.left) c.enum-told2.given.1))
+    let a = write.before.before.before.before.args in
+    wrote-taken a.plan a.body.now (length a.out.now) _ _ _ _ write.write-plan.ensures (sym (ap (taken_from a.plan.count) c.enum-told2.given.1))
 
 returns-4 : tie.Need-returns-4
 unfolding taken_from
 returns-4 c =
     let write = c.before.before.before.before.before in
-    let a = write.before.before.before.before.before.args in
-    wrote-taken a.drop a.body.now (length a.out.now) _ _ _ _ write.write-plan.ensures
-    (sym (ap (taken_from a.drop.plan.count a.drop.left) c.before.refusal.given.1))
+    let a = write.before.before.before.before.args in
+    wrote-taken a.plan a.body.now (length a.out.now) _ _ _ _ write.write-plan.ensures (sym (ap (taken_from a.plan.count) c.before.refusal.given.1))
 
 pub write-taken-spec : {M : Type 1} → statement M
 write-taken-spec =

@@ -10,7 +10,7 @@ use Rattle.transaction.proofs.drop_kept.drop_owned.Statement.{statement}
 use Rattle.transaction.proofs.drop_kept.drop_owned.Tie as tie
 
 drop-ref-requires : tie.Need-drop-ref-requires
-drop-ref-requires c κs = (c.before.before.before.requires, tt)
+drop-ref-requires c κs = (c.before.before.before.requires, (refl, tt))
 
 returns : tie.Need-returns
 returns c =
@@ -31,7 +31,7 @@ returns-3 c =
     let call = c.before.before.before.before.before in
     let s = call.before.before.before.before in
     let o = key-owned (are_bytes-in s.args.sheet.now (λ i. (call.before.before.before.shared-slice-known.given i).fits)) s.requires s.args.name (length s.args.out.now) in
-    own-refused _ _ _ s.args.out.now _ c.before.dropped.given.1 o call.drop-ref.ensures
+    own-refused _ _ _ s.args.out.now _ c.before.edited.given.1 o call.drop-ref.ensures
 
 add-set-own : tie.Need-overflow-add-set-own
 add-set-own c =
@@ -48,14 +48,14 @@ set-own-requires c κs =
     let call = c.before.before.before.before.before.before.before in
     let s = call.before.before.before.before in
     let o = key-owned (are_bytes-in s.args.sheet.now (λ i. (call.before.before.before.shared-slice-known.given i).fits)) s.requires s.args.name (length s.args.out.now) in
-    own-fits _ _ _ _ s.args.out.now _ c.before.before.before.dropped2.given.1 o call.drop-ref.ensures
+    own-fits _ _ _ s.args.out.now _ c.before.before.before.edited2.given.1 o call.drop-ref.ensures
 
 returns-4 : tie.Need-returns-4
 returns-4 c =
     let call = c.before.before.before.before.before.before.before.before.before.before in
     let s = call.before.before.before.before in
     let o = key-owned (are_bytes-in s.args.sheet.now (λ i. (call.before.before.before.shared-slice-known.given i).fits)) s.requires s.args.name (length s.args.out.now) in
-    own-written _ _ _ _ s.args.out.now _ _ c.before.before.before.before.before.before.dropped2.given.1 o call.drop-ref.ensures c.before.before.set_own.ensures
+    own-written _ _ _ s.args.out.now _ _ c.before.before.before.before.before.before.edited2.given.1 o call.drop-ref.ensures c.before.before.set_own.ensures
 
 pub drop-owned-spec : {M : Type 1} → statement M
 drop-owned-spec =

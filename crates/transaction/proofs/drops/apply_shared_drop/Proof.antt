@@ -15,14 +15,14 @@ use Rattle.transaction.proofs.drops.apply_shared_drop.Tie as tie
 returns : tie.Need-returns
 returns c =
     let a = c.before.before.before.before.before.before.before.args in
-    shared-drop-refused a.name a.count a.as-item (length a.out.now) a.sheet.now a.bytenr _ _ a.out.now
+    shared-drop-refused a.name a.count a.as-item (length a.out.now) a.sheet.now a.bytenr _ a.out.now
     (finds-as a.sheet.now a.bytenr c.before.before.before.before.shared-kind.ensures c.before.found.given.1 c.before.before.before.find-record.ensures)
 
 returns-2 : tie.Need-returns-2
 returns-2 c =
     let a = c.before.before.before.before.before.before.args in
     shared-drop-missing a.name a.count a.as-item (length a.out.now)
-    (finds-as a.sheet.now a.bytenr c.before.before.before.shared-kind.ensures c.enum_told.given.1 c.before.before.find-record.ensures) _ a.out.now
+    (finds-as a.sheet.now a.bytenr c.before.before.before.shared-kind.ensures c.enum_told.given.1 c.before.before.find-record.ensures) a.out.now
 
 -- the record was found
 found : (c : tie.After-known-told2) → RecordFound c.before.before.before.before.before.before.before.args.sheet.now c.before.before.before.before.before.before.before.args.bytenr (shared_kind c.before.before.before.before.before.before.before.args.name.kind) c.before.found2.given.0.0 c.before.found2.given.0.1.0
@@ -47,15 +47,15 @@ part-plan-drop-shared-end : tie.Need-slice-bounds-plan-drop-shared-end
 part-plan-drop-shared-end c = let d = stood (c) in d.within
 
 put-record-requires : tie.Need-put-record-requires
-put-record-requires c κs = let d = stood c.before.before.before in (c.before.plan-drop-shared.ensures.planned.inside, (d.ordered, d.within, d.small))
+put-record-requires c κs = let d = stood c.before.before.before in (c.before.plan-drop-shared.ensures.inside, (d.ordered, d.within, d.small))
 
 returns-3 : tie.Need-returns-3
 returns-3 c =
-    let a = c.before.before.before.before.before.before.before.before.before.before.before.before.before.before.args in
-    shared-drop-answered a.name a.count a.as-item (length a.out.now) (bytes c.before.before.before.before.before.before.before) (found c.before.before.before.before.before.before.before) _ _ _ a.out.now _
-    c.before.before.before.before.before.plan-drop-shared.ensures c.before.before.before.put_record.ensures c.with-left.ensures
+    let a = c.before.before.before.before.before.before.before.before.before.before.before.before.before.args in
+    shared-drop-answered a.name a.count a.as-item (length a.out.now) (bytes c.before.before.before.before.before.before) (found c.before.before.before.before.before.before) _ _ a.out.now _
+    c.before.before.before.before.plan-drop-shared.ensures c.before.before.put_record.ensures
 
 pub apply-shared-drop-spec : {M : Type 1} → statement M
 apply-shared-drop-spec =
     tie.close
-    (tie.spec (λ c κs. search rules) (λ c κs. search rules) (λ c. search rules) returns (λ c. search rules) returns-2 (λ c. search rules) add-plan-drop-shared sub-plan-drop-shared part-plan-drop-shared-start part-plan-drop-shared-end (λ c κs. search rules) put-record-requires (λ c κs. search rules) (λ c. search rules) returns-3)
+    (tie.spec (λ c κs. search rules) (λ c κs. search rules) (λ c. search rules) returns (λ c. search rules) returns-2 (λ c. search rules) add-plan-drop-shared sub-plan-drop-shared part-plan-drop-shared-start part-plan-drop-shared-end (λ c κs. search rules) put-record-requires (λ c. search rules) returns-3)

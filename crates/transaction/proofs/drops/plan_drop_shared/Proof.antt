@@ -5,7 +5,7 @@ use Rattle.transaction.proofs.drops.plan_drop_shared.Statement.{statement}
 use Rattle.transaction.proofs.drops.plan_drop_shared.Tie as tie
 
 returns : tie.Need-returns
-returns c = drop-item _ _ _ _ _ _ c.before.before.if1.true c.before.plan-total.ensures.0 c.no_drop.ensures
+returns c = drop-item _ _ _ _ _ c.before.if1.true c.plan-total.ensures.0
 
 returns-2 : tie.Need-returns-2
 returns-2 c =
@@ -16,4 +16,4 @@ returns-2 c =
 pub plan-drop-shared-spec : {M : Type 1} → statement M
 plan-drop-shared-spec =
     tie.close
-    (tie.spec (λ c κs. search rules) (λ c κs. search rules) returns (λ c κs. search rules) (λ c κs. search rules) (λ c κs. search rules) returns-2)
+    (tie.spec (λ c κs. search rules) returns (λ c κs. search rules) (λ c κs. search rules) (λ c κs. search rules) returns-2)

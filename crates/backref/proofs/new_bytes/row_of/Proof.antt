@@ -1,7 +1,7 @@
 use Rattle.inline_refs.specs.Scans.{kind_of}
 use borrow.Author.Rules.{rules}
-use Rattle.inline_refs.proofs.lengths.lengths_for.Statement.{statement}
-use Rattle.inline_refs.proofs.lengths.lengths_for.Tie as tie
+use Rattle.backref.proofs.new_bytes.row_of.Statement.{statement}
+use Rattle.backref.proofs.new_bytes.row_of.Tie as tie
 
 returns : tie.Need-returns
 unfolding kind_of
@@ -19,7 +19,7 @@ returns-4 : tie.Need-returns-4
 unfolding kind_of
 returns-4 c = rw c.before.enum-told4.given.1 c.lengths-of4.ensures
 
-pub lengths-for-spec : {M : Type 1} → statement M
-lengths-for-spec =
+pub row-of-spec : {M : Type 1} → statement M
+row-of-spec =
     tie.close
     (tie.spec (λ c. search rules) (λ c κs. search rules) (λ c. search rules) (λ c κs. search rules) (λ c. search rules) (λ c κs. search rules) (λ c. search rules) (λ c κs. search rules) returns returns-2 returns-3 returns-4)
