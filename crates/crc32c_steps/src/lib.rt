@@ -1,4 +1,6 @@
 // The steps of a checksum's register, and the table that they make, worked out for any polynomial of 32 bits, reflected.
+#![tactic(auto)]
+
 ghost use Rattle.std.specs.Prelude.{◌≡◌};
 ghost use Rattle.crc32c_steps.specs.Steps.{step as step_of, steps, table_of};
 

@@ -1,5 +1,7 @@
 // Numbers inside byte slices, and copies of lent bytes. What each call does is one `written` (specs/Parts.antt), so that calls in
 // a row compose by one law.
+#![tactic(auto)]
+
 mod appending;
 mod clearing;
 mod copy;

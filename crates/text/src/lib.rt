@@ -1,6 +1,8 @@
 // A text, put down byte by byte and number by number. A byte past the end of the output is counted and not stored, so that the same
 // functions measure a text and write it. A text is below 400,000 bytes; each function asks for a position that leaves those that it
 // calls enough below their own limit.
+#![tactic(auto)]
+
 ghost use Rattle.std.specs.Prelude.{◌≡◌, [], ◌∷◌, ◌+◌, ◌≤◌, ◌<◌, length};
 ghost use Rattle.text.specs.Numbers.{digits, spaced, hex_digit, hex_digits};
 ghost use Rattle.text.specs.Puts.{Put};

@@ -1,0 +1,8 @@
+use Rattle.fields.proofs.Numbers.{written-swapped}
+use Rattle.fields.proofs.put.put_u64_be.Goals as goal
+
+pub returns : goal.returns
+returns c =
+    let put = c in
+    let a = put.args in
+    written-swapped 8 a.at a.v _ a.out.now _ put.swapped_u64.ensures put.put_u64_le.ensures
