@@ -7,6 +7,8 @@
 // in one `match`, so such a function is as long as its row. The arms are numbered from 256 on: LLVM narrows a `match` on a byte to a
 // signed byte, and then spends an instruction on each read to move the number up by 128; numbers from 256 on fit in no byte, and it
 // does not. So the last arm is never taken.
+#![tactic(auto)]
+
 mod constants;
 mod further;
 pub mod row_0;
