@@ -2,6 +2,8 @@
 //
 // A constant array is copied to the stack where it is named. A long run over a slice makes one copy of sixteen rows and lends it to
 // each step; a word step takes the entries of four rows one by one and makes none.
+#![tactic(auto)]
+
 mod sixteen;
 
 ghost use Rattle.std.specs.Prelude.{◌≡◌, ◌++◌, ◌+◌, ◌≤◌, ◌<◌, length, drop};

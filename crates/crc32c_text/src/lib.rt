@@ -1,4 +1,6 @@
 // The text of a polynomial's table.
+#![tactic(auto)]
+
 ghost use Rattle.text.specs.Puts.{Put};
 ghost use Rattle.crc32c_text.specs.Text.{table_text, TextIn};
 

@@ -1,5 +1,3 @@
--- `crc32c::sixteen::word_on` meets its contract: each row has the steps of its byte.
--- Assumes nothing.
 use mathlib.Core.Path.{sym, ap₂, ◌∙◌}
 use Prim.Native.Nat.{◌+◌, ◌/◌, ◌%◌, ◌≤◌, ◌<◌}
 use native.Mathlib.Nat.{mod-lt}
@@ -10,12 +8,14 @@ use borrow.Author.Rules.{rules}
 use Rattle.crc32c_steps.proofs.Rows.{row_at}
 use Rattle.crc32c.specs.Register.{crc32c}
 use Rattle.crc32c.proofs.Apart.{word_on}
-use Rattle.crc32c.proofs.sixteen.word_on.Statement.{statement}
-use Rattle.crc32c.proofs.sixteen.word_on.Tie as tie
+use Rattle.crc32c.proofs.sixteen.word_on.Goals as goal
 
-returns : tie.Need-returns
+-- `crc32c::sixteen::word_on` meets its contract: each row has the steps of its byte.
+-- Assumes nothing.
+
+pub returns : goal.returns
 returns c =
-    let start = c.before.before.before.before in
+    let start = c in
     let row = start.args.row in
     let word = start.args.word in
     let rows = start.requires.0 in
@@ -32,8 +32,3 @@ returns c =
     (row_at crc32c 16 (row + 2) (word / 256 % 256) rows third (mod-lt (word / 256) (pow_pos 8))))
     (row_at crc32c 16 (row + 3) (word % 256) rows fourth (mod-lt word (pow_pos 8)))
     ∙ sym (word_on crc32c row word (search rules))
-
-pub word-on-spec : {M : Type 1} → statement M
-word-on-spec =
-    tie.close
-    (tie.spec (λ c. search rules) (λ c. search rules) (λ c. search rules) (λ c. search rules) (λ c. search rules) (λ c. search rules) (λ c. search rules) (λ c. search rules) (λ c. search rules) (λ c. search rules) (λ c. search rules) (λ c. search rules) (λ c. search rules) (λ c. search rules) (λ c. search rules) (λ c. search rules) (λ c. search rules) (λ c. search rules) (λ c. search rules) (λ c. search rules) (λ c. search rules) (λ c. search rules) (λ c. search rules) returns)

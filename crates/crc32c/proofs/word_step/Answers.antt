@@ -1,0 +1,18 @@
+use mathlib.Core.Path.{sym, ap₂, ◌∙◌}
+use lib.Bits.{bit_xor}
+use borrow.Author.Rules.{rules}
+use Rattle.crc32c.specs.Register.{crc32c}
+use Rattle.crc32c.proofs.Words.{word-by-steps}
+use Rattle.crc32c.proofs.word_step.Goals as goal
+
+-- `crc32c::word_step` meets its contract: each row has the steps of its byte.
+-- Assumes nothing.
+
+pub returns : goal.returns
+returns c =
+    let three = c in
+    let two = three in
+    let one = two in
+    let args = one.args in
+    ap₂ bit_xor (ap₂ bit_xor (ap₂ bit_xor one.entry-a.ensures two.entry-b.ensures) three.entry-c.ensures) c.entry-d.ensures
+    ∙ sym (word-by-steps crc32c args.register args.word (search rules) (search rules))
