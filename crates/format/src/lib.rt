@@ -1,5 +1,7 @@
 // The declared types that the definitions in specs/ and the functions of the crates above share: keys, the names of
 // references, changes, and what calls answer.
+#![tactic(auto)]
+
 
 // Types of items and of inline references (btrfs's key types).
 pub const EXTENT_ITEM: u8 = 168;
