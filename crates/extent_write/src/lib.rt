@@ -1,4 +1,6 @@
 // New extents: the hash that orders data references, and the bodies of a new tree block and a new data extent.
+#![tactic(auto)]
+
 ghost use Rattle.std.specs.Prelude.{◌≡◌, [], ◌∷◌, ◌*◌, ◌^◌, ◌≤◌, ltb, length};
 ghost use Rattle.std.specs.Int.Bits.{bit_xor};
 ghost use Rattle.crc32c.specs.Register.{crc32c, all_ones, crc_run};

@@ -1,5 +1,7 @@
 // The reader and the writer of an item list (document 01's sheet): one step over items at a position, one pass that answers
 // questions 1 and 2 and finds an item, a further search in a list that passed them, and one splice.
+#![tactic(auto)]
+
 mod checking;
 mod finding;
 mod search;
