@@ -1,7 +1,7 @@
 // Planned edits of a body: an edit is planned first and written later, so that a call on a sheet needs no second buffer.
 ghost use Rattle.std.specs.Prelude.{◌≡◌, ◌+◌};
 
-#[derive(Drop)]
+#[derive(Clone, Copy)]
 pub enum Outcome {
     Edit,
     Absent,
@@ -12,7 +12,7 @@ pub enum Outcome {
 // What becomes of a body: the bytes from `from` up to `to` give way to the first `size` of `new`, and the first eight are
 // `total`. `count` is the count of a reference that is taken out. `new` is longer than the longest reference, 29 bytes, since two
 // whole moves of 16 bytes cost less than two that overlap.
-#[derive(Drop)]
+#[derive(Clone, Copy)]
 pub struct Plan {
     pub outcome: Outcome,
     pub from: usize,

@@ -11,7 +11,7 @@ use crate::{Outcome, Plan};
 use format::{BODY_HEAD, MOST_DATA};
 
 // What becomes of a total.
-#[derive(Drop)]
+#[derive(Clone, Copy)]
 pub enum TotalChange {
     Raise(u64),
     LowerByOne,

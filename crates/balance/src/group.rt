@@ -7,7 +7,7 @@ use crate::Span;
 // Whether the items so far are balanced: if not, the rest says nothing. Whether the extent's record stood, where in the sheet the
 // record's data and in it the references stand, the record's total, the weight of all references so far, and the references of
 // the type that was looked for last (type 0: none).
-#[derive(Drop)]
+#[derive(Clone, Copy)]
 pub struct Group {
     pub extent: u64,
     pub fair: bool,

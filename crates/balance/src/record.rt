@@ -13,7 +13,7 @@ use inline_refs::{Cursor, RefStep};
 // The references passed last: their type, what they are ordered by, where the first of them stands, how many there are, and of
 // how many from the first on it is known that they have that rank and that their triples differ. Only data references of one hash
 // are more than one. The rank of a reference is computed once another of its type stands beside it: `ranked` says whether it was.
-#[derive(Drop)]
+#[derive(Clone, Copy)]
 pub struct Run {
     pub kind: u8,
     pub ranked: bool,
@@ -24,14 +24,14 @@ pub struct Run {
 }
 
 // Whether one more reference may stand there: the references passed with it, and its weight.
-#[derive(Drop)]
+#[derive(Clone, Copy)]
 pub enum Admitted {
     Yes { run: Run, weight: u32 },
     No,
 }
 
 // The weight of a record's references, if they read and stand as they must.
-#[derive(Drop)]
+#[derive(Clone, Copy)]
 pub enum Weighed {
     Of(u64),
     Bad,

@@ -7,7 +7,7 @@ use format::{BlockRef, EXTENT_DATA_REF, Key, SHARED_DATA_REF, TREE_BLOCK_REF};
 use inline_refs::RefName;
 
 // What it weighs, and under which name, with that name's rank; or that it is in no form of its type.
-#[derive(Drop)]
+#[derive(Clone, Copy)]
 pub enum Named {
     Of {
         weight: u32,

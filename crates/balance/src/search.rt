@@ -9,7 +9,7 @@ use crate::span::Span;
 use inline_refs::RefName;
 
 // The numbers between which the first reference of no higher rank is.
-#[derive(Drop)]
+#[derive(Clone, Copy)]
 pub struct Bounds {
     pub low: usize,
     pub high: usize,

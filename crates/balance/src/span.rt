@@ -7,7 +7,7 @@ use inline_refs::{Cursor, RefStep, Row};
 
 // The references of a type: where the first of them stands, how many there are, and at which of them the last search ended (`n`:
 // none was made, or all are above). The next search begins there, which is a hint and no more: it may be any number.
-#[derive(Drop)]
+#[derive(Clone, Copy)]
 pub struct Span {
     pub kind: u8,
     pub from: usize,

@@ -26,7 +26,7 @@ fn joined(one: u32, two: u32) -> u64
 }
 
 // A tree and the register after a run over it, for the hashes of many references of that tree.
-#[derive(Drop)]
+#[derive(Clone, Copy)]
 pub struct TreeRun {
     pub tree: u64,
     pub register: u32,
@@ -120,7 +120,7 @@ fn put_head(b: &mut [u8], generation: u64, flags: u64, kind: u8, field: u64)
 }
 
 // A newly allocated tree block.
-#[derive(Drop)]
+#[derive(Clone, Copy)]
 pub struct TreeBlockAllocation {
     pub bytenr: u64,
     pub level: u8,

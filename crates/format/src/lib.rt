@@ -46,7 +46,7 @@ pub const MOST_ITEMS: usize = 4096;
 pub const MOST_OFFSETS: usize = 4096;
 
 // The key of an item. Keys compare by objectid, kind, offset; `kind` is document 01's type.
-#[derive(Drop)]
+#[derive(Clone, Copy)]
 pub struct Key {
     pub objectid: u64,
     pub kind: u8,
@@ -54,13 +54,13 @@ pub struct Key {
 }
 
 // What names a tree block's reference (176).
-#[derive(Drop)]
+#[derive(Clone, Copy)]
 pub struct BlockRef {
     pub tree: u64,
 }
 
 // What names a data reference (178): document 01's triple.
-#[derive(Drop)]
+#[derive(Clone, Copy)]
 pub struct DataRef {
     pub tree: u64,
     pub objectid: u64,
@@ -68,7 +68,7 @@ pub struct DataRef {
 }
 
 // What names a shared reference: its kind, 182 or 184, and the block that holds the pointer.
-#[derive(Drop)]
+#[derive(Clone, Copy)]
 pub struct SharedRef {
     pub kind: u8,
     pub parent: u64,
@@ -76,7 +76,7 @@ pub struct SharedRef {
 
 // A reference of a body, as the original's `InlineRef`: its kind, its offset, which is its first field, and where in the body its
 // payload starts and how long it is.
-#[derive(Drop)]
+#[derive(Clone, Copy)]
 pub struct InlineRef {
     pub kind: u8,
     pub offset: u64,
@@ -85,14 +85,14 @@ pub struct InlineRef {
 }
 
 // A reference that names a tree, as the original has it.
-#[derive(Drop)]
+#[derive(Clone, Copy)]
 pub enum Keyed {
     Block(BlockRef),
     Data(DataRef),
 }
 
 // A change of the ledger (document 01's books). To add a reference is document 01's "give", to drop one its "take".
-#[derive(Drop)]
+#[derive(Clone, Copy)]
 pub enum Change {
     AddBlock {
         extent: u64,
@@ -124,7 +124,7 @@ pub enum Change {
 }
 
 // What a call that writes to a lent output answers: the result's length, or why there is none.
-#[derive(Drop)]
+#[derive(Clone, Copy)]
 pub enum Edited {
     Written(usize),
     Absent,
@@ -133,7 +133,7 @@ pub enum Edited {
 }
 
 // The same where the call hands back the count of the reference that it took out.
-#[derive(Drop)]
+#[derive(Clone, Copy)]
 pub enum Taken {
     Written { size: usize, count: u32 },
     Absent,
@@ -141,28 +141,28 @@ pub enum Taken {
 }
 
 // What a call that hands back a number answers.
-#[derive(Drop)]
+#[derive(Clone, Copy)]
 pub enum Told {
     Value(u64),
     Refused(u32),
 }
 
 // What a call that hands back the key of an item answers.
-#[derive(Drop)]
+#[derive(Clone, Copy)]
 pub enum Filed {
     Under(Key),
     Refused(u32),
 }
 
 // What a call that says yes or no answers.
-#[derive(Drop)]
+#[derive(Clone, Copy)]
 pub enum Judged {
     Says(bool),
     Refused(u32),
 }
 
 // What a call that hands back a reference answers.
-#[derive(Drop)]
+#[derive(Clone, Copy)]
 pub enum Picked {
     Ref(InlineRef),
     Refused(u32),

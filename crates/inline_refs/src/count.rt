@@ -9,7 +9,7 @@ ghost use Rattle.inline_refs.specs.Scans.{ref_count_of};
 use crate::step::RefStep;
 
 // The number, or the question that is answered "no".
-#[derive(Drop)]
+#[derive(Clone, Copy)]
 pub enum Counted {
     Count(usize),
     Refused(u32),

@@ -25,7 +25,7 @@ pub fn rows() -> [[u8; 3]; 5]
 }
 
 // The row of a kind: how long its payload is, and where the count stands in it.
-#[derive(Drop)]
+#[derive(Clone, Copy)]
 pub enum Row {
     Known { size: usize, count: usize },
     Unknown,

@@ -5,7 +5,7 @@ ghost use Rattle.format.specs.References.{payload_length, count_position};
 use crate::kinds::Row;
 
 // How long a payload is, and where in it the count stands (0: no count).
-#[derive(Drop)]
+#[derive(Clone, Copy)]
 pub struct Lengths {
     pub payload: usize,
     pub count: usize,

@@ -5,7 +5,7 @@ ghost use Rattle.inline_refs.specs.Scans.{hit_of, add_anywhere, add_by_scan, oth
 use crate::scan::Seen;
 
 // The answer of an inline search: where the wanted reference stands, where the next one starts, and its weight.
-#[derive(Drop)]
+#[derive(Clone, Copy)]
 pub enum Found {
     At { at: usize, next: usize, weight: u32 },
     Nothing,
@@ -28,7 +28,7 @@ pub fn hit_of(seen: Seen) -> Found
 }
 
 // Where an added reference goes: a new one at a position, or to the one that stands.
-#[derive(Drop)]
+#[derive(Clone, Copy)]
 pub enum AddAt {
     Gap(usize),
     Standing { at: usize, next: usize, weight: u32 },

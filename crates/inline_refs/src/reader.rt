@@ -17,7 +17,7 @@ pub struct Reader<'a> {
 }
 
 // What stands at a position, and where a reader goes from there.
-#[derive(Drop)]
+#[derive(Clone, Copy)]
 pub struct Stepped {
     pub step: RefStep,
     pub at: usize,

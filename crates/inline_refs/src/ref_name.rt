@@ -14,7 +14,7 @@ use format::{
 };
 
 // The name of the reference that is looked for.
-#[derive(Drop)]
+#[derive(Clone, Copy)]
 pub enum RefName {
     Block(BlockRef),
     Data(DataRef),
@@ -122,7 +122,7 @@ fn rank_with(wanted: RefName, own: TreeRun) -> u64
 }
 
 // A name's own rank, with the run over its own tree.
-#[derive(Drop)]
+#[derive(Clone, Copy)]
 pub struct Ranked {
     pub rank: u64,
     pub own: TreeRun,
@@ -139,7 +139,7 @@ pub fn rank_of(wanted: RefName) -> Ranked
 }
 
 // Whether a caller has the rank of a name. It may cost a hash, so it is not asked for before it is needed.
-#[derive(Drop)]
+#[derive(Clone, Copy)]
 pub enum OwnRank {
     Known(Ranked),
     Unknown,

@@ -12,7 +12,7 @@ use extent_write::TreeRun;
 use format::{EXTENT_DATA_REF, EXTENT_OWNER_REF};
 
 // What a scan has noted.
-#[derive(Drop)]
+#[derive(Clone, Copy)]
 pub enum Seen {
     // Neither the wanted reference nor one that a new one goes before; and whether one of its kind stood there.
     Open {
@@ -39,7 +39,7 @@ pub enum Seen {
 }
 
 // What a scan hands back: the question that is answered "no", or what it noted up to the end.
-#[derive(Drop)]
+#[derive(Clone, Copy)]
 pub enum Scan {
     Fault(u32),
     Read(Seen),
@@ -60,7 +60,7 @@ pub fn weight_at(body: &[u8], kind: u8, start: usize, count: usize) -> u32
 }
 
 // What references are read for where nothing is noted any more: the question that is answered "no", if there is one.
-#[derive(Drop)]
+#[derive(Clone, Copy)]
 pub enum Rest {
     Clean,
     Fault(u32),

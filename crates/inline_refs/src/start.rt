@@ -6,7 +6,7 @@ ghost use Rattle.inline_refs.specs.Steps.{open_of};
 use format::{BODY_HEAD, EXTENT_ITEM, MOST_DATA};
 
 // The start, or the question that is answered "no".
-#[derive(Drop)]
+#[derive(Clone, Copy)]
 pub enum Start {
     From(usize),
     Refused(u32),

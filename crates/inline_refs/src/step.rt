@@ -5,13 +5,13 @@ ghost use Rattle.inline_refs.specs.Steps.{ref_step_at};
 
 use crate::kinds::Row;
 
-#[derive(Drop)]
+#[derive(Clone, Copy)]
 pub struct Cursor {
     pub at: usize,
 }
 
 // What stands at a cursor.
-#[derive(Drop)]
+#[derive(Clone, Copy)]
 pub enum RefStep {
     // A whole reference: where its payload starts, how long it is, where in it the count stands, and the next cursor.
     Ref {

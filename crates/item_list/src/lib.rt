@@ -16,14 +16,14 @@ pub use splicing::{append, append_head, put_item, remove_item, room_for};
 pub use stepping::{is_past, key_at, no_key, size_after, size_at};
 
 // Whether the bytes are an item list: the number of items, or the refusal.
-#[derive(Drop)]
+#[derive(Clone, Copy)]
 pub enum Checked {
     Count(usize),
     Refused(u32),
 }
 
 // Which item is wanted.
-#[derive(Drop)]
+#[derive(Clone, Copy)]
 pub enum ItemQuery {
     // The item of a number.
     Index(usize),
@@ -34,7 +34,7 @@ pub enum ItemQuery {
 }
 
 // Whether the bytes are an item list, and the first wanted item; or the refusal.
-#[derive(Drop)]
+#[derive(Clone, Copy)]
 pub enum Listing {
     Refused(u32),
     // The number of items, then the number, the first byte and the position past the wanted one.
@@ -50,7 +50,7 @@ pub enum Listing {
 }
 
 // Where an item stands: its number, its first byte and the position past it.
-#[derive(Drop)]
+#[derive(Clone, Copy)]
 pub enum ItemPosition {
     At {
         index: usize,
@@ -61,7 +61,7 @@ pub enum ItemPosition {
 }
 
 // Where a key stands, or where an item with it belongs.
-#[derive(Drop)]
+#[derive(Clone, Copy)]
 pub enum Sought {
     Present { start: usize, end: usize },
     Absent { at: usize },

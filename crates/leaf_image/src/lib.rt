@@ -8,7 +8,7 @@ pub use reading::read;
 pub use writing::write;
 
 // Questions 24 and 2 of an image: the number of its items and the length of the item list that they make, or the refusal.
-#[derive(Drop)]
+#[derive(Clone, Copy)]
 pub enum Packing {
     Packed { count: usize, size: usize },
     Refused(u32),

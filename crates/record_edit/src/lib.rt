@@ -9,7 +9,7 @@ pub use search::find_record;
 pub use write::{edit_record, put_record};
 
 // Where an extent's record stands: its key, its first byte, the position past it, and how many items its list has.
-#[derive(Drop)]
+#[derive(Clone, Copy)]
 pub struct RecordAt {
     pub key: Key,
     pub start: usize,
@@ -18,7 +18,7 @@ pub struct RecordAt {
 }
 
 // Questions 1, 2 and 3: the refusal; or where the extent's record stands, and its item number.
-#[derive(Drop)]
+#[derive(Clone, Copy)]
 pub enum FoundRecord {
     Refused(u32),
     Missing,
@@ -26,7 +26,7 @@ pub enum FoundRecord {
 }
 
 // A second edit, behind the record: the bytes from `from` up to `to` give way to the first `size` of `new`.
-#[derive(Drop)]
+#[derive(Clone, Copy)]
 pub struct SecondEdit {
     pub from: usize,
     pub to: usize,

@@ -9,7 +9,7 @@ use format::EXTENT_DATA_REF;
 use inline_refs::{Cursor, RefStep};
 
 // Whether every one can be read and is a data reference of that root and inode, and then how many there are.
-#[derive(Drop)]
+#[derive(Clone, Copy)]
 pub enum FileRefs {
     All(usize),
     NotAll,
