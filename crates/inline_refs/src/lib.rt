@@ -1,5 +1,7 @@
 // The readers of inline references: the table of the five kinds, a cursor that reads one reference after the other, a reader that
 // borrows the body, and the one scan that all calls on a body share.
+#![tactic(auto)]
+
 mod count;
 mod kinds;
 mod lengths;

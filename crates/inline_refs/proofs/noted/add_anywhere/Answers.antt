@@ -1,0 +1,18 @@
+use Rattle.inline_refs.specs.Scans.{add_anywhere}
+use Rattle.inline_refs.proofs.noted.add_anywhere.Goals as goal
+
+pub returns-in-Hit : goal.returns-in-Hit
+unfolding add_anywhere
+returns-in-Hit c = rw c.in-Hit.is
+
+pub returns-in-Late : goal.returns-in-Late
+unfolding add_anywhere
+returns-in-Late c = rw c.in-Late.is
+
+pub returns-in-Open : goal.returns-in-Open
+unfolding add_anywhere
+returns-in-Open c = rw c.in-Open.is
+
+pub returns-in-Gap : goal.returns-in-Gap
+unfolding add_anywhere
+returns-in-Gap c = rw c.in-Gap.is

@@ -1,0 +1,27 @@
+use mathlib.Core.Path.{ap, ◌∙◌}
+use Prim.Native.Nat.{ℕ}
+use Rattle.format.specs.Hash.{data_ref_hash}
+use Rattle.format.specs.References.{rank_of}
+use Rattle.inline_refs.specs.Scans.{kind_of, fields_of, tree_of}
+use Rattle.inline_refs.proofs.ref_name.rank_with.Goals as goal
+
+pub returns-in-Block : goal.returns-in-Block
+unfolding rank_of kind_of fields_of
+returns-in-Block c = rw c.in-Block.is
+
+pub returns-in-Data : goal.returns-in-Data
+unfolding rank_of kind_of fields_of tree_of
+returns-in-Data c =
+    let known = c in
+    let name = known.in-Data.name in
+    rw known.in-Data.is
+    (c.hash_with.ensures
+    ∙ ap (λ (tree : ℕ). data_ref_hash tree name.objectid name.offset) (known.requires.0 ∙ ap tree_of known.in-Data.is))
+
+pub returns-in-SharedBlock : goal.returns-in-SharedBlock
+unfolding rank_of kind_of fields_of
+returns-in-SharedBlock c = rw c.in-SharedBlock.is
+
+pub returns-in-SharedData : goal.returns-in-SharedData
+unfolding rank_of kind_of fields_of
+returns-in-SharedData c = rw c.in-SharedData.is

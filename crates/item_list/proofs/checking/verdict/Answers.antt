@@ -1,0 +1,15 @@
+use Rattle.item_list.specs.Seeks.{verdict_of}
+use borrow.Author.Tests.{le-leb, lt-leb}
+use Rattle.item_list.proofs.checking.verdict.Goals as goal
+
+pub returns-then-count-gt-MOST_ITEMS : goal.returns-then-count-gt-MOST_ITEMS
+unfolding verdict_of
+returns-then-count-gt-MOST_ITEMS c = rw (lt-leb _ _ c.if-count-gt-MOST_ITEMS.true)
+
+pub returns-then-ordered : goal.returns-then-ordered
+unfolding verdict_of
+returns-then-ordered c = rw (le-leb _ _ c.if-count-gt-MOST_ITEMS.false, c.if-ordered.true)
+
+pub returns : goal.returns
+unfolding verdict_of
+returns c = rw (le-leb _ _ c.if-count-gt-MOST_ITEMS.false, c.if-ordered.false)
