@@ -21,7 +21,7 @@ returns-else-not-names c =
     let step = test in
     let w = seen _ _ _ (sym test.in-Ref.is ∙ step.step.ensures) in
     c.scan_hit.ensures _ _
-    ∙ scan_step _ _ _ _ _ _ _ _ _ _ _ w (note-hit _ _ _ _ _ _ _ test.names.ensures _ (not-false _ test.if-not-names.false) c.weight_at-weight.ensures)
+    ∙ scan_step _ _ _ _ _ _ _ _ _ _ _ w (note-hit _ _ _ _ _ _ _ test.names.ensures _ (not-false _ test.if-not-names.false-raw) c.weight_at-weight.ensures)
 
 pub returns-in-End : goal.returns-in-End
 returns-in-End c =
