@@ -1,4 +1,6 @@
 // The calls on bodies: each plans its edit and writes it once. Where references stand, and one of them by its number.
+#![tactic(auto)]
+
 mod add_plans;
 mod asks;
 mod calls;

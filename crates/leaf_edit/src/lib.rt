@@ -1,5 +1,7 @@
 // The calls of `leaf_edit.rs` on an item list (document 01's sheet): another list, one item, whether it fits a leaf, and cuts into
 // leaves.
+#![tactic(auto)]
+
 mod division;
 mod division_measure;
 mod editing;

@@ -1,4 +1,6 @@
 // Leaves as they stand on the card, by the btrfs format: an image read to an item list (document 01's sheet), and one written from it.
+#![tactic(auto)]
+
 mod checking;
 mod headers;
 mod reading;

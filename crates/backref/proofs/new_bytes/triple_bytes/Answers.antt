@@ -1,0 +1,27 @@
+use mathlib.Core.Path.{ap, ap₂, ◌∙◌}
+use mathlib.Core.List.{List}
+use Prim.Native.Nat.{ℕ}
+use native.Mathlib.Omega.{arith}
+use Rattle.fields.specs.Numbers.{le_bytes}
+use Rattle.fields.specs.Parts.{written}
+use Rattle.inline_refs.proofs.RowLengths.{count-inside}
+use Rattle.backref.specs.ByName.{with_count}
+use Rattle.backref.proofs.new_bytes.triple_bytes.Goals as goal
+
+pub put_count-requires : goal.put_count-requires
+put_count-requires c = omega (arith, c.lengths_of.ensures.1, count-inside 178)
+
+pub returns : goal.returns
+returns c =
+    let row = c in
+    let offset = c in
+    let objectid = c in
+    let tree = c in
+    let kind = c in
+    let a = kind.args in
+    c.put_count.ensures
+    ∙ ap₂ (λ (n : ℕ) (l : List ℕ). with_count n a.count l) row.lengths_of.ensures.1
+    (offset.put_u64_le-3.ensures
+    ∙ ap (written 17 (le_bytes 8 a.name.offset)) (objectid.put_u64_le-2.ensures
+    ∙ ap (written 9 (le_bytes 8 a.name.objectid)) (tree.put_u64_le.ensures
+    ∙ ap (written 1 (le_bytes 8 a.name.tree)) kind.put_u8.ensures)))

@@ -1,0 +1,27 @@
+use mathlib.Core.Path.{refl}
+use native.Mathlib.Omega.{arith}
+use Rattle.backref.proofs.Heads.{head, total_head, behind}
+use Rattle.backref.proofs.PlannedTotals.{part-refused, part-passed}
+use Rattle.backref.proofs.total_plans.plan_total_part.Goals as goal
+
+pub returns-then-short-ne0 : goal.returns-then-short-ne0
+returns-then-short-ne0 c =
+    let call = c in record { planned = total_head call.args.body.now _ _ refl _ call.head_fault-short.ensures _ c.if-short-ne0.true c.refuse.ensures.outcome_value; size_value = c.refuse.ensures.size_value }
+
+pub returns-then-fault-ne0 : goal.returns-then-fault-ne0
+returns-then-fault-ne0 c =
+    let part = c in
+    let call = c in let all = (behind call.args.body.now _ _ refl _ call.head_fault-short.ensures _ part.if-short-ne0.false refl).refuses _ _
+    (part-refused _ _ _ _ part.part_fault-fault.ensures c.if-fault-ne0.true) c.refuse-then-fault-ne0.ensures in record { planned = all.0; size_value = all.1 }
+
+pub get_u64_le-requires : goal.get_u64_le-requires
+get_u64_le-requires c =
+    let call = c in
+    omega (arith, (head call.args.body.now _ call.head_fault-short.ensures).long c.if-short-ne0.false)
+
+pub returns : goal.returns
+returns c =
+    let got = c in
+    let part = c in
+    let call = c in let all = (behind call.args.body.now _ _ refl _ call.head_fault-short.ensures _ part.if-short-ne0.false got.get_u64_le.ensures).plans _ _
+    (part-passed _ _ _ _ part.part_fault-fault.ensures _ got.if-fault-ne0.false c.total_less.ensures) c.set_total.ensures in record { planned = all.0; size_value = all.1 }
