@@ -1,11 +1,11 @@
 use mathlib.Core.Path.{◌≡◌, ◌∙◌}
-use mathlib.Core.Logic.{⊎_elim}
 use Prim.Native.Nat.{◌+◌, ◌-◌}
 use Rattle.leaf_edit.proofs.Running.{keep-first, keep_left, keep-right, cut-new, cut-closer, cut-kept, gap_up, gap_down}
 use Rattle.leaf_edit.proofs.division_measure.improve.Lts as lts
 use Rattle.leaf_edit.proofs.division_measure.improve.Reads as reads
 use Rattle.leaf_edit.proofs.division_measure.improve.Tie as tie
 use Rattle.leaf_edit.proofs.division_measure.improve.Goals as goal
+use Rattle.leaf_edit.proofs.division_measure.improve.Goals.{then-left-right, else-left-right}
 
 abbrev JoinedLeftRight : Type 0
 JoinedLeftRight = lts.Joined4 reads.Pre reads.Post
@@ -21,7 +21,7 @@ returns-then-nodesize-right c = keep-right _ _ _ _ _ c.if-nodesize-right.true
 
 -- the gap by either way
 gap_is : (c : JoinedLeftRight) → c.if-left-right.gap ≡ (c.args.left - c.args.right) + (c.args.right - c.args.left)
-gap_is c = ⊎_elim (λ w. w.1 ∙ gap_up _ _ w.0.taken) (λ w. w.1 ∙ gap_down _ _ w.0.left) c.if-left-right.branch
+gap_is c = elim c.if-left-right.branch [ then-left-right w ↦ w.gap-is ∙ gap_up _ _ w.if-left-right.true | else-left-right w ↦ w.gap-is ∙ gap_down _ _ w.if-left-right.false ]
 
 pub returns-in-Nowhere : goal.returns-in-Nowhere
 returns-in-Nowhere c = cut-new _ _ _ _ _ c.if-i-lt1.false c.if-nodesize-left.false c.if-nodesize-right.false _ (gap_is c.before.before) c.in-Nowhere.is

@@ -4,7 +4,6 @@ use Prim.Native.Nat.{◌≤◌}
 use native.Mathlib.Omega.{arith}
 use lib.Dec.{leb→le}
 use lib.ListN.{length}
-use mathlib.Core.Logic.{⊎_elim}
 use Rattle.fields.proofs.Numbers.{are_bytes-in}
 use Rattle.format.specs.Questions.{accepted}
 use Rattle.format.specs.Items.{Item, read_sheet, data_fits}
@@ -15,6 +14,7 @@ use Rattle.leaf_edit.proofs.editing.put_new.Lts as lts
 use Rattle.leaf_edit.proofs.editing.put_new.Reads as reads
 use Rattle.leaf_edit.proofs.editing.put_new.Tie as tie
 use Rattle.leaf_edit.proofs.editing.put_new.Goals as goal
+use Rattle.leaf_edit.proofs.editing.put_new.Goals.{then-bounded, else-bounded}
 
 abbrev InFree : Type 0
 InFree = lts.Past-After-known_told2 tie.the-claims reads.Pre reads.Post
@@ -75,7 +75,7 @@ done : (c : JoinedBounded) → put_new c.args.nodesize c.args.sheet.now (asked c
 done c =
     let a = c.args in
     let i = free c.before in
-    ⊎_elim (λ w. put-within a.nodesize a.sheet.now (asked c.before) a.bounded _ _ i w.0.taken w.1.left) (λ w. put-unbounded a.nodesize a.sheet.now (asked c.before) a.bounded _ _ i w.left) c.if-bounded.branch
+    elim c.if-bounded.branch [ then-bounded w ↦ put-within a.nodesize a.sheet.now (asked c.before) a.bounded _ _ i w.if-bounded.true w.if-nodesize-space.false | else-bounded w ↦ put-unbounded a.nodesize a.sheet.now (asked c.before) a.bounded _ _ i w.if-bounded.false ]
 
 pub returns-in-Free : goal.returns-in-Free
 returns-in-Free c =

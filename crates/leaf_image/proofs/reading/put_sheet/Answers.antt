@@ -53,8 +53,8 @@ loop-n-preserved c =
     let put = c.put_item-to in (
       omega arith,
       omega arith,
-      put.auto.1.1.0 ∙ loop.invariant.2,
-      left-next loop.invariant.3 (more c.before.before.before.before.before) put.result _ put.ensures.0 put.ensures.1 put.auto.1.1.0,
+      put.auto.out ∙ loop.invariant.2,
+      left-next loop.invariant.3 (more c.before.before.before.before.before) put.result _ put.ensures.0 put.ensures.1 put.auto.out,
     )
 
 pub shape_of-out : goal.shape_of-out
