@@ -1,14 +1,13 @@
 -- What is known of a buffer that input was read into: how many bytes of it were read, and that those behind them are as they were.
--- Which bytes were read, no contract of C's can say. Assumes nothing.
-use Rattle.std.specs.Prelude.{◌≡◌, List, ℕ, ◌+◌, ◌≤◌, length, take, drop, ℤ, pos, negsuc}
-use Rattle.io.specs.Counts.{clamp_len}
+-- Which bytes a file or a terminal gives, no contract can say. Assumes nothing.
+use Rattle.std.specs.Prelude.{◌≡◌, List, ℕ, ◌+◌, ◌≤◌, length, take, drop, Result, Ok, Err}
 use Rattle.input.specs.declared.Input.{Input}
 use Rattle.input.specs.declared.Input.TheVariants.{Bytes, Failed}
 
--- what C's read answers: how many bytes, or -1 where it failed
-unfoldable pub answer_of : ℤ → ℕ → Input
-answer_of (pos k) room = Bytes (clamp_len (pos k) room)
-answer_of (negsuc k) room = Failed
+-- what a read answers: how many bytes, which its own contract keeps within the room, or an error where it failed
+unfoldable pub answer_of : {E : Type 0} → Result ℕ E → Input
+answer_of (Ok n) = Bytes n
+answer_of (Err e) = Failed
 
 -- no more bytes than there is room for
 abbrev pub ReadWithin : Input → ℕ → Type 0
