@@ -1,14 +1,11 @@
 // Works out the table of CRC32C from its polynomial and prints it: 256 lines of eight hexadecimal digits, entry 0 first. It rests on
 // no table of the library.
-use libc::{STDERR_FILENO, STDOUT_FILENO};
+#![tactic(auto)]
 
-fn main() {
+fn main(rt: HostRuntime) {
     let mut text = [0u8; crc32c_text::LENGTH];
     crc32c_text::table_text(crc32c_steps::CRC32C, &mut text);
-    if !io::write_all(STDOUT_FILENO, &text) {
-        io::write_all(
-            STDERR_FILENO,
-            b"crc_table: standard output could not be written\n",
-        );
+    if rt.write_all(&text).is_err() {
+        let _ = eprintln!(rt; "crc_table: standard output could not be written");
     }
 }

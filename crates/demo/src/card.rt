@@ -3,7 +3,7 @@ use format::{Change, Edited, Key, Told};
 use item_list::Checked;
 
 // The list is the first `size` bytes. Every card of this program is small.
-#[derive(Drop)]
+#[derive(Clone, Copy)]
 pub struct Card {
     pub bytes: [u8; 4096],
     pub size: usize,

@@ -65,24 +65,25 @@ fn with_block(card: Card) -> Card {
 }
 
 // One change, in words, and what came of it.
-fn post(card: Card, extent: u64, what: &[u8], change: Change) -> Card {
-    say::text(b"  ");
-    say::text(what);
-    say::text(b": ");
+fn post(rt: &impl Print, card: Card, extent: u64, what: &[u8], change: Change) -> Card {
+    say::text(rt, b"  ");
+    say::text(rt, what);
+    say::text(rt, b": ");
     let edit = card::post(card, NODESIZE, change);
     let next = edit.card;
-    say::answer(edit.refusal);
+    say::answer(rt, edit.refusal);
     if edit.refusal == 0 {
-        say::text(b", now used ");
-        say::times(card::used(card::list(&next.bytes, next.size), extent));
+        say::text(rt, b", now used ");
+        say::times(rt, card::used(card::list(&next.bytes, next.size), extent));
     }
-    say::text(b".\n");
+    say::text(rt, b".\n");
     next
 }
 
-fn give_block(card: Card, tree: u64, what: &[u8]) -> Card {
+fn give_block(rt: &impl Print, card: Card, tree: u64, what: &[u8]) -> Card {
     let name = BlockRef { tree };
     post(
+        rt,
         card,
         BLOCK,
         what,
@@ -93,8 +94,9 @@ fn give_block(card: Card, tree: u64, what: &[u8]) -> Card {
     )
 }
 
-fn give_data(card: Card, name: DataRef, amount: u32, what: &[u8]) -> Card {
+fn give_data(rt: &impl Print, card: Card, name: DataRef, amount: u32, what: &[u8]) -> Card {
     post(
+        rt,
         card,
         MAP,
         what,
@@ -106,9 +108,10 @@ fn give_data(card: Card, name: DataRef, amount: u32, what: &[u8]) -> Card {
     )
 }
 
-fn take_block(card: Card, tree: u64, what: &[u8]) -> Card {
+fn take_block(rt: &impl Print, card: Card, tree: u64, what: &[u8]) -> Card {
     let name = BlockRef { tree };
     post(
+        rt,
         card,
         BLOCK,
         what,
@@ -119,13 +122,14 @@ fn take_block(card: Card, tree: u64, what: &[u8]) -> Card {
     )
 }
 
-fn take_data(card: Card, name: DataRef, what: &[u8]) -> Card {
-    post(card, MAP, what, Change::DropData { extent: MAP, name })
+fn take_data(rt: &impl Print, card: Card, name: DataRef, what: &[u8]) -> Card {
+    post(rt, card, MAP, what, Change::DropData { extent: MAP, name })
 }
 
-fn take_shared(card: Card, amount: u32, what: &[u8]) -> Card {
+fn take_shared(rt: &impl Print, card: Card, amount: u32, what: &[u8]) -> Card {
     let name = leaf();
     post(
+        rt,
         card,
         MAP,
         what,
@@ -137,16 +141,18 @@ fn take_shared(card: Card, amount: u32, what: &[u8]) -> Card {
     )
 }
 
-fn gives(card: Card) -> Card {
-    let a = give_block(card, 300, b"give the block to tree 300");
-    let b = give_block(a, 300, b"give the block to tree 300 again");
+fn gives(rt: &impl Print, card: Card) -> Card {
+    let a = give_block(rt, card, 300, b"give the block to tree 300");
+    let b = give_block(rt, a, 300, b"give the block to tree 300 again");
     let c = give_data(
+        rt,
         b,
         file(300, 257),
         2,
         b"give the map to file 257 of tree 300, twice",
     );
     let d = give_data(
+        rt,
         c,
         file(5, 300),
         1,
@@ -159,6 +165,7 @@ fn gives(card: Card) -> Card {
         amount: 3,
     };
     post(
+        rt,
         d,
         MAP,
         b"give the map to the shared leaf at 8388608, three times",
@@ -166,32 +173,35 @@ fn gives(card: Card) -> Card {
     )
 }
 
-fn takes(card: Card) -> Card {
-    let a = take_block(card, 5, b"take the block from tree 5");
-    let b = take_block(a, 300, b"take the block from tree 300 too");
+fn takes(rt: &impl Print, card: Card) -> Card {
+    let a = take_block(rt, card, 5, b"take the block from tree 5");
+    let b = take_block(rt, a, 300, b"take the block from tree 300 too");
     let c = take_data(
+        rt,
         b,
         file(5, 300),
         b"take the map from file 300 of tree 5, which has an item",
     );
     let d = take_data(
+        rt,
         c,
         file(5, 999),
         b"take the map from file 999 of tree 5, which never had it",
     );
-    let e = take_shared(d, 2, b"take the map from the shared leaf, two of three");
-    take_shared(e, 1, b"take the map from the shared leaf, the last one")
+    let e = take_shared(rt, d, 2, b"take the map from the shared leaf, two of three");
+    take_shared(rt, e, 1, b"take the map from the shared leaf, the last one")
 }
 
-pub fn show() {
-    say::text(b"A small card with a map, which is data, and a block of a tree:\n\n");
+pub fn show(rt: &impl Print) {
+    say::text(rt, b"A small card with a map, which is data, and a block of a tree:\n\n");
     let before = with_block(with_map(card::empty()));
-    words::print(card::list(&before.bytes, before.size));
+    words::print(rt, card::list(&before.bytes, before.size));
     say::text(
+        rt,
         b"\nEleven changes, posted one after the other, each with the answer and the total that its record then has:\n\n",
     );
-    let after = takes(gives(before));
-    say::text(b"\nThe card afterwards:\n\n");
-    words::print(card::list(&after.bytes, after.size));
-    say::text(b"\n");
+    let after = takes(rt, gives(rt, before));
+    say::text(rt, b"\nThe card afterwards:\n\n");
+    words::print(rt, card::list(&after.bytes, after.size));
+    say::text(rt, b"\n");
 }

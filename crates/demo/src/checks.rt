@@ -5,16 +5,16 @@ use crate::card::Card;
 use crate::{card, crowded, image, say, shifts};
 
 // The end of a check: what it shows, said only if it came out right; 1 if it came out wrong.
-fn verdict(right: bool, shown: &[u8]) -> u32
+fn verdict(rt: &impl Print, right: bool, shown: &[u8]) -> u32
     ensures { result ≤ 1 }
 {
-    say::text(b"\n     ");
+    say::text(rt, b"\n     ");
     if right {
-        say::text(shown);
-        say::text(b" Right.\n");
+        say::text(rt, shown);
+        say::text(rt, b" Right.\n");
         return 0;
     }
-    say::text(b"WRONG.\n");
+    say::text(rt, b"WRONG.\n");
     1
 }
 
@@ -23,8 +23,9 @@ fn expected(shift: u32) -> u64 {
     if shift < shifts::SHIFTS { 2 } else { 1 }
 }
 
-fn count_maps(list: &[u8]) -> bool {
+fn count_maps(rt: &impl Print, list: &[u8]) -> bool {
     say::text(
+        rt,
         b"  1. Count the references of ten maps.\n     \
           From the first shift's to the last's they are used so many times:",
     );
@@ -32,61 +33,67 @@ fn count_maps(list: &[u8]) -> bool {
     let mut shift: u32 = 1;
     while shift <= shifts::SHIFTS {
         let used = card::used(list, shifts::map(shift));
-        say::text(b" ");
-        say::number(used);
+        say::text(rt, b" ");
+        say::number(rt, used);
         right = right & (used == expected(shift));
         shift += 1;
     }
-    say::text(b".");
+    say::text(rt, b".");
     right
 }
 
-fn delete_oldest(card: Card) -> bool {
+fn delete_oldest(rt: &impl Print, card: Card) -> bool {
     say::text(
+        rt,
         b"  2. Delete the oldest shift and read the base survey.\n     \
           The survey is taken from shift 1: ",
     );
     let survey = shifts::take(card, shifts::SURVEY, 1);
-    say::answer(survey.refusal);
-    say::text(b". Its own map: ");
+    say::answer(rt, survey.refusal);
+    say::text(rt, b". Its own map: ");
     let both = shifts::take(survey.card, shifts::map(1), 1);
-    say::answer(both.refusal);
-    say::text(b". The survey a second time:\n     ");
+    say::answer(rt, both.refusal);
+    say::text(rt, b". The survey a second time:\n     ");
     let again = shifts::take(both.card, shifts::SURVEY, 1);
-    say::answer(again.refusal);
-    say::text(b".\n     The survey is used ");
+    say::answer(rt, again.refusal);
+    say::text(rt, b".\n     The survey is used ");
     let left = again.card;
     let list = card::list(&left.bytes, left.size);
     let used = card::used(list, shifts::SURVEY);
-    say::times(used);
-    say::text(b".");
+    say::times(rt, used);
+    say::text(rt, b".");
     let taken = (survey.refusal == 0) & (both.refusal == 0) & (again.refusal == 5);
     taken & (used == 9) & (card::used(list, shifts::map(1)) == 1)
 }
 
 // The number of checks that came out wrong.
-pub fn show() -> u32 {
+pub fn show(rt: &impl Print) -> u32 {
     say::text(
+        rt,
         b"Four checks, three of them on a card of ten shifts over one base survey. Each shift uses the survey,\n\
           its own map and the map of the shift before:\n\n",
     );
     let card = shifts::ten();
     let counted = verdict(
-        count_maps(card::list(&card.bytes, card.size)),
+        rt,
+        count_maps(rt, card::list(&card.bytes, card.size)),
         b"Each is used by its own shift and the next, the last by its own alone.",
     );
     let deleted = verdict(
-        delete_oldest(card),
+        rt,
+        delete_oldest(rt, card),
         b"That is once by each other shift, so nothing frees it.",
     );
     let saved = verdict(
-        crowded::save(),
+        rt,
+        crowded::save(rt),
         b"Both leaves fit, and every map is there, in order.",
     );
     let stored = verdict(
-        image::store(card),
+        rt,
+        image::store(rt, card),
         b"It is the same list, byte for byte, and the damage is seen.",
     );
-    say::text(b"\n");
+    say::text(rt, b"\n");
     counted + deleted + saved + stored
 }

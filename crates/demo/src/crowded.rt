@@ -33,19 +33,19 @@ fn fill() -> Full {
 }
 
 // Whether it came out right.
-pub fn save() -> bool {
-    say::text(b"  3. Save on a crowded card.\n     A leaf of ");
-    say::number(leaves::NODESIZE as u64);
-    say::text(b" bytes takes ");
+pub fn save(rt: &impl Print) -> bool {
+    say::text(rt, b"  3. Save on a crowded card.\n     A leaf of ");
+    say::number(rt, leaves::NODESIZE as u64);
+    say::text(rt, b" bytes takes ");
     let full = fill();
     let before = full.card;
-    say::number(card::items(card::list(&before.bytes, before.size)) as u64);
-    say::text(b" maps. One more: ");
-    say::answer(full.refusal);
-    say::text(b".\n     ");
+    say::number(rt, card::items(card::list(&before.bytes, before.size)) as u64);
+    say::text(rt, b" maps. One more: ");
+    say::answer(rt, full.refusal);
+    say::text(rt, b".\n     ");
     let body = shifts::record(full.shift);
     let more = card::insert_unbounded(before, shifts::key(shifts::map(full.shift)), &body);
     let whole = more.card;
-    let divided = leaves::divide(card::list(&whole.bytes, whole.size), full.shift);
+    let divided = leaves::divide(rt, card::list(&whole.bytes, whole.size), full.shift);
     divided & (full.refusal == 18) & (more.refusal == 0)
 }

@@ -27,19 +27,19 @@ fn damaged(leaf: Card) -> Card {
 }
 
 // Whether it came out right.
-pub fn store(card: Card) -> bool {
-    say::text(b"  4. Write the leaf and read it back.\n     As a leaf of ");
-    say::number(leaves::NODESIZE as u64);
-    say::text(b" bytes the list is written: ");
+pub fn store(rt: &impl Print, card: Card) -> bool {
+    say::text(rt, b"  4. Write the leaf and read it back.\n     As a leaf of ");
+    say::number(rt, leaves::NODESIZE as u64);
+    say::text(rt, b" bytes the list is written: ");
     let written = card::write_leaf(card, leaves::NODESIZE);
-    say::answer(written.refusal);
-    say::text(b", and read: ");
+    say::answer(rt, written.refusal);
+    say::text(rt, b", and read: ");
     let read = card::read_leaf(written.card, leaves::NODESIZE);
-    say::answer(read.refusal);
-    say::text(b".\n     With one bit changed it is ");
+    say::answer(rt, read.refusal);
+    say::text(rt, b".\n     With one bit changed it is ");
     let torn = card::read_leaf(damaged(written.card), leaves::NODESIZE);
-    say::answer(torn.refusal);
-    say::text(b".");
+    say::answer(rt, torn.refusal);
+    say::text(rt, b".");
     let back = read.card;
     let kept = same(
         card::list(&card.bytes, card.size),

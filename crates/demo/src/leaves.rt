@@ -65,7 +65,7 @@ fn maps_from(list: &[u8], first: u32) -> u32 {
 }
 
 // The two leaves in words, and whether both fit and have the maps up to that of `last`.
-fn two_leaves(whole: &[u8], cut: usize, last: u32) -> bool {
+fn two_leaves(rt: &impl Print, whole: &[u8], cut: usize, last: u32) -> bool {
     let at = start_of(whole, cut);
     if whole.len() < at {
         return false;
@@ -73,12 +73,12 @@ fn two_leaves(whole: &[u8], cut: usize, last: u32) -> bool {
     let one = &whole[0..at];
     let rest = behind(whole, at);
     let other = card::list(&rest.bytes, rest.size);
-    say::number(card::items(whole) as u64);
-    say::text(b" maps are divided into leaves of ");
-    say::number(card::items(one) as u64);
-    say::text(b" and ");
-    say::number(card::items(other) as u64);
-    say::text(b".");
+    say::number(rt, card::items(whole) as u64);
+    say::text(rt, b" maps are divided into leaves of ");
+    say::number(rt, card::items(one) as u64);
+    say::text(rt, b" and ");
+    say::number(rt, card::items(other) as u64);
+    say::text(rt, b".");
     let end = maps_from(other, maps_from(one, 1));
     fits(one) & fits(other) & (last < end)
 }
@@ -88,12 +88,12 @@ fn wide(number: u16) -> usize {
 }
 
 // The list divided at the item that the library names.
-pub fn divide(whole: &[u8], last: u32) -> bool {
+pub fn divide(rt: &impl Print, whole: &[u8], last: u32) -> bool {
     let mut cuts = [0u16; 64];
     match leaf_edit::split_to_fit(NODESIZE, whole, &mut cuts) {
         Edited::Written(later) => {
             if later == 1 {
-                return two_leaves(whole, wide(cuts[0]), last);
+                return two_leaves(rt, whole, wide(cuts[0]), last);
             }
             false
         }

@@ -1,8 +1,9 @@
 // The reference lister on the body of a new data extent.
 use crate::say;
 
-pub fn show() {
+pub fn show(rt: &impl Print) {
     say::text(
+        rt,
         b"An extent is a stretch of a card that holds data or a block of a tree. Its record says how often it\n\
           is used, its total; each user has a reference, in the record or in an item of its own. The lister\n\
           prints a new extent's record so: where its references start, its total, its flags and how many\n\
@@ -14,6 +15,6 @@ pub fn show() {
     fields::copy_at(&body, 0, 53, &mut input, 1);
     let mut text = [0u8; 327775];
     let n = lister_text::list_in_full(&input, &mut text);
-    say::indented(&text[..n]);
-    say::text(b"\n");
+    say::indented(rt, &text[..n]);
+    say::text(rt, b"\n");
 }

@@ -1,52 +1,51 @@
-// Words on standard output.
-use libc::STDOUT_FILENO;
+// Words on standard output. A write that fails is let go.
 
-pub fn text(bytes: &[u8]) {
-    io::write_all(STDOUT_FILENO, bytes);
+pub fn text(rt: &impl Print, bytes: &[u8]) {
+    let _ = rt.write_all(bytes);
 }
 
-pub fn number(n: u64) {
-    io::print_decimal(STDOUT_FILENO, n);
+pub fn number(rt: &impl Print, n: u64) {
+    let _ = rt.print(n);
 }
 
-pub fn times(n: u64) {
+pub fn times(rt: &impl Print, n: u64) {
     if n == 1 {
-        text(b"once");
+        text(rt, b"once");
         return;
     }
-    number(n);
-    text(b" times");
+    number(rt, n);
+    text(rt, b" times");
 }
 
 // Every line of a text, four spaces in.
-pub fn indented(lines: &[u8]) {
+pub fn indented(rt: &impl Print, lines: &[u8]) {
     let mut first = true;
     let mut i: usize = 0;
     while i < lines.len() {
         if first {
-            text(b"    ");
+            text(rt, b"    ");
         }
         first = lines[i] == b'\n';
         let next = i + 1;
-        text(&lines[i..next]);
+        text(rt, &lines[i..next]);
         i = next;
     }
 }
 
 // What a call answered: done, or refused with a number, and what the numbers that occur here say.
-pub fn answer(code: u32) {
+pub fn answer(rt: &impl Print, code: u32) {
     if code == 0 {
-        text(b"done");
+        text(rt, b"done");
         return;
     }
-    text(b"refused, number ");
-    number(code as u64);
+    text(rt, b"refused, number ");
+    number(rt, code as u64);
     match code {
-        5 => text(b" (no such reference)"),
-        9 => text(b" (it stands there already)"),
-        13 => text(b" (it is the extent's last reference)"),
-        18 => text(b" (it would not fit in the leaf)"),
-        23 => text(b" (its checksum is wrong)"),
-        _ => text(b""),
+        5 => text(rt, b" (no such reference)"),
+        9 => text(rt, b" (it stands there already)"),
+        13 => text(rt, b" (it is the extent's last reference)"),
+        18 => text(rt, b" (it would not fit in the leaf)"),
+        23 => text(rt, b" (its checksum is wrong)"),
+        _ => text(rt, b""),
     }
 }

@@ -6,55 +6,56 @@ use format::Key;
 use inline_refs::{Cursor, RefStep, Start};
 
 // A data reference's 28 bytes.
-fn data_ref(bytes: &[u8], at: usize)
+fn data_ref(rt: &impl Print, bytes: &[u8], at: usize)
     requires { at + 28 ≤ length bytes.now }
 {
-    say::text(b"file ");
-    say::number(fields::get_u64_le(bytes, at + 8));
-    say::text(b" of tree ");
-    say::number(fields::get_u64_le(bytes, at));
-    say::text(b", at offset ");
-    say::number(fields::get_u64_le(bytes, at + 16));
-    say::text(b", ");
-    say::times(fields::get_u32_le(bytes, at + 24) as u64);
+    say::text(rt, b"file ");
+    say::number(rt, fields::get_u64_le(bytes, at + 8));
+    say::text(rt, b" of tree ");
+    say::number(rt, fields::get_u64_le(bytes, at));
+    say::text(rt, b", at offset ");
+    say::number(rt, fields::get_u64_le(bytes, at + 16));
+    say::text(rt, b", ");
+    say::times(rt, fields::get_u32_le(bytes, at + 24) as u64);
 }
 
-fn shared_leaf(parent: u64, count: u32) {
-    say::text(b"the shared leaf at ");
-    say::number(parent);
-    say::text(b", ");
-    say::times(count as u64);
+fn shared_leaf(rt: &impl Print, parent: u64, count: u32) {
+    say::text(rt, b"the shared leaf at ");
+    say::number(rt, parent);
+    say::text(rt, b", ");
+    say::times(rt, count as u64);
 }
 
 // A reference that has no count.
-fn holder(kind: u8, field: u64) {
+fn holder(rt: &impl Print, kind: u8, field: u64) {
     match kind {
-        172 => say::text(b"its owner, tree "),
-        176 => say::text(b"tree "),
-        _ => say::text(b"the shared block at "),
+        172 => say::text(rt, b"its owner, tree "),
+        176 => say::text(rt, b"tree "),
+        _ => say::text(rt, b"the shared block at "),
     }
-    say::number(field);
+    say::number(rt, field);
 }
 
 // An inline reference. Those of 28 bytes are data references, those of 12 shared ones with a count.
-fn inline_ref(body: &[u8], kind: u8, start: usize, size: usize)
+fn inline_ref(rt: &impl Print, body: &[u8], kind: u8, start: usize, size: usize)
     requires { start + size ≤ length body.now }
 {
-    say::text(b"        by ");
+    say::text(rt, b"        by ");
     if size == 28 {
-        data_ref(body, start);
+        data_ref(rt, body, start);
     } else if size == 12 {
         shared_leaf(
+            rt,
             fields::get_u64_le(body, start),
             fields::get_u32_le(body, start + 8),
         );
     } else if size == 8 {
-        holder(kind, fields::get_u64_le(body, start));
+        holder(rt, kind, fields::get_u64_le(body, start));
     }
-    say::text(b"\n");
+    say::text(rt, b"\n");
 }
 
-fn inline_refs_from(body: &[u8], start: usize) {
+fn inline_refs_from(rt: &impl Print, body: &[u8], start: usize) {
     let rows = inline_refs::rows();
     let mut at = start;
     loop {
@@ -67,7 +68,7 @@ fn inline_refs_from(body: &[u8], start: usize) {
                 next,
                 ..
             } => {
-                inline_ref(body, kind, payload, size);
+                inline_ref(rt, body, kind, payload, size);
                 at = next.at;
             }
             RefStep::End => return,
@@ -76,55 +77,55 @@ fn inline_refs_from(body: &[u8], start: usize) {
     }
 }
 
-fn record(key: Key, body: &[u8]) {
+fn record(rt: &impl Print, key: Key, body: &[u8]) {
     if key.kind == 168 {
-        say::text(b"    data extent ");
+        say::text(rt, b"    data extent ");
     } else {
-        say::text(b"    tree block ");
+        say::text(rt, b"    tree block ");
     }
-    say::number(key.objectid);
-    say::text(b": used ");
-    say::times(card::total(body));
-    say::text(b"\n");
+    say::number(rt, key.objectid);
+    say::text(rt, b": used ");
+    say::times(rt, card::total(body));
+    say::text(rt, b"\n");
     match inline_refs::open_body(key.kind, body) {
-        Start::From(start) => inline_refs_from(body, start),
+        Start::From(start) => inline_refs_from(rt, body, start),
         Start::Refused(_) => return,
     }
 }
 
 // A reference that stands as an item of its own.
-fn own_item(key: Key, body: &[u8]) {
-    say::text(b"        by ");
+fn own_item(rt: &impl Print, key: Key, body: &[u8]) {
+    say::text(rt, b"        by ");
     if body.len() == 28 {
-        data_ref(body, 0);
+        data_ref(rt, body, 0);
     } else if body.len() == 4 {
-        shared_leaf(key.offset, fields::get_u32_le(body, 0));
+        shared_leaf(rt, key.offset, fields::get_u32_le(body, 0));
     } else {
-        holder(key.kind, key.offset);
+        holder(rt, key.kind, key.offset);
     }
-    say::text(b" (in an item of its own)\n");
+    say::text(rt, b" (in an item of its own)\n");
 }
 
 // The item from `at` up to `next`.
-fn item(list: &[u8], at: usize, next: usize)
+fn item(rt: &impl Print, list: &[u8], at: usize, next: usize)
     requires { (at + 21 ≤ next) × (next ≤ length list.now) }
 {
     let key = item_list::key_at(list, at);
     let data = at + 21;
     match key.kind {
-        168 | 169 => record(key, &list[data..next]),
-        _ => own_item(key, &list[data..next]),
+        168 | 169 => record(rt, key, &list[data..next]),
+        _ => own_item(rt, key, &list[data..next]),
     }
 }
 
-pub fn print(list: &[u8]) {
+pub fn print(rt: &impl Print, list: &[u8]) {
     let mut at: usize = 1;
     while at < list.len() {
         let size = item_list::size_at(list, at);
         if size == 0 {
             return;
         }
-        item(list, at, at + size);
+        item(rt, list, at, at + size);
         at += size;
     }
 }

@@ -4,8 +4,6 @@
 // lengths a run is what it is by bytes.
 ghost use Rattle.std.specs.Prelude.{◌≤◌, length};
 
-use libc::STDOUT_FILENO;
-
 fn by_run(bytes: &[u8]) -> u32 {
     crc32c::finish(crc32c::update(0xffff_ffff, bytes))
 }
@@ -41,22 +39,16 @@ fn by_numbers(bytes: &[u8]) -> u32 {
     crc32c::finish(crc32c::update(register, &bytes[at..]))
 }
 
-fn print(sum: u32, expected: u32) {
-    io::print_hex(STDOUT_FILENO, sum as u64, 8);
-    if sum == expected {
-        io::write_all(STDOUT_FILENO, b" equals ");
-    } else {
-        io::write_all(STDOUT_FILENO, b" differs from ");
-    }
-    io::print_hex(STDOUT_FILENO, expected as u64, 8);
-    io::write_all(STDOUT_FILENO, b"\n");
+fn print(rt: &impl Print, sum: u32, expected: u32) {
+    let verdict = if sum == expected { "equals" } else { "differs from" };
+    let _ = println!(rt; "{sum:08x} {verdict} {expected:08x}");
 }
 
-fn compare(bytes: &[u8], expected: u32) {
-    print(by_run(bytes), expected);
-    print(by_bytes(bytes), expected);
-    print(by_words(bytes), expected);
-    print(by_numbers(bytes), expected);
+fn compare(rt: &impl Print, bytes: &[u8], expected: u32) {
+    print(rt, by_run(bytes), expected);
+    print(rt, by_bytes(bytes), expected);
+    print(rt, by_words(bytes), expected);
+    print(rt, by_numbers(bytes), expected);
 }
 
 // Bytes that differ from their neighbours, and from those 256 further on.
@@ -83,29 +75,29 @@ fn agreeing(bytes: &[u8]) -> u64
     count
 }
 
-fn compare_long() {
+fn compare_long(rt: &impl Print) {
     let mut node = [0u8; 4064];
     fill(&mut node);
-    compare(&node, 0x9b1bd1a2);
-    io::print_decimal(STDOUT_FILENO, agreeing(&node));
-    io::write_all(STDOUT_FILENO, b" of 4064 runs are what they are by bytes\n");
+    compare(rt, &node, 0x9b1bd1a2);
+    let count = agreeing(&node);
+    let _ = println!(rt; "{count} of 4064 runs are what they are by bytes");
 }
 
-pub fn compare_all() {
+pub fn compare_all(rt: &impl Print) {
     let zeros = [0u8; 32];
-    compare(&zeros, 0x8a9136aa);
+    compare(rt, &zeros, 0x8a9136aa);
     let ones = [255u8; 32];
-    compare(&ones, 0x62a8ab43);
+    compare(rt, &ones, 0x62a8ab43);
     let rising =
         b"\x00\x01\x02\x03\x04\x05\x06\x07\x08\x09\x0a\x0b\x0c\x0d\x0e\x0f\x10\x11\x12\x13\x14\x15\x16\x17\x18\x19\x1a\x1b\x1c\x1d\x1e\x1f";
-    compare(rising, 0x46dd794e);
+    compare(rt, rising, 0x46dd794e);
     let falling =
         b"\x1f\x1e\x1d\x1c\x1b\x1a\x19\x18\x17\x16\x15\x14\x13\x12\x11\x10\x0f\x0e\x0d\x0c\x0b\x0a\x09\x08\x07\x06\x05\x04\x03\x02\x01\x00";
-    compare(falling, 0x113fdb5c);
+    compare(rt, falling, 0x113fdb5c);
     // a SCSI read command
     let read =
         b"\x01\xc0\x00\x00\x00\x00\x00\x00\x00\x00\x00\x00\x00\x00\x00\x00\x14\x00\x00\x00\x00\x00\x04\x00\x00\x00\x00\x14\x00\x00\x00\x18\x28\x00\x00\x00\x00\x00\x00\x00\x02\x00\x00\x00\x00\x00\x00\x00";
-    compare(read, 0xd9963a56);
-    compare(b"123456789", 0xe3069283);
-    compare_long();
+    compare(rt, read, 0xd9963a56);
+    compare(rt, b"123456789", 0xe3069283);
+    compare_long(rt);
 }

@@ -2,7 +2,6 @@
 ghost use Rattle.std.specs.Prelude.{◌≤◌, ◌<◌};
 
 use crc32c_tables::standing::Tables;
-use libc::STDOUT_FILENO;
 
 pub fn same(entry: u32, expected: u32) -> u64
     ensures { result ≤ 1 }
@@ -56,11 +55,8 @@ fn agreeing(tables: Tables) -> u64 {
     count
 }
 
-pub fn compare_all() {
+pub fn compare_all(rt: &impl Print) {
     let tables = crc32c_tables::standing::all();
-    io::print_decimal(STDOUT_FILENO, agreeing(tables));
-    io::write_all(
-        STDOUT_FILENO,
-        b" of 6400 entries of tables are the generator's\n",
-    );
+    let count = agreeing(tables);
+    let _ = println!(rt; "{count} of 6400 entries of tables are the generator's");
 }
