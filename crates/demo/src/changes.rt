@@ -193,7 +193,10 @@ fn takes(rt: &impl Print, card: Card) -> Card {
 }
 
 pub fn show(rt: &impl Print) {
-    say::text(rt, b"A small card with a map, which is data, and a block of a tree:\n\n");
+    say::text(
+        rt,
+        b"A small card with a map, which is data, and a block of a tree:\n\n",
+    );
     let before = with_block(with_map(card::empty()));
     words::print(rt, card::list(&before.bytes, before.size));
     say::text(

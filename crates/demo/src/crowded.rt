@@ -39,7 +39,10 @@ pub fn save(rt: &impl Print) -> bool {
     say::text(rt, b" bytes takes ");
     let full = fill();
     let before = full.card;
-    say::number(rt, card::items(card::list(&before.bytes, before.size)) as u64);
+    say::number(
+        rt,
+        card::items(card::list(&before.bytes, before.size)) as u64,
+    );
     say::text(rt, b" maps. One more: ");
     say::answer(rt, full.refusal);
     say::text(rt, b".\n     ");

@@ -28,7 +28,10 @@ fn damaged(leaf: Card) -> Card {
 
 // Whether it came out right.
 pub fn store(rt: &impl Print, card: Card) -> bool {
-    say::text(rt, b"  4. Write the leaf and read it back.\n     As a leaf of ");
+    say::text(
+        rt,
+        b"  4. Write the leaf and read it back.\n     As a leaf of ",
+    );
     say::number(rt, leaves::NODESIZE as u64);
     say::text(rt, b" bytes the list is written: ");
     let written = card::write_leaf(card, leaves::NODESIZE);

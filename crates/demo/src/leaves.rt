@@ -3,7 +3,7 @@ use crate::card::Card;
 use crate::{card, say, shifts};
 use format::{Edited, Judged};
 
-// Small, so that a leaf is soon full: the interpreter of `rt try` allows ten million steps.
+// Small, so that a leaf is soon full: the interpreter of `rt try` allows twenty million steps.
 pub const NODESIZE: u32 = 4096;
 
 fn fits(list: &[u8]) -> bool {

@@ -19,7 +19,10 @@ fn last_line(rt: &impl Print, wrong: u32) {
         return;
     }
     say::number(rt, wrong as u64);
-    say::text(rt, b" of the four checks did not come out as they should.\n");
+    say::text(
+        rt,
+        b" of the four checks did not come out as they should.\n",
+    );
 }
 
 fn main(rt: HostRuntime) {

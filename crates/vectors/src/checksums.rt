@@ -40,7 +40,11 @@ fn by_numbers(bytes: &[u8]) -> u32 {
 }
 
 fn print(rt: &impl Print, sum: u32, expected: u32) {
-    let verdict = if sum == expected { "equals" } else { "differs from" };
+    let verdict = if sum == expected {
+        "equals"
+    } else {
+        "differs from"
+    };
     let _ = println!(rt; "{sum:08x} {verdict} {expected:08x}");
 }
 
