@@ -1,29 +1,42 @@
 // Prints hashes of data references, the key of a new tree block, and both bodies of new extents: each lent output begins as bytes
-// of value ee, so that it shows which were written.
+// of value ee, so that it shows which were written. A write that fails is let go.
+
+fn end_line(rt: &impl Print) {
+    let _ = println!(rt;);
+}
 
 fn print_hash(rt: &impl Print, tree: u64, objectid: u64, offset: u64) {
     let hash = extent_write::data_ref_hash(tree, objectid, offset);
-    let _ = println!(rt; "{hash:016x}");
+    let _ = print!(rt; "{hash:016x}");
+    end_line(rt);
 }
 
 fn print_key(rt: &impl Print, key: format::Key) {
-    let _ = println!(rt; "{:016x}{:02x}{:016x}", key.objectid, key.kind, key.offset);
+    let _ = print!(rt; "{:016x}", key.objectid);
+    print_byte(rt, key.kind);
+    let _ = print!(rt; "{:016x}", key.offset);
+    end_line(rt);
 }
 
 fn print_answer(rt: &impl Print, answer: format::Edited) {
     let _ = match answer {
-        format::Edited::Written(n) => println!(rt; "written {n}"),
-        format::Edited::Absent => println!(rt; "absent"),
-        format::Edited::Remove => println!(rt; "remove"),
-        format::Edited::Refused(number) => println!(rt; "refused {number}"),
+        format::Edited::Written(n) => print!(rt; "written {n}"),
+        format::Edited::Absent => print!(rt; "absent"),
+        format::Edited::Remove => print!(rt; "remove"),
+        format::Edited::Refused(number) => print!(rt; "refused {number}"),
     };
+    end_line(rt);
+}
+
+fn print_byte(rt: &impl Print, byte: u8) {
+    let _ = print!(rt; "{byte:02x}");
 }
 
 fn print_bytes(rt: &impl Print, bytes: &[u8]) {
     for byte in bytes {
-        let _ = print!(rt; "{byte:02x}");
+        print_byte(rt, *byte);
     }
-    let _ = println!(rt;);
+    end_line(rt);
 }
 
 fn print_tree_block(rt: &impl Print, t: extent_write::TreeBlockAllocation, out: &mut [u8]) {
