@@ -54,7 +54,7 @@ module _ (s : List ℕ) (at k p n q next : ℕ) (h : At s at k p n q next) where
 length-positions : (at : ℕ) (refs : List Ref) → length (positions at refs) ≡ length refs
 unfolding positions
 length-positions at [] = refl
-length-positions at (r ∷ refs) = ap suc (length-positions _ refs)
+length-positions at (r ∷ refs) = ap suc (length-positions (at + (1 + 8 * length r.fields + cond {A = ℕ} (counted r.kind) 4 0)) refs)
 
 -- ---- the pass
 

@@ -40,15 +40,15 @@ lowers_by (SharedBlock parent) amount = lowered_by_part amount
 lowers_by (SharedData parent) amount = lowered_by_part amount
 
 -- the definition without cases
-pub drop_named : {d : List ℕ} {plan : Plan} (type : ℕ) (w : RefName) (amount : ℕ) → OneOff w amount
+pub drop-named : {d : List ℕ} {plan : Plan} (type : ℕ) (w : RefName) (amount : ℕ) → OneOff w amount
     → Planned plan d (drop_inline type d (kind_of w) (fields_of w) amount (lowers_by w amount)) → Planned plan d (drop_named type d w amount)
 unfolding drop_inline_tree_ref drop_inline_data_ref kind_of fields_of
-drop_named {d} {plan} type (Block name) amount e h =
+drop-named {d} {plan} type (Block name) amount e h =
     subst (λ (n : ℕ). Planned plan d (drop_inline type d 176 (one name.tree) n (λ standing. lowered_by_one))) e h
-drop_named {d} {plan} type (Data name) amount e h =
+drop-named {d} {plan} type (Data name) amount e h =
     subst (λ (n : ℕ). Planned plan d (drop_inline type d 178 (triple name) n (λ standing. lowered_by_one))) e h
-drop_named type (SharedBlock parent) amount e h = h
-drop_named type (SharedData parent) amount e h = h
+drop-named type (SharedBlock parent) amount e h = h
+drop-named type (SharedData parent) amount e h = h
 
 -- the fault that code asks for is the refusal of the total
 module _ (w : RefName) (amount standing n t : ℕ) (q : n ≡ drop_fault w amount standing t) (one : OneOff w amount) where

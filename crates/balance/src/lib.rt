@@ -1,4 +1,6 @@
 // Whether a sheet is balanced, in one pass over its items. The definition as such a pass is in specs/, proved equal to it by sums.
+#![tactic(auto)]
+
 mod group;
 mod marking;
 mod naming;

@@ -1,4 +1,6 @@
 // The text of the reference lister (document 01, "The reference lister"), for a type byte and a body.
+#![tactic(auto)]
+
 mod lines;
 
 ghost use Rattle.std.specs.Prelude.{◌≡◌, ◌≤◌, length, take};

@@ -3,7 +3,7 @@ use native.Mathlib.Omega.{arith}
 use Rattle.fields.proofs.Numbers.{are_bytes-in}
 use Rattle.format.proofs.Bodies.{read-long}
 use Rattle.backref.proofs.AddedAt.{scan-reads}
-use Rattle.backref.proofs.Takes.{drop_named, lowers-refused, lowers-passed, drop-fault, drop-absent, drop-refused, drop-gone, drop-kept}
+use Rattle.backref.proofs.Takes.{drop-named, lowers-refused, lowers-passed, drop-fault, drop-absent, drop-refused, drop-gone, drop-kept}
 use Rattle.backref.proofs.drop_plans.plan_drop.Goals as goal
 
 pub returns-in_default : goal.returns-in_default
@@ -12,7 +12,7 @@ returns-in_default c =
     let seen = c in
     let s = c in
     let r = scan-reads _ _ _ 0 _ (sym seen.in-Read.is ∙ seen.scan_body.ensures) in
-    drop_named _ _ _ s.requires (drop-absent _ _ _ _ _ _ _ r (sym c.in_default.is ∙ hit.hit_of.ensures) c.without.ensures.outcome_value)
+    drop-named _ _ _ s.requires (drop-absent _ _ _ _ _ _ _ r (sym c.in_default.is ∙ hit.hit_of.ensures) c.without.ensures.outcome_value)
 
 pub get_u64_le-total-requires : goal.get_u64_le-total-requires
 get_u64_le-total-requires c =
@@ -28,7 +28,7 @@ returns-then-fault-ne0 c =
     let seen = c in
     let s = c in
     let r = scan-reads _ _ _ 0 _ (sym seen.in-Read.is ∙ seen.scan_body.ensures) in
-    drop_named _ _ _ s.requires
+    drop-named _ _ _ s.requires
     (drop-refused _ _ _ _ _ _ _ r _ _ _ _ (sym got.in-At.is ∙ hit.hit_of.ensures) got.get_u64_le-total.ensures _
     (lowers-refused s.args.wanted _ _ _ _ fault.drop_fault-fault.ensures s.requires c.if-fault-ne0.true) c.refuse-then-fault-ne0.ensures.outcome_value)
 
@@ -43,7 +43,7 @@ returns-then-weight-amount c =
     let s = c in
     let a = s.args in
     let r = scan-reads a.item_type a.body.now a.wanted 0 _ (sym seen.in-Read.is ∙ scan.scan_body.ensures) in
-    drop_named a.item_type a.wanted _ s.requires
+    drop-named a.item_type a.wanted _ s.requires
     (drop-gone a.item_type a.body.now a.wanted _ _ _ _ r _ _ _ _ (sym got.in-At.is ∙ hit.hit_of.ensures)
     got.get_u64_le-total.ensures (are_bytes-in a.body.now (λ i. (scan.shared_slice_known-1.given i).fits)) _
     (lowers-passed a.wanted _ _ _ _ fault.drop_fault-fault.ensures s.requires _ less.if-fault-ne0.false less.total_less-rest.ensures)
@@ -52,7 +52,7 @@ returns-then-weight-amount c =
 pub returns-in-Fault : goal.returns-in-Fault
 returns-in-Fault c =
     let scan = c in
-    drop_named _ _ _ scan.requires
+    drop-named _ _ _ scan.requires
     (drop-fault _ _ _ _ _ _ _ (sym c.in-Fault.is ∙ scan.scan_body.ensures) c.refuse.ensures.outcome_value)
 
 pub returns-else-weight-amount : goal.returns-else-weight-amount
@@ -67,7 +67,7 @@ returns-else-weight-amount c =
     let s = c in
     let a = s.args in
     let r = scan-reads a.item_type a.body.now a.wanted 0 _ (sym seen.in-Read.is ∙ scan.scan_body.ensures) in
-    drop_named a.item_type a.wanted _ s.requires
+    drop-named a.item_type a.wanted _ s.requires
     (drop-kept a.item_type a.body.now a.wanted _ _ _ _ r _ _ _ _ (sym got.in-At.is ∙ hit.hit_of.ensures)
     got.get_u64_le-total.ensures (are_bytes-in a.body.now (λ i. (scan.shared_slice_known-1.given i).fits)) _
     (lowers-passed a.wanted _ _ _ _ fault.drop_fault-fault.ensures s.requires _ less.if-fault-ne0.false less.total_less-rest.ensures)

@@ -9,7 +9,7 @@ use Rattle.backref.proofs.total_plans.plan_total.Tie as tie
 use Rattle.backref.proofs.total_plans.plan_total.Goals as goal
 
 abbrev AfterGetU64LeTotal : Type 0
-AfterGetU64LeTotal = lts.After-get_u64_le tie.the-claims reads.Pre reads.Post
+AfterGetU64LeTotal = lts.After-get_u64_le tie.the-claims reads.Pre reads.Post tie.handed_clauses
 
 pub returns-then-fault-ne0 : goal.returns-then-fault-ne0
 returns-then-fault-ne0 c =
@@ -30,15 +30,15 @@ past c =
 
 pub returns-then-amount-total : goal.returns-then-amount-total
 returns-then-amount-total c =
-    let arm = c in let all = (past c.before.before.before.before).refuses _ _ (change-told _ arm.in-Raise.is (raised-no _ _ c.if-amount-total.true)) c.refuse-then-amount-total.ensures in record { planned = all.0; size_value = all.1 }
+    let arm = c in let all = (past c.before.before.before.before).refuses _ _ (change-told _ arm.in-Raise.is (raised-no _ _ c.if-amount-total.true)) (c.refuse-then-amount-total.ensures.outcome_value, c.refuse-then-amount-total.ensures.size_value) in record { planned = all.0; size_value = all.1 }
 
 pub returns-then-total-lt2 : goal.returns-then-total-lt2
 returns-then-total-lt2 c =
-    let arm = c in let all = (past c.before.before.before.before).refuses _ _ (change-told _ arm.in-LowerByOne.is (lowered-no _ c.if-total-lt2.true)) c.refuse-then-total-lt2.ensures in record { planned = all.0; size_value = all.1 }
+    let arm = c in let all = (past c.before.before.before.before).refuses _ _ (change-told _ arm.in-LowerByOne.is (lowered-no _ c.if-total-lt2.true)) (c.refuse-then-total-lt2.ensures.outcome_value, c.refuse-then-total-lt2.ensures.size_value) in record { planned = all.0; size_value = all.1 }
 
 pub returns-then-total-amount : goal.returns-then-total-amount
 returns-then-total-amount c =
-    let arm = c in let all = (past c.before.before.before.before).refuses _ _ (change-told _ arm.in-Reduce.is (reduced-no _ _ c.if-total-amount.true)) c.refuse-then-total-amount.ensures in record { planned = all.0; size_value = all.1 }
+    let arm = c in let all = (past c.before.before.before.before).refuses _ _ (change-told _ arm.in-Reduce.is (reduced-no _ _ c.if-total-amount.true)) (c.refuse-then-total-amount.ensures.outcome_value, c.refuse-then-total-amount.ensures.size_value) in record { planned = all.0; size_value = all.1 }
 
 pub returns-else-amount-total : goal.returns-else-amount-total
 returns-else-amount-total c =

@@ -12,7 +12,7 @@ pub returns-then-fault-ne0 : goal.returns-then-fault-ne0
 returns-then-fault-ne0 c =
     let part = c in
     let call = c in let all = (behind call.args.body.now _ _ refl _ call.head_fault-short.ensures _ part.if-short-ne0.false refl).refuses _ _
-    (part-refused _ _ _ _ part.part_fault-fault.ensures c.if-fault-ne0.true) c.refuse-then-fault-ne0.ensures in record { planned = all.0; size_value = all.1 }
+    (part-refused _ _ _ _ part.part_fault-fault.ensures c.if-fault-ne0.true) (c.refuse-then-fault-ne0.ensures.outcome_value, c.refuse-then-fault-ne0.ensures.size_value) in record { planned = all.0; size_value = all.1 }
 
 pub get_u64_le-requires : goal.get_u64_le-requires
 get_u64_le-requires c =

@@ -24,10 +24,10 @@ gap_is : (c : JoinedLeftRight) → c.if-left-right.gap ≡ (c.args.left - c.args
 gap_is c = elim c.if-left-right.branch [ then-left-right w ↦ w.gap-is ∙ gap_up _ _ w.if-left-right.true | else-left-right w ↦ w.gap-is ∙ gap_down _ _ w.if-left-right.false ]
 
 pub returns-in-Nowhere : goal.returns-in-Nowhere
-returns-in-Nowhere c = cut-new _ _ _ _ _ c.if-i-lt1.false c.if-nodesize-left.false c.if-nodesize-right.false _ (gap_is c.before.before) c.in-Nowhere.is
+returns-in-Nowhere c = cut-new _ _ _ _ _ c.if-i-lt1.false c.if-nodesize-left.false c.if-nodesize-right.false _ (gap_is c.before) c.in-Nowhere.is
 
 pub returns-then-gap-least : goal.returns-then-gap-least
-returns-then-gap-least c = cut-closer _ _ _ _ _ c.if-i-lt1.false c.if-nodesize-left.false c.if-nodesize-right.false _ (gap_is c.before.before.before) _ _ c.in-Before.is c.if-gap-least.true
+returns-then-gap-least c = cut-closer _ _ _ _ _ c.if-i-lt1.false c.if-nodesize-left.false c.if-nodesize-right.false _ (gap_is c.before.before) _ _ c.in-Before.is c.if-gap-least.true
 
 pub returns-in-Before : goal.returns-in-Before
-returns-in-Before c = cut-kept _ _ _ _ _ c.if-i-lt1.false c.if-nodesize-left.false c.if-nodesize-right.false _ (gap_is c.before.before.before) _ _ c.in-Before.is c.if-gap-least.false
+returns-in-Before c = cut-kept _ _ _ _ _ c.if-i-lt1.false c.if-nodesize-left.false c.if-nodesize-right.false _ (gap_is c.before.before) _ _ c.in-Before.is c.if-gap-least.false

@@ -14,7 +14,7 @@ use Rattle.leaf_edit.proofs.editing.put_new.Lts as lts
 use Rattle.leaf_edit.proofs.editing.put_new.Reads as reads
 use Rattle.leaf_edit.proofs.editing.put_new.Tie as tie
 use Rattle.leaf_edit.proofs.editing.put_new.Goals as goal
-use Rattle.leaf_edit.proofs.editing.put_new.Goals.{then-bounded, else-bounded}
+use Rattle.leaf_edit.proofs.editing.put_new.Goals.{then-bounded+else-nodesize-space, else-bounded}
 
 abbrev InFree : Type 0
 InFree = lts.Past-After-known_told2 tie.the-claims reads.Pre reads.Post
@@ -75,7 +75,7 @@ done : (c : JoinedBounded) → put_new c.args.nodesize c.args.sheet.now (asked c
 done c =
     let a = c.args in
     let i = free c.before in
-    elim c.if-bounded.branch [ then-bounded w ↦ put-within a.nodesize a.sheet.now (asked c.before) a.bounded _ _ i w.if-bounded.true w.if-nodesize-space.false | else-bounded w ↦ put-unbounded a.nodesize a.sheet.now (asked c.before) a.bounded _ _ i w.if-bounded.false ]
+    elim c.if-bounded.branch [ then-bounded+else-nodesize-space w ↦ put-within a.nodesize a.sheet.now (asked c.before) a.bounded _ _ i w.if-bounded.true w.if-nodesize-space.false | else-bounded w ↦ put-unbounded a.nodesize a.sheet.now (asked c.before) a.bounded _ _ i w.if-bounded.false ]
 
 pub returns-in-Free : goal.returns-in-Free
 returns-in-Free c =

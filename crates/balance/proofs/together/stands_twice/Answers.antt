@@ -1,0 +1,14 @@
+use mathlib.Core.Path.{sym, ap}
+use mathlib.Core.Bool.{not}
+use Rattle.balance.proofs.Admits.{clear-by, looked-up}
+use Rattle.balance.proofs.together.stands_twice.Goals as goal
+
+pub returns-then-n-known : goal.returns-then-n-known
+returns-then-n-known c =
+    let s = c in
+    ap not (sym (clear-by s.args.body.now s.args.from s.args.n s.args.known s.requires.distinct.0 c.if-n-known.true s.args.at s.requires.n_value.0))
+
+pub returns : goal.returns
+returns c =
+    let a = c.args in
+    ap not (sym (looked-up a.body.now a.from a.at _ c.triple_at.ensures a.n _ c.number_among.ensures))
