@@ -1,5 +1,7 @@
 // The one search and the one writer of calls that change an extent's record in an item list (document 01's sheet): the record's
 // body is a planned edit, and a second part behind the record may change with it.
+#![tactic(auto)]
+
 use format::Key;
 
 mod search;

@@ -31,7 +31,8 @@ first_below-first-requires c = let sp = c.span_for-span.ensures in (stride-is _ 
 
 pub stands-requires : goal.stands-requires
 stands-requires c =
-    let s = c in record { size_value = first-below-requires c.before.before κs; rank_value = (s.requires.named_by.rank_is, c.first_below-first.ensures) }
+    let s = c in
+    let sp = c.span_for-span.ensures in record { size_value = (stride-is _ _ _ c.stride-size.ensures sp.1, sp.0.falling); rank_value = (s.requires.named_by.rank_is, c.first_below-first.ensures) }
 
 pub returns-then-stands : goal.returns-then-stands
 returns-then-stands c =

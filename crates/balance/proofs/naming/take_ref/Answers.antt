@@ -4,7 +4,8 @@ use Rattle.balance.proofs.naming.take_ref.Goals as goal
 pub take_name-requires : goal.take_name-requires
 take_name-requires c =
     let s = c in
-    let p = s.requires.1 in record { rows_value = s.requires.rows_value; item_head_bound = (p.0.0, p.0.1.1); t = (p.1.0, (c.if-g.true, p.1.1)); named_by = named-form _ _ _ _ _ c.in-Of.is c.name_of.ensures }
+    let room = s.requires.item_head_bound in
+    let p = s.requires.t in record { rows_value = s.requires.rows_value; item_head_bound = (room.0, room.1.1); t = (p.0, (c.if-g.true, p.1)); named_by = named-form _ _ _ _ _ c.in-Of.is c.name_of.ensures }
 
 pub returns-else-g : goal.returns-else-g
 returns-else-g c =

@@ -1,11 +1,11 @@
 use mathlib.Core.Path.{sym, ◌∙◌, subst}
-use mathlib.Core.Logic.{⊎_elim}
 use native.Mathlib.Omega.{arith}
 use Rattle.balance.proofs.Turns.{Enters, enter-here, enter-new, turned, turn-open}
 use Rattle.balance.proofs.turning.turn.Lts as lts
 use Rattle.balance.proofs.turning.turn.Reads as reads
 use Rattle.balance.proofs.turning.turn.Tie as tie
 use Rattle.balance.proofs.turning.turn.Goals as goal
+use Rattle.balance.proofs.turning.turn.Goals.{then-key-g+else-g, else-key-g}
 
 abbrev JoinedKeyG : Type 0
 JoinedKeyG = lts.Joined1 tie.the-claims reads.Pre reads.Post tie.handed_clauses
@@ -26,10 +26,10 @@ entered c =
     let s = c in
     let k = c.key_at-key in
     let q = s.requires.at_value in
-    ⊎_elim
-    (λ w. enter-new s.args.s.now s.args.g s.args.at s.args.next _ k.ensures q.0 _ (w.4 ∙ w.3.ensures) w.0.taken w.2.left)
-    (λ w. subst (Enters s.args.s.now s.args.g s.args.at s.args.next _ k.ensures q.0) (sym w.1) (enter-here s.args.s.now s.args.g s.args.at s.args.next _ k.ensures q.0 q.1 w.0.left))
-    c.if-key-g.branch
+    elim c.if-key-g.branch [
+      | then-key-g+else-g w ↦ enter-new s.args.s.now s.args.g s.args.at s.args.next _ k.ensures q.0 _ (w.h-is ∙ w.begin-h.ensures) w.if-key-g.true w.if-g.false
+      | else-key-g w ↦ subst (Enters s.args.s.now s.args.g s.args.at s.args.next _ k.ensures q.0) (sym w.h-is) (enter-here s.args.s.now s.args.g s.args.at s.args.next _ k.ensures q.0 q.1 w.if-key-g.false)
+    ]
 
 pub take-requires : goal.take-requires
 take-requires c = let s = c in record { rows_value = s.requires.rows_value; item_head_bound = s.requires.item_head_bound; group_kept = (entered c.before).kept }

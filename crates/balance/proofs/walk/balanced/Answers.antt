@@ -14,7 +14,7 @@ use Rattle.balance.proofs.walk.balanced.Tie as tie
 use Rattle.balance.proofs.walk.balanced.Goals as goal
 
 abbrev AfterSizeAfterSize : Type 0
-AfterSizeAfterSize = lts.After-size_after tie.the-claims reads.Pre reads.Post goal.the-invariant-loop-at goal.the-decreases-loop-at
+AfterSizeAfterSize = lts.After-size_after tie.the-claims reads.Pre reads.Post goal.the-invariant-loop-at goal.the-decreases-loop-at tie.handed_clauses
 
 pub loop-at-init : goal.loop-at-init
 loop-at-init c =
