@@ -1,5 +1,7 @@
 // `record_of` and the calls of `transaction.rs`: those that change an extent's record in an item list (document 01's sheet), and
 // those on a body or a kind alone.
+#![tactic(auto)]
+
 mod adds;
 mod drop_edits;
 mod drop_kept;

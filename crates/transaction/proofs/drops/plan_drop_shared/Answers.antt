@@ -1,0 +1,12 @@
+use Rattle.fields.proofs.Numbers.{are_bytes-in}
+use Rattle.transaction.proofs.SharedDrops.{drop-item, drop-inline}
+use Rattle.transaction.proofs.drops.plan_drop_shared.Goals as goal
+
+pub returns-then-as_item : goal.returns-then-as_item
+returns-then-as_item c = drop-item _ _ _ _ _ c.if-as_item.true c.plan_total.ensures.planned
+
+pub returns : goal.returns
+returns c =
+    let b = c.args.body.now in
+    drop-inline _ _ _ _ _ c.if-as_item.false (are_bytes-in b (λ i. (c.shared_slice_known-1.given i).fits)) _ _
+    c.plan_take_shared-taken.ensures c.plan_needed-present.ensures c.plan_reduced.ensures

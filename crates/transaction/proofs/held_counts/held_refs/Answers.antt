@@ -1,0 +1,9 @@
+use mathlib.Core.Path.{subst}
+use Rattle.transaction.specs.Held.{SideBySide}
+use Rattle.transaction.proofs.held_counts.held_refs.Goals as goal
+
+pub returns-then-n-eq1 : goal.returns-then-n-eq1
+returns-then-n-eq1 c =
+    let s = c in
+    let a = s.args in
+    c.held_one.ensures _ _ (subst (SideBySide a.root a.ino a.body.now a.from) c.if-n-eq1.true s.requires.side_by_side)
