@@ -105,18 +105,16 @@ module _ (s : List ℕ) (target : RecordAt) (from to : ℕ) (name : DataRef) (ro
 -- a total that is not lowered: the item is not read
 pub total-refused : (s : List ℕ) (target : RecordAt) (room : ℕ) (next : List ℕ → Answer (List ℕ)) (p : Plan) (r : Edited) (old new : List ℕ)
     → Planned p (data_of s target.start target.end) (lower_total (data_of s target.start target.end))
-    → (tag_of the_type p.outcome ≡ 1) ⊎ ((tag_of the_type p.outcome ≡ 2) ⊎ (tag_of the_type p.outcome ≡ 3))
+    → (p.outcome ≡ Edit → ⊥)
     → Answered (bind (plan_answer p (data_of s target.start target.end)) (held_edit room target.item_count 65564 (edited_sheet s target (nothing (length s))))) r old new
     → Answered (bind (lower_total (data_of s target.start target.end)) next) r old new
 unfolding bind plan_outcome
-total-refused s target room next p r old new total tag w =
-    subst (λ (a : Answer (List ℕ)). Answered a r old new) (go p.outcome refl tag ∙ ap (λ (a : Answer (List ℕ)). bind a next) total.says) w
+total-refused s target room next p r old new total other w =
+    subst (λ (a : Answer (List ℕ)). Answered a r old new) (go p.outcome refl other ∙ ap (λ (a : Answer (List ℕ)). bind a next) total.says) w
   where
-    go : (o : Outcome) → p.outcome ≡ o → (tag_of the_type o ≡ 1) ⊎ ((tag_of the_type o ≡ 2) ⊎ (tag_of the_type o ≡ 3))
+    go : (o : Outcome) → p.outcome ≡ o → (o ≡ Edit → ⊥)
         → bind (plan_answer p (data_of s target.start target.end)) (held_edit room target.item_count 65564 (edited_sheet s target (nothing (length s)))) ≡ bind (plan_answer p (data_of s target.start target.end)) next
-    go Edit e (inl z) = absurd (let y : ◌≡◌ {A = ℕ} 0 1 = z in omega arith)
-    go Edit e (inr (inl z)) = absurd (let y : ◌≡◌ {A = ℕ} 0 2 = z in omega arith)
-    go Edit e (inr (inr z)) = absurd (let y : ◌≡◌ {A = ℕ} 0 3 = z in omega arith)
+    go Edit e h = absurd (h refl)
     go Absent e h = rw (plan-is p (data_of s target.start target.end) e)
     go Remove e h = rw (plan-is p (data_of s target.start target.end) e)
     go (Refused k) e h = rw (plan-is p (data_of s target.start target.end) e)

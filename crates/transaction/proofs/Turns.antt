@@ -47,15 +47,6 @@ is-absent p body e = plan-is p body e
 
 -- ---- by what was made of the inline plan
 
--- an answer by its number among the others
-pub other-edit : (r : Edited) → (tag_of the_type r ≡ 0) ⊎ ((tag_of the_type r ≡ 2) ⊎ (tag_of the_type r ≡ 3)) → r ≡ NoMatch → ⊥
-other-edit r h e = go (subst (λ (x : Edited). (tag_of the_type x ≡ 0) ⊎ ((tag_of the_type x ≡ 2) ⊎ (tag_of the_type x ≡ 3))) e h)
-  where
-    go : (◌≡◌ {A = ℕ} 1 0) ⊎ ((◌≡◌ {A = ℕ} 1 2) ⊎ (◌≡◌ {A = ℕ} 1 3)) → ⊥
-    go (inl z) = absurd (omega arith)
-    go (inr (inl z)) = absurd (omega arith)
-    go (inr (inr z)) = absurd (omega arith)
-
 -- an edit that was planned is refused or written
 asked-matches : (a b : Bool) (bytes : List ℕ) → edited_of (ask a 17 (ask b 21 (accepted bytes))) ≡ NoMatch → ⊥
 unfolding ask edited_of

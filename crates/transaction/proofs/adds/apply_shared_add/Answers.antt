@@ -41,16 +41,16 @@ stood : (c : InAt) → Stands c.args.sheet.now (found c).there.stands.at_cut c.i
 stood c = stands (bytes c) (found c).there.stands
 
 pub overflow_add-start : goal.overflow_add-start
-overflow_add-start c = let d = stood (c) in let p = d.ordered in let q = d.within in let m = d.small in omega arith
+overflow_add-start c = let d = stood c.before.before in let p = d.ordered in let q = d.within in let m = d.small in omega arith
 
 pub slice_bounds-plan_shared-count : goal.slice_bounds-plan_shared-count
-slice_bounds-plan_shared-count c = let d = stood (c) in let p = d.ordered in let q = d.within in let m = d.small in omega arith
+slice_bounds-plan_shared-count c = let d = stood c.before.before in let p = d.ordered in let q = d.within in let m = d.small in omega arith
 
 pub slice_bounds-plan_shared-start : goal.slice_bounds-plan_shared-start
-slice_bounds-plan_shared-start c = let d = stood (c) in let p = d.ordered in let q = d.within in omega arith
+slice_bounds-plan_shared-start c = let d = stood c.before.before in let p = d.ordered in let q = d.within in omega arith
 
 pub slice_bounds-plan_shared-end : goal.slice_bounds-plan_shared-end
-slice_bounds-plan_shared-end c = let d = stood (c) in d.within
+slice_bounds-plan_shared-end c = let d = stood c.before.before in d.within
 
 pub overflow_add-start-in-At : goal.overflow_add-start-in-At
 overflow_add-start-in-At c = let d = stood c.before.before.before.before in let p = d.ordered in let q = d.within in let m = d.small in omega arith

@@ -6,7 +6,7 @@ pub returns-in_default : goal.returns-in_default
 returns-in_default c =
     let s = c in
     total-refused s.args.sheet.now s.args.target (length s.args.out.now) _ _ _ s.args.out.now _
-    c.plan_total-rest.ensures.planned c.in_default.in_default-own.keys2 c.put_record.ensures
+    c.plan_total-rest.ensures.planned c.in_default.not-Edit c.put_record.ensures
 
 pub overflow_sub-count : goal.overflow_sub-count
 overflow_sub-count c =

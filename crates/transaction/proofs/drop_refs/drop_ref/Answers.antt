@@ -8,7 +8,7 @@ use Rattle.record_edit.specs.Records.{on_key}
 use Rattle.transaction.specs.Drops.{drop_ref}
 use Rattle.record_edit.proofs.Stands.{Stands, stands, key-answered}
 use Rattle.transaction.proofs.BehindRecord.{listed-behind, position-behind}
-use Rattle.transaction.proofs.Turns.{other-edit, put_other, put-absent, lent_again}
+use Rattle.transaction.proofs.Turns.{put_other, put-absent, lent_again}
 use Rattle.transaction.proofs.RefDrops.{drop-inline, drop-none, drop-item, count_fits}
 use Rattle.transaction.proofs.drop_refs.drop_ref.Lts as lts
 use Rattle.transaction.proofs.drop_refs.drop_ref.Reads as reads
@@ -46,7 +46,7 @@ returns-in_default c =
     let a = at.args in
     let put = c.put_record-edited.ensures in
     key-answered at.requires.stands_at (drop_ref a.name a.amount (list_items a.sheet.now)) (length a.out.now) _ a.out.now _
-    (drop-inline (stood c.before.before.before.before.before.before.before.before) a.name a.amount _ c.plan_drop-plan.ensures (length a.out.now) (put_other _ _ _ _ _ _ _ _ _ put (other-edit _ c.in_default.in_default-own.keys2)) _ a.out.now _ put)
+    (drop-inline (stood c.before.before.before.before.before.before.before.before) a.name a.amount _ c.plan_drop-plan.ensures (length a.out.now) (put_other _ _ _ _ _ _ _ _ _ put c.in_default.not-Absent) _ a.out.now _ put)
 
 pub seek-position-requires : goal.seek-position-requires
 seek-position-requires c = listed-behind (stood c.before.before.before.before.before.before.before.before.before.before)

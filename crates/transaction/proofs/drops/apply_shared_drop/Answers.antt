@@ -39,16 +39,16 @@ stood : (c : InAt) → Stands c.args.sheet.now (found c).there.stands.at_cut c.i
 stood c = stands (bytes c) (found c).there.stands
 
 pub overflow_add-start : goal.overflow_add-start
-overflow_add-start c = let d = stood (c) in let p = d.ordered in let q = d.within in let m = d.small in omega arith
+overflow_add-start c = let d = stood c.before.before in let p = d.ordered in let q = d.within in let m = d.small in omega arith
 
 pub slice_bounds-plan_drop_shared-count : goal.slice_bounds-plan_drop_shared-count
-slice_bounds-plan_drop_shared-count c = let d = stood (c) in let p = d.ordered in let q = d.within in let m = d.small in omega arith
+slice_bounds-plan_drop_shared-count c = let d = stood c.before.before in let p = d.ordered in let q = d.within in let m = d.small in omega arith
 
 pub slice_bounds-plan_drop_shared-start : goal.slice_bounds-plan_drop_shared-start
-slice_bounds-plan_drop_shared-start c = let d = stood (c) in let p = d.ordered in let q = d.within in omega arith
+slice_bounds-plan_drop_shared-start c = let d = stood c.before.before in let p = d.ordered in let q = d.within in omega arith
 
 pub slice_bounds-plan_drop_shared-end : goal.slice_bounds-plan_drop_shared-end
-slice_bounds-plan_drop_shared-end c = let d = stood (c) in d.within
+slice_bounds-plan_drop_shared-end c = let d = stood c.before.before in d.within
 
 pub put_record-requires : goal.put_record-requires
 put_record-requires c = let d = stood c.before.before.before.before.before in record { plan_in = c.plan_drop_shared-plan.ensures.inside; item_head_bound = (d.ordered, d.within, d.small) }

@@ -20,7 +20,7 @@ returns-then-number-eq0 c =
     let number = c in
     let s = c in
     held-nowhere _ _ _ _ _ s.requires.side_by_side.0 _ _ (times-at s.args.offsets.now _ number.loop-i-test.true)
-    (λ k h. none-there _ _ _ _ _ s.requires.side_by_side.0 k _ h (number.number_of_lem.ensures.none c.if-number-eq0.true k h))
+    (λ k h. none-there _ _ _ _ _ s.requires.side_by_side.0 k _ h (number.number_of-number.ensures.none c.if-number-eq0.true k h))
 
 pub overflow_cast-counts : goal.overflow_cast-counts
 overflow_cast-counts c =
@@ -32,7 +32,7 @@ overflow_add-counts c =
     let number = c in
     let loop = number.loop-i in
     let s = c in
-    let inside : number.number_of_lem.result - 1 < s.args.n = omega (arith, number.number_of_lem.ensures.inside, c.if-number-eq0.false) in
+    let inside : number.number_of-number.result - 1 < s.args.n = omega (arith, number.number_of-number.ensures.inside, c.if-number-eq0.false) in
     omega (arith, tallied-few _ _ _ _ _ s.requires.side_by_side.0 _ _ _ loop.invariant.2 _ inside, c.equal_end-end.ensures.inside, s.requires.body_len_bound.1)
 
 pub loop-i-smaller : goal.loop-i-smaller
@@ -47,12 +47,12 @@ loop-i-preserved c =
     let loop = number.loop-i in
     let s = c in
     let equal = c.equal_end-end.ensures in
-    let some : 0 < number.number_of_lem.result = omega (arith, c.if-number-eq0.false) in
-    let inside : number.number_of_lem.result - 1 < s.args.n = omega (arith, number.number_of_lem.ensures.inside, some) in
+    let some : 0 < number.number_of-number.result = omega (arith, c.if-number-eq0.false) in
+    let inside : number.number_of-number.result - 1 < s.args.n = omega (arith, number.number_of-number.ensures.inside, some) in
     let room : s.args.n ≤ length loop.counts = omega (arith, loop.invariant.1, s.requires.n_in_bounds.0) in (
       equal.inside,
-      length-set loop.counts (number.number_of_lem.result - 1) _ ∙ loop.invariant.1,
-      tallied-more _ _ _ _ _ s.requires.side_by_side.0 _ _ _ loop.invariant.2 s.requires.side_by_side.1 room _ _ _ inside (same-offset _ _ _ _ (number.number_of_lem.ensures.some some)) _ equal.equal,
+      length-set loop.counts (number.number_of-number.result - 1) _ ∙ loop.invariant.1,
+      tallied-more _ _ _ _ _ s.requires.side_by_side.0 _ _ _ loop.invariant.2 s.requires.side_by_side.1 room _ _ _ inside (same-offset _ _ _ _ (number.number_of-number.ensures.some some)) _ equal.equal,
     )
 
 pub all_weigh-requires : goal.all_weigh-requires
