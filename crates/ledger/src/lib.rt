@@ -1,4 +1,6 @@
 // The ledger (document 01's books): one change posted to a balanced item list.
+#![tactic(auto)]
+
 mod adds;
 mod also;
 mod owned;

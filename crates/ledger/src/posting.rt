@@ -118,7 +118,7 @@ fn unbalanced_or(sheet: &[u8], otherwise: u32) -> u32
 
 // Document 01's posting: the sheet with the change, into `out`.
 pub fn post(sheet: &[u8], nodesize: u32, change: Change, out: &mut [u8]) -> Edited
-    ensures* { λ r. ⌜ CallKept sheet.now (record { nodesize = nodesize; change = change; old = out.old; new = out.new; result = r }) ⌝ }
+    ensures { CallKept sheet.now (record { nodesize = nodesize; change = change; old = out.old; new = out.new; result = result }) }
 {
     let three = change_fits(nodesize, change);
     let found = record_edit::find_record(sheet, extent_of(change), three);
