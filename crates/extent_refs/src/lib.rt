@@ -1,6 +1,8 @@
 // Every exported call, for `rt staticlib extent_refs`: an archive holds only the exports of its own crate. An export hands its
 // arguments to the function of its name and the answer back as numbers (codes.rt); a change of the ledger comes as numbers
 // (changes.rt).
+#![tactic(auto)]
+
 mod backref_calls;
 mod changes;
 mod codes;

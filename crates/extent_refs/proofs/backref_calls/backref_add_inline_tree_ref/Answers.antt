@@ -1,0 +1,5 @@
+use Rattle.extent_refs.proofs.Answers.{coded}
+use Rattle.extent_refs.proofs.backref_calls.backref_add_inline_tree_ref.Goals as goal
+
+pub returns : goal.returns
+returns c = coded c.add_inline_tree_ref-answer.ensures c.put_edited.ensures

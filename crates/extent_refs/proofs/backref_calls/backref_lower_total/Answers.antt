@@ -1,0 +1,5 @@
+use Rattle.extent_refs.proofs.Answers.{coded}
+use Rattle.extent_refs.proofs.backref_calls.backref_lower_total.Goals as goal
+
+pub returns : goal.returns
+returns c = coded c.lower_total-answer.ensures c.put_edited.ensures

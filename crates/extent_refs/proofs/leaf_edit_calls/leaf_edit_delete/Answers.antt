@@ -1,0 +1,5 @@
+use Rattle.extent_refs.proofs.Answers.{coded}
+use Rattle.extent_refs.proofs.leaf_edit_calls.leaf_edit_delete.Goals as goal
+
+pub returns : goal.returns
+returns c = coded c.delete-answer.ensures c.put_edited.ensures

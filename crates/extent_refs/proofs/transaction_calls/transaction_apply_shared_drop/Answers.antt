@@ -1,0 +1,5 @@
+use Rattle.extent_refs.proofs.Answers.{coded}
+use Rattle.extent_refs.proofs.transaction_calls.transaction_apply_shared_drop.Goals as goal
+
+pub returns : goal.returns
+returns c = coded c.apply_shared_drop-answer.ensures c.put_edited.ensures
