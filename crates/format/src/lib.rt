@@ -2,7 +2,6 @@
 // references, changes, and what calls answer.
 #![tactic(auto)]
 
-
 // Types of items and of inline references (btrfs's key types).
 pub const EXTENT_ITEM: u8 = 168;
 

@@ -17,7 +17,7 @@ use Rattle.fields.proofs.Lists.{cond_yes, cond_no, some_inj, no-some, sum-append
 use Rattle.fields.proofs.Numbers.{length-le_bytes}
 use Rattle.fields.proofs.Parts.{length-written}
 use Rattle.format.specs.declared.Key.{Key}
-use Rattle.format.specs.Questions.{Answer, refused, accepted, bind, needed, found}
+use Rattle.format.specs.Questions.{Answer, refused, accepted, bind, needed}
 use Rattle.format.specs.References.{known, payload_length, field_count, Ref, refs_bytes, Body, body_with, total_of, body_bytes}
 use Rattle.format.specs.Bodies.{named, weighed, body_fits, on_head, on_total, less}
 use Rattle.format.specs.Items.{Item, data_fits, sheet_holds, with_bytes, put_back, without}

@@ -1,6 +1,5 @@
 -- One count off a data reference's own item, or an amount off a shared one's, and off the total. Assumes nothing.
 use mathlib.Core.Path.{◌≡◌, refl, sym, ap, ap₂, ◌∙◌, subst}
-use mathlib.Core.Logic.{◌⊎◌, inl, inr}
 use mathlib.Core.Bool.{Bool, true, false, ◌&&◌, cond}
 use mathlib.Core.List.{List}
 use Prim.Native.Nat.{ℕ, ◌+◌, ◌-◌, ◌≤◌, ◌<◌}
@@ -10,7 +9,6 @@ use lib.ListN.{length}
 use lib.Seq.{take_all}
 use mir.Facts.{and_yes}
 use borrow.Author.Tests.{lt-ltb, le-ltb}
-use denote.Enum.Declared.{tag_of}
 use Rattle.fields.specs.Lists.{same}
 use Rattle.fields.specs.Numbers.{le, le_bytes, words}
 use Rattle.fields.specs.Parts.{part, written}
@@ -26,7 +24,6 @@ use Rattle.backref.specs.declared.plan.Outcome.{Outcome}
 use Rattle.backref.specs.declared.plan.Outcome.TheVariants.{Edit, Absent, Remove, Refused}
 use Rattle.backref.specs.declared.plan.Plan.{Plan}
 use Rattle.backref.specs.Plans.{edited, plan_outcome, plan_answer, Planned}
-use Rattle.backref.specs.contracts.plan.Outcome.{the_type}
 use Rattle.backref.proofs.Outcomes.{plan-is}
 use Rattle.record_edit.specs.declared.RecordAt.{RecordAt}
 use Rattle.record_edit.specs.Records.{data_of, nothing, edited_sheet, held_edit}

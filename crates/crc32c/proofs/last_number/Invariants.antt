@@ -10,6 +10,5 @@ use Rattle.crc32c.proofs.last_number.Given as goal
 abbrev pub invariant-loop-i : goal.invariant-loop-i
 invariant-loop-i l = (l.i ≤ length l.bytes) × (l.at ≤ l.i) × (l.x ≡ le (drop l.i l.bytes)) × (l.x < 256 ^ (length l.bytes - l.i))
 
-
 abbrev pub decreases-loop-i : goal.decreases-loop-i
 decreases-loop-i l = l.i

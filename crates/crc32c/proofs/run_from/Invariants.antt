@@ -10,6 +10,5 @@ use Rattle.crc32c.proofs.run_from.Given as goal
 abbrev pub invariant-loop-at : goal.invariant-loop-at
 invariant-loop-at l = (l.at ≤ length l.bytes) × (crc_run crc32c l.r (drop l.at l.bytes) ≡ crc_run crc32c l.register (drop l.from l.bytes))
 
-
 abbrev pub decreases-loop-at : goal.decreases-loop-at
 decreases-loop-at l = length l.bytes - l.at

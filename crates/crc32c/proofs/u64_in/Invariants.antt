@@ -10,6 +10,5 @@ use Rattle.crc32c.proofs.u64_in.Given as goal
 abbrev pub invariant-loop-i : goal.invariant-loop-i
 invariant-loop-i l = (l.i ≤ 2) × (crc_run crc32c l.r (le_bytes (4 * (2 - l.i)) l.rest) ≡ crc_run crc32c l.register (le_bytes 8 l.x))
 
-
 abbrev pub decreases-loop-i : goal.decreases-loop-i
 decreases-loop-i l = 2 - l.i

@@ -9,6 +9,5 @@ use Rattle.crc32c_steps.proofs.entry.Given as goal
 abbrev pub invariant-loop-k : goal.invariant-loop-k
 invariant-loop-k l = (l.k ≤ 8) × (steps l.polynomial (8 - l.k) l.register ≡ steps l.polynomial 8 l.n)
 
-
 abbrev pub decreases-loop-k : goal.decreases-loop-k
 decreases-loop-k l = 8 - l.k

@@ -9,6 +9,5 @@ use Rattle.crc32c_steps.proofs.table_of.Given as goal
 abbrev pub invariant-loop-n : goal.invariant-loop-n
 invariant-loop-n l = (l.n ≤ 256) × (length l.table ≡ 256) × (take l.n l.table ≡ take l.n (table_of l.polynomial))
 
-
 abbrev pub decreases-loop-n : goal.decreases-loop-n
 decreases-loop-n l = 256 - l.n

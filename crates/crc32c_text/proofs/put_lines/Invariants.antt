@@ -12,6 +12,5 @@ abbrev pub invariant-loop-n : goal.invariant-loop-n
 invariant-loop-n l =
     Makes (hex_lines (drop l.n l.table)) l.at l.out (hex_lines l.table) 0 l.initial.out × (l.at ≡ 9 * l.n) × (l.n ≤ 256) × (length l.table ≡ 256) × (length l.out ≡ length l.initial.out)
 
-
 abbrev pub decreases-loop-n : goal.decreases-loop-n
 decreases-loop-n l = 256 - l.n

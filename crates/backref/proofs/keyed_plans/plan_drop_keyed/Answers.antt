@@ -43,8 +43,11 @@ returns-then-count-eq0 c =
     let row = c in
     let a = row.args in
     let long = long-is _ row.lengths_of-row.ensures.0 in
-    let at = at-is _ row.lengths_of-row.ensures.1 in record { planned = keyed-none a.item.now a.name _ (names.if-item-row.false ∙ long) _ names.names_triple.ensures (not-false _ got.if-not-names_triple.false-raw)
-          _ (got.get_u32_le-count.ensures ∙ ap (λ (n : ℕ). le (part n 4 a.item.now)) at) c.if-count-eq0.true c.refuse-then-count-eq0.ensures.outcome_value; size_value = c.refuse-then-count-eq0.ensures.size_value }
+    let at = at-is _ row.lengths_of-row.ensures.1 in record {
+      planned = keyed-none a.item.now a.name _ (names.if-item-row.false ∙ long) _ names.names_triple.ensures (not-false _ got.if-not-names_triple.false-raw)
+          _ (got.get_u32_le-count.ensures ∙ ap (λ (n : ℕ). le (part n 4 a.item.now)) at) c.if-count-eq0.true c.refuse-then-count-eq0.ensures.outcome_value;
+      size_value = c.refuse-then-count-eq0.ensures.size_value;
+    }
 
 pub returns-then-count-eq1 : goal.returns-then-count-eq1
 returns-then-count-eq1 c =
@@ -53,8 +56,11 @@ returns-then-count-eq1 c =
     let row = c in
     let a = row.args in
     let long = long-is _ row.lengths_of-row.ensures.0 in
-    let at = at-is _ row.lengths_of-row.ensures.1 in record { planned = keyed-last a.item.now a.name _ (names.if-item-row.false ∙ long) _ names.names_triple.ensures (not-false _ got.if-not-names_triple.false-raw)
-          _ (got.get_u32_le-count.ensures ∙ ap (λ (n : ℕ). le (part n 4 a.item.now)) at) c.if-count-eq1.true c.without.ensures.outcome_value; size_value = c.without.ensures.size_value }
+    let at = at-is _ row.lengths_of-row.ensures.1 in record {
+      planned = keyed-last a.item.now a.name _ (names.if-item-row.false ∙ long) _ names.names_triple.ensures (not-false _ got.if-not-names_triple.false-raw)
+          _ (got.get_u32_le-count.ensures ∙ ap (λ (n : ℕ). le (part n 4 a.item.now)) at) c.if-count-eq1.true c.without.ensures.outcome_value;
+      size_value = c.without.ensures.size_value;
+    }
 
 pub get_u64_le-tree-requires : goal.get_u64_le-tree-requires
 get_u64_le-tree-requires c =
@@ -71,8 +77,11 @@ returns c =
     let known = c in
     let a = known.args in
     let long = long-is _ row.lengths_of-row.ensures.0 in
-    let at = at-is _ row.lengths_of-row.ensures.1 in record { planned = keyed-less a.item.now a.name _ (names.if-item-row.false ∙ long) _ names.names_triple.ensures (not-false _ got.if-not-names_triple.false-raw)
+    let at = at-is _ row.lengths_of-row.ensures.1 in record {
+      planned = keyed-less a.item.now a.name _ (names.if-item-row.false ∙ long) _ names.names_triple.ensures (not-false _ got.if-not-names_triple.false-raw)
           _ (got.get_u32_le-count.ensures ∙ ap (λ (n : ℕ). le (part n 4 a.item.now)) at) _ _
           (are_bytes-in a.item.now (λ i. (known.shared_slice_known-1.given i).fits))
           tree.if-count-eq0.false tree.if-count-eq1.false tree.get_u64_le-tree.ensures c.count_bytes.ensures
-          (c.edit.ensures ∙ ap₂ (λ (from to : ℕ). plan_of from to c.count_bytes.result 4 tree.get_u64_le-tree.result 0) at long); size_value = keeps-length c.edit.ensures (omega (arith, long, at)) }
+          (c.edit.ensures ∙ ap₂ (λ (from to : ℕ). plan_of from to c.count_bytes.result 4 tree.get_u64_le-tree.result 0) at long);
+      size_value = keeps-length c.edit.ensures (omega (arith, long, at));
+    }

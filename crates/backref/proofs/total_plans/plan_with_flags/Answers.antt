@@ -25,6 +25,9 @@ pub returns : goal.returns
 returns c =
     let flags = c in
     let test = c in
-    let a = test.args in record { planned = flags-plan a.body.now _ _ _ a.set _ _ test.head_fault-fault.ensures test.if-fault-ne0.false
+    let a = test.args in record {
+      planned = flags-plan a.body.now _ _ _ a.set _ _ test.head_fault-fault.ensures test.if-fault-ne0.false
           (are_bytes-in a.body.now (λ i. (test.shared_slice_known-1.given i).fits))
-          flags.get_u64_le-total.ensures flags.get_u64_le.ensures c.word_bytes.ensures c.edit.ensures; size_value = keeps-length c.edit.ensures refl }
+          flags.get_u64_le-total.ensures flags.get_u64_le.ensures c.word_bytes.ensures c.edit.ensures;
+      size_value = keeps-length c.edit.ensures refl;
+    }

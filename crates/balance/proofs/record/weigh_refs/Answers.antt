@@ -1,5 +1,4 @@
 use mathlib.Core.Path.{sym, ◌∙◌}
-use Prim.Native.Nat.{◌-◌}
 use native.Mathlib.Omega.{arith}
 use Rattle.inline_refs.proofs.Steps.{seen}
 use Rattle.balance.proofs.Weighs.{weigh-start, none_passed, kept-to, weigh-step, weigh-no, weigh-end, weigh-fault}

@@ -1,6 +1,5 @@
 use mathlib.Core.Path.{sym, ap}
 use mathlib.Core.Bool.{not}
-use Prim.Native.Nat.{◌-◌}
 use native.Mathlib.Omega.{arith}
 use Rattle.balance.proofs.Halves.{room, rank_is, named-is, scan-start, scan-end, scan-stop, scan-hit, scan-next}
 use Rattle.balance.proofs.search.stands.Goals as goal

@@ -1,6 +1,5 @@
 use mathlib.Core.Path.{refl, sym, ◌∙◌}
 use mathlib.Core.List.{[]}
-use Prim.Native.Nat.{◌-◌}
 use native.Mathlib.Omega.{arith}
 use Rattle.inline_refs.proofs.Steps.{seen}
 use Rattle.balance.proofs.Steps.{skip-end, skip_stop, skip-next, step_end, step-never}

@@ -10,6 +10,5 @@ abbrev pub invariant-loop-n : goal.invariant-loop-n
 invariant-loop-n l =
     (l.n ≤ 256) × (length l.row ≡ 256) × (take l.n l.row ≡ take l.n (table_entries (steps crc32c (8 * (l.k + 1))) 256 0))
 
-
 abbrev pub decreases-loop-n : goal.decreases-loop-n
 decreases-loop-n l = 256 - l.n

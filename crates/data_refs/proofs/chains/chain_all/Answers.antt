@@ -1,5 +1,5 @@
 use mathlib.Core.Path.{◌≡◌, refl, ap, ◌∙◌, subst}
-use Prim.Native.Nat.{◌-◌, ◌<◌}
+use Prim.Native.Nat.{◌<◌}
 use native.Mathlib.Omega.{arith}
 use mir.Facts.{Fits-widen}
 use lib.ListN.{length, length-set}
@@ -25,10 +25,13 @@ pub walk-requires : goal.walk-requires
 walk-requires c =
     let pre = c.requires in
     let inv = c.loop-i.invariant in
-    let more = c.loop-i-test.true in record { i_in_bounds = (omega (arith, pre.n_in_bounds.0, more), pre.n_in_bounds.1.0); i_in_bounds_2 = (
+    let more = c.loop-i-test.true in record {
+      i_in_bounds = (omega (arith, pre.n_in_bounds.0, more), pre.n_in_bounds.1.0);
+      i_in_bounds_2 = (
         omega (arith, pre.in_bounds.1.1, inv.0.1.1, more),
         first-leads _ _ _ _ _ _ inv.1.1 _ _ c.chain_of-chain.ensures.0,
-      ) }
+      );
+    }
 
 pub returns-then-walk-ne0 : goal.returns-then-walk-ne0
 returns-then-walk-ne0 c =

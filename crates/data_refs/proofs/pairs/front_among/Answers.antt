@@ -1,5 +1,4 @@
 use mathlib.Core.Path.{◌≡◌, subst}
-use Prim.Native.Nat.{◌-◌}
 use native.Mathlib.Omega.{arith}
 use Rattle.data_refs.specs.Triples.{Distinct}
 use Rattle.data_refs.proofs.Differing.{none-twice, one_more, repeats}

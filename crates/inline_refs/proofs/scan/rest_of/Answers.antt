@@ -1,5 +1,4 @@
 use mathlib.Core.Path.{sym, ◌∙◌}
-use Prim.Native.Nat.{◌-◌}
 use native.Mathlib.Omega.{arith}
 use Rattle.inline_refs.proofs.Steps.{seen}
 use Rattle.inline_refs.proofs.Notes.{rest-step, rest_end, rest-fault}

@@ -1,6 +1,6 @@
 use borrow.Author.Rules.{rules}
 use mathlib.Core.Path.{refl, sym, ◌∙◌}
-use Prim.Native.Nat.{◌+◌, ◌-◌}
+use Prim.Native.Nat.{◌+◌}
 use native.Mathlib.Omega.{arith}
 use Rattle.item_list.proofs.Steps.{WholeAt, whole-size, past_next}
 use Rattle.item_list.proofs.Reading.{checked-end, checked-broken, checked-step}

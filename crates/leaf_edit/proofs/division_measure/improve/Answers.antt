@@ -3,7 +3,6 @@ use Prim.Native.Nat.{◌+◌, ◌-◌}
 use Rattle.leaf_edit.proofs.Running.{keep-first, keep_left, keep-right, cut-new, cut-closer, cut-kept, gap_up, gap_down}
 use Rattle.leaf_edit.proofs.division_measure.improve.Lts as lts
 use Rattle.leaf_edit.proofs.division_measure.improve.Reads as reads
-use Rattle.leaf_edit.proofs.division_measure.improve.Tie as tie
 use Rattle.leaf_edit.proofs.division_measure.improve.Goals as goal
 use Rattle.leaf_edit.proofs.division_measure.improve.Goals.{then-left-right, else-left-right}
 

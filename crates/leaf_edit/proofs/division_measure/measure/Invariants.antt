@@ -8,11 +8,9 @@ use Rattle.item_list.proofs.Walks.{Walked}
 use Rattle.leaf_edit.proofs.Together.{Measuring}
 use Rattle.leaf_edit.proofs.division_measure.measure.Given as goal
 
-
 abbrev pub invariant-loop-at : goal.invariant-loop-at
 invariant-loop-at l =
     PastItem l.s l.at l.size × Walked l.s l.at (λ (rest : List Item). Measuring l.nodesize (list_items l.s) l.i l.left l.right l.best l.used l.leaves rest)
-
 
 abbrev pub decreases-loop-at : goal.decreases-loop-at
 decreases-loop-at l = length l.s - l.at

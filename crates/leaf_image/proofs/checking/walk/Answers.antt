@@ -1,5 +1,5 @@
 use mathlib.Core.Path.{sym, ◌∙◌}
-use Prim.Native.Nat.{◌-◌, ◌<◌}
+use Prim.Native.Nat.{◌<◌}
 use native.Mathlib.Omega.{arith}
 use Rattle.format.specs.LeafImage.{count_in}
 use Rattle.leaf_image.proofs.Packed.{behind-first, behind-low, behind-apart, behind-next, behind-end}

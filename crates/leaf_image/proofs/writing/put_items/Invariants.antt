@@ -8,11 +8,9 @@ use Rattle.item_list.proofs.Walks.{Walked}
 use Rattle.leaf_image.proofs.Written.{Placing}
 use Rattle.leaf_image.proofs.writing.put_items.Given as goal
 
-
 abbrev pub invariant-loop-from : goal.invariant-loop-from
 invariant-loop-from l =
     PastItem l.sheet l.from l.size × Walked l.sheet l.from (λ (rest : List Item). Placing l.nodesize (list_items l.sheet) l.initial.out l.out l.at l.end rest)
-
 
 abbrev pub decreases-loop-from : goal.decreases-loop-from
 decreases-loop-from l = length l.sheet - l.from

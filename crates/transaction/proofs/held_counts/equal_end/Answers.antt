@@ -1,4 +1,3 @@
-use Prim.Native.Nat.{◌-◌}
 use native.Mathlib.Omega.{arith}
 use Rattle.transaction.proofs.Counts.{equal-none, equal-more}
 use Rattle.transaction.proofs.held_counts.equal_end.Goals as goal

@@ -4,11 +4,9 @@ use lib.ListN.{length, drop}
 use Rattle.transaction.specs.Held.{Tallied}
 use Rattle.transaction.proofs.held_counts.held_by_counts.Given as goal
 
-
 abbrev pub invariant-loop-i : goal.invariant-loop-i
 invariant-loop-i l =
     (l.i ≤ length l.offsets) × (length l.counts ≡ length l.initial.counts) × Tallied l.body l.from l.n l.offsets l.counts (drop l.i l.offsets)
-
 
 abbrev pub decreases-loop-i : goal.decreases-loop-i
 decreases-loop-i l = length l.offsets - l.i
