@@ -1,4 +1,4 @@
-//! Links target/staticlib/libextent_refs.a of the repository, or the one in the folder that
+//! Links crates/extent_refs/out/libextent_refs.a of the repository, or the one in the folder that
 //! EXTENT_REFS_ARCHIVE names. A declared call that the archive does not define gets a stand-in
 //! that ends the program, so that model and original can be compared while a call is still being
 //! written, and no made-up answer is ever taken for one. The differential run fails there.
@@ -10,7 +10,7 @@ fn main() {
     let here = PathBuf::from(env::var("CARGO_MANIFEST_DIR").unwrap());
     let folder = env::var("EXTENT_REFS_ARCHIVE")
         .map(PathBuf::from)
-        .unwrap_or_else(|_| here.join("../../target/staticlib"));
+        .unwrap_or_else(|_| here.join("../../crates/extent_refs/out"));
     let archive = folder.join("libextent_refs.a");
     println!("cargo:rerun-if-env-changed=EXTENT_REFS_ARCHIVE");
     println!("cargo:rerun-if-changed=build.rs");
@@ -19,7 +19,7 @@ fn main() {
 
     let defined = fs::read(&archive).map(|bytes| symbols(&bytes)).unwrap_or_default();
     if defined.is_empty() {
-        println!("cargo:warning=libextent_refs.a is not there: run 'rt staticlib extent_refs'");
+        println!("cargo:warning=libextent_refs.a is not there: run 'rt lib' in crates/extent_refs");
     } else {
         println!("cargo:rustc-link-search=native={}", folder.canonicalize().unwrap().display());
         println!("cargo:rustc-link-lib=static=extent_refs");

@@ -122,7 +122,7 @@ fn side_by_side(tasks: &[(&str, f64)]) -> Vec<Output> {
 /// Without an archive, or with one that lacks a call, something was not compared.
 fn archive_faults(linked: bool, missing: &[&str]) -> Option<String> {
     if !linked {
-        return Some("FAIL the archive is not there: run 'rt staticlib extent_refs'".into());
+        return Some("FAIL the archive is not there: run 'rt lib' in crates/extent_refs".into());
     }
     let first = missing.first()?;
     Some(format!("FAIL the archive lacks {} calls of the table, {first} first", missing.len()))

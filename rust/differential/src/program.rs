@@ -16,17 +16,18 @@ impl Program {
         Program { path, passed: 0, failed: 0 }
     }
 
-    /// target/bin/NAME in the repository, or what EXTENT_REFS_NAME names. One that is not there is a
-    /// failed run.
+    /// crates/NAME/out/NAME in the repository, or what EXTENT_REFS_NAME names. One that is not there is
+    /// a failed run.
     pub fn find(name: &str) -> Result<Self, ExitCode> {
         let variable = format!("EXTENT_REFS_{}", name.to_uppercase());
         let path = std::env::var(variable).map(PathBuf::from).unwrap_or_else(|_| {
-            PathBuf::from(env!("CARGO_MANIFEST_DIR")).join("../../target/bin").join(name)
+            PathBuf::from(env!("CARGO_MANIFEST_DIR"))
+                .join(format!("../../crates/{name}/out/{name}"))
         });
         if path.is_file() {
             return Ok(Program::at(path));
         }
-        println!("FAIL target/bin/{name} is not there: `rt check {name}` makes it");
+        println!("FAIL crates/{name}/out/{name} is not there: `rt run` in crates/{name} makes it");
         println!("0 passed, 1 failed");
         Err(ExitCode::FAILURE)
     }

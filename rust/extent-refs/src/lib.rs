@@ -41,6 +41,6 @@ mod missing {
 
 #[allow(dead_code)]
 fn not_there(call: &str) -> ! {
-    eprintln!("{call} is not in the linked archive: run 'rt staticlib extent_refs'");
+    eprintln!("{call} is not in the linked archive: run 'rt lib' in crates/extent_refs");
     std::process::abort()
 }

@@ -2,7 +2,7 @@
 //! input is, which it leaves alone; where its output cannot be written, it says so. The last line is
 //! 'N passed, M failed'.
 //!
-//! The program is target/bin/crc_table in the repository, which `rt check crc_table` makes, or what
+//! The program is crates/crc_table/out/crc_table in the repository, which `rt run` there makes, or what
 //! EXTENT_REFS_CRC_TABLE names.
 use differential::program::{says, Program};
 use differential::read_errors::{input, pair};

@@ -2,7 +2,7 @@
 //! bodies beside the model, and every record of the real leaves beside dump-tree's text. The last
 //! line is 'N passed, M failed'.
 //!
-//! The program is target/bin/lister in the repository, which `rt check lister` makes, or what
+//! The program is crates/lister/out/lister in the repository, which `rt run` there makes, or what
 //! EXTENT_REFS_LISTER names.
 //!
 //!     lister [MOST]    no more than that many generated bodies
