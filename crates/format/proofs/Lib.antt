@@ -4,6 +4,7 @@ pub mod Hash
 pub mod Rows
 pub mod Refs
 pub mod Bodies
+pub mod Left
 pub mod Picks
 pub mod Keys
 pub mod Items
@@ -12,6 +13,7 @@ pub mod Splices
 pub mod Computed
 pub mod Postings
 pub mod Singles
+pub mod LeftComputed
 pub mod SharedAdds
 pub mod LeafImages
 pub mod LeafImagesWritten

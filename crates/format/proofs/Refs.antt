@@ -4,7 +4,7 @@ use mathlib.Core.Path.{◌≡◌, refl, sym, ap, ◌∙◌, subst}
 use mathlib.Core.Logic.{◌⊎◌, inl, inr}
 use mathlib.Core.Bool.{Bool, true, false, not, ◌&&◌, cond}
 use mathlib.Core.List.{List, [], ◌∷◌, ◌++◌, append_assoc}
-use Prim.Native.Nat.{ℕ, zero, suc, ◌+◌, ◌*◌, ◌≤◌, ◌<◌}
+use Prim.Native.Nat.{ℕ, zero, suc, ◌+◌, ◌-◌, ◌*◌, ◌≤◌, ◌<◌}
 use native.Mathlib.Omega.{arith}
 use lib.Dec.{T, leb, ltb, eqb, eqb→eq, leb→le, le→leb, ltb→lt, lt→ltb}
 use lib.ListN.{length, take, drop, length-append, length-drop, take-append-drop}
@@ -18,6 +18,7 @@ use Rattle.fields.proofs.Numbers.{are_bytes-drop, are_bytes-part, are_bytes-appe
 use Rattle.fields.proofs.Parts.{length_part}
 use Rattle.format.specs.Questions.{Answer, refused, accepted, ask, bind}
 use Rattle.format.specs.References.{known, payload_length, count_position, counted, field_count, Ref, weight_of, ref_at, read_refs, ref_bytes, refs_bytes}
+use Rattle.format.specs.Bodies.{weighed}
 use Rattle.format.proofs.Answers.{accepted-inj, ask-ok, ask-yes, bind_ok}
 use Rattle.format.proofs.Rows.{payload-fields, count-after-fields, kind-small}
 
@@ -81,6 +82,44 @@ weight_of-counted k n t = cond_yes (counted k) n _ t
 pub weight_of-fixed : (k n m : ℕ) → T (not (counted k)) → weight_of k n ≡ weight_of k m
 unfolding weight_of
 weight_of-fixed k n m t = cond_no (counted k) n _ t ∙ sym (cond_no (counted k) m _ t)
+
+-- without a count it is 1 at most
+pub weight_of-least : (k n : ℕ) → T (not (counted k)) → weight_of k n ≤ 1
+unfolding weight_of
+weight_of-least k n t = rw (cond_no (counted k) n _ t) (go (eqb k 172))
+  where
+    go : (b : Bool) → cond b 0 1 ≤ 1
+    go true = omega arith
+    go false = omega arith
+
+-- a whole reference's weight takes four bytes
+pub weight-small : (r : Ref) → T (whole r) → r.weight < 4294967296
+weight-small r t = go (yes_or_no (counted r.kind))
+  where
+    go : T (counted r.kind) ⊎ T (not (counted r.kind)) → r.weight < 4294967296
+    go (inl u) = (whole_out r t).weighs u
+    go (inr u) = omega (arith, (whole_out r t).weight_fixed u, weight_of-least r.kind 0 u)
+
+-- with another weight a whole reference stays one
+pub whole-weighed : (r : Ref) (v : ℕ) → T (whole r) → (T (counted r.kind) → v < 4294967296)
+    → (T (not (counted r.kind)) → v ≡ r.weight) → T (whole (weighed r v))
+whole-weighed r v t small fixed =
+    let w = whole_out r t in
+    whole_in (weighed r v)
+    (record {
+      kind_known = w.kind_known;
+      fields_long = w.fields_long;
+      fields_small = w.fields_small;
+      weighs = small;
+      weight_fixed = λ u. fixed u ∙ w.weight_fixed u;
+    })
+
+-- and with so much off its own: a type without a count has nothing to spare
+pub whole-less : (r : Ref) (n : ℕ) → T (whole r) → n < r.weight → T (whole (weighed r (r.weight - n)))
+whole-less r n t less =
+    let w = whole_out r t in
+    whole-weighed r (r.weight - n) t (λ u. omega (arith, w.weighs u))
+    (λ u. omega (arith, w.weight_fixed u, weight_of-least r.kind 0 u))
 
 -- ---- lengths
 

@@ -9,5 +9,6 @@ pub mod LeafImage
 pub mod Apply
 pub mod Names
 pub mod Ledger
+pub mod Left
 pub mod History
 pub mod Lister

@@ -4,6 +4,8 @@ use Rattle.std.specs.Prelude.{◌≡◌, Bool, true, false, ◌&&◌, cond, List
 use Rattle.std.proofs.Math.Option.{Option, none, some}
 use Rattle.format.specs.declared.Edited.{Edited}
 use Rattle.format.specs.declared.Edited.TheVariants.{Written, Absent, Remove, Refused}
+use Rattle.format.specs.declared.Dropped.{Dropped}
+use Rattle.format.specs.declared.Dropped.TheVariants.{Written as Less, Absent as Unfound, Remove as Last, Refused as Undropped}
 use Rattle.format.specs.declared.Taken.{Taken}
 use Rattle.format.specs.declared.Taken.TheVariants.{Written as Out, Absent as NoMatch, Refused as Denied}
 use Rattle.format.specs.declared.Told.{Told}
@@ -131,6 +133,13 @@ edited_of absent = Absent
 edited_of remove = Remove
 edited_of (accepted result) = Written (length result)
 
+-- the same with a number that only a result has: how many are left under the name that a drop touched (Left)
+unfoldable pub dropped_of : ℕ → Answer (List ℕ) → Dropped
+dropped_of left (refused number) = Undropped number
+dropped_of left absent = Unfound
+dropped_of left remove = Last
+dropped_of left (accepted result) = Less (length result) left
+
 -- a body with the count of the reference that was taken out of it
 pub record TakenOut : Type 0 where
   pub bytes : List ℕ
@@ -164,6 +173,11 @@ picked_of answer = result_or_code Unpicked Ref answer
 
 pub record Answered (a : Answer (List ℕ)) (r : Edited) (old new : List ℕ) : Type 0 where
   pub result : r ≡ edited_of a
+  pub output : new ≡ lent a old
+
+-- the same where the result comes with how many are left
+pub record AnsweredDropped (a : Answer (List ℕ)) (left : ℕ) (r : Dropped) (old new : List ℕ) : Type 0 where
+  pub result : r ≡ dropped_of left a
   pub output : new ≡ lent a old
 
 pub record AnsweredTaken (a : Answer TakenOut) (r : Taken) (old new : List ℕ) : Type 0 where

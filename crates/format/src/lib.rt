@@ -131,6 +131,16 @@ pub enum Edited {
     Refused(u32),
 }
 
+// What a drop answers (document 02's ticket 5): the same, and how many are left under the name that it touched. A posting answers
+// so too, and an added reference leaves 0.
+#[derive(Clone, Copy)]
+pub enum Dropped {
+    Written { size: usize, left: u64 },
+    Absent,
+    Remove,
+    Refused(u32),
+}
+
 // The same where the call hands back the count of the reference that it took out.
 #[derive(Clone, Copy)]
 pub enum Taken {
