@@ -8,7 +8,7 @@ use native.Mathlib.Omega.{arith}
 use lib.Dec.{T, leb, ltb}
 use lib.ListN.{length, drop, get_or, length-drop, drop_of_length-le}
 use lib.Seq.{drop-cons, drop-drop}
-use borrow.Author.Tests.{eq-eqb, ne_eqb, le-leb, lt-leb, ltb-true, ltb-false}
+use borrow.Author.Tests.{eq-eqb, ne_eqb, le-leb, lt-leb, lt-ltb, le-ltb, ltb-true, ltb-false}
 use Rattle.fields.proofs.Lists.{by-test}
 use Rattle.format.specs.Questions.{refused, accepted, ask, bind}
 use Rattle.format.specs.References.{kinds, row_in, known, payload_length, count_position, ref_at, read_refs}
@@ -50,6 +50,26 @@ row-found t i k size count e h q inv e₁ e₂ =
     let same : get_or t i [] ≡ get_or kinds i [] = ap (λ (l : List (List ℕ)). get_or l i []) e in
     let n : length (get_or t i []) ≡ 3 = ap length same ∙ row-long i h in
     ap₂ Known e₁ e₂ ∙ row-from (get_or t i []) n ∙ ap row_from (sym (row-hit kinds i k h (get_or t i []) same q) ∙ inv)
+
+-- ---- a step over a kind whose lengths are at hand
+
+row-with : (row : List ℕ) (size count : ℕ) → T (leb 1 (length row)) → size ≡ get_or row 1 0 → count ≡ get_or row 2 0 → row_from row ≡ Known size count
+unfolding row_from
+row-with [] size count t e₁ e₂ = absurd t
+row-with (kind ∷ row) size count t e₁ e₂ = sym (ap₂ Known e₁ e₂)
+
+module _ (s : List ℕ) (at k size count : ℕ) (inside : at < length s) (is : get_or s at 0 ≡ k) (t : T (known k)) (long : size ≡ payload_length k) (count_at : count ≡ count_position k) where
+  row_here : row_from (row_in kinds k) ≡ Known size count
+  unfolding known payload_length count_position
+  row_here = row-with (row_in kinds k) size count t long count_at
+
+  pub step_cut : length s - (at + 1) < size → Refused 8 ≡ ref_step_at s at
+  unfolding ref_step_at step_row
+  step_cut h = simp (lt-ltb _ _ inside, is, row_here, lt-ltb _ _ h)
+
+  pub step-whole : size ≤ length s - (at + 1) → Whole k (at + 1) size count (record { at = at + 1 + size }) ≡ ref_step_at s at
+  unfolding ref_step_at step_row
+  step-whole h = simp (lt-ltb _ _ inside, is, row_here, le-ltb _ _ h)
 
 -- ---- a step, and the reading from there
 

@@ -51,6 +51,13 @@ wanted-fields (Data name) = refl
 wanted-fields (SharedBlock parent) = refl
 wanted-fields (SharedData parent) = refl
 
+pub wanted-known : (w : RefName) → T (known (kind_of w))
+unfolding kind_of known row_in
+wanted-known (Block name) = tt
+wanted-known (Data name) = tt
+wanted-known (SharedBlock parent) = tt
+wanted-known (SharedData parent) = tt
+
 module _ (w : RefName) (k : ℕ) (l : List ℕ) where
   pub named_other : (kind_of w ≡ k → ⊥) → false ≡ is_wanted w (ref_at k l)
   unfolding named ref_at
@@ -64,6 +71,35 @@ module _ (w : RefName) (k : ℕ) (l : List ℕ) where
   unfolding same words
   named-one x v e f q =
       sym (named-is e ∙ ap (λ (fs : List ℕ). same (words (length fs) l) fs) f ∙ and-true (eqb (le (take 8 l)) v) ∙ ap (λ (n : ℕ). eqb n v) (sym q))
+
+-- words against fields: the first, then the others
+module _ (l : List ℕ) (x : ℕ) (e : x ≡ le (take 8 l)) where
+  pub first-differs : (fs : List ℕ) → 1 ≤ length fs → (x ≡ get_or fs 0 0 → ⊥) → false ≡ same (words (length fs) l) fs
+  unfolding same words
+  first-differs [] some h = absurd (omega arith)
+  first-differs (f ∷ fs) some h = simp (← e, ne_eqb _ _ h)
+
+  pub first-agrees : (fs : List ℕ) → 1 ≤ length fs → x ≡ get_or fs 0 0 → same (drop 1 (words (length fs) l)) (drop 1 fs) ≡ same (words (length fs) l) fs
+  unfolding same words
+  first-agrees [] some h = absurd (omega arith)
+  first-agrees (f ∷ fs) some h = simp (← e, eq-eqb _ _ h)
+
+module _ (w : RefName) (l : List ℕ) where
+  some-wanted : 1 ≤ length (fields_of w)
+  some-wanted = omega (arith, wanted-fields w, some-field (kind_of w) (wanted-known w))
+
+  module _ (x : ℕ) (e : x ≡ le (take 8 l)) where
+    pub named-not : (x ≡ get_or (fields_of w) 0 0 → ⊥) → false ≡ is_wanted w (ref_at (kind_of w) l)
+    named-not h = first-differs l x e (fields_of w) some-wanted h ∙ sym (named-is w (kind_of w) l refl)
+
+    -- the first field agrees, so the others decide
+    pub named_by : (fs : List ℕ) → fields_of w ≡ fs → x ≡ get_or (fields_of w) 0 0 → same (drop 1 (words (length fs) l)) (drop 1 fs) ≡ is_wanted w (ref_at (kind_of w) l)
+    named_by fs f h =
+        ap (λ (gs : List ℕ). same (drop 1 (words (length gs) l)) (drop 1 gs)) (sym f) ∙ first-agrees l x e (fields_of w) some-wanted h ∙ sym (named-is w (kind_of w) l refl)
+
+    pub named-alone : (v : ℕ) → fields_of w ≡ one v → x ≡ get_or (fields_of w) 0 0 → true ≡ is_wanted w (ref_at (kind_of w) l)
+    unfolding same words
+    named-alone v f h = named_by (one v) f h
 
 module _ (p : ℕ) (s : List ℕ) where
   pub triple-words : words 3 (drop p s) ≡ le (part p 8 s) ∷ le (part (p + 8) 8 s) ∷ le (part (p + 16) 8 s) ∷ []
@@ -87,6 +123,15 @@ module _ (p : ℕ) (s : List ℕ) where
         → eqb z f ≡ same (words 3 (drop p s)) (t ∷ o ∷ f ∷ [])
     unfolding same
     triple-third y z e₂ e₃ h₁ h₂ = rw triple-words (simp (← e, ← e₂, ← e₃, eq-eqb _ _ h₁, eq-eqb _ _ h₂, and-true))
+
+  module _ (o f y : ℕ) (e : y ≡ le (part (p + 8) 8 s)) where
+    pub rest-second : (y ≡ o → ⊥) → false ≡ same (drop 1 (words 3 (drop p s))) (o ∷ f ∷ [])
+    unfolding same
+    rest-second h = rw triple-words (simp (← e, ne_eqb _ _ h))
+
+    pub rest-third : (z : ℕ) → z ≡ le (part (p + 16) 8 s) → y ≡ o → eqb z f ≡ same (drop 1 (words 3 (drop p s))) (o ∷ f ∷ [])
+    unfolding same
+    rest-third z e₂ h = rw triple-words (simp (← e, ← e₂, eq-eqb _ _ h, and-true))
 
 -- ---- ranks
 

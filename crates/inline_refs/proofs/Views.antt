@@ -1,5 +1,5 @@
--- What a scan saw, as cuts of the list of references: where the wanted one stands, and where a new one goes.
--- Assumes nothing.
+-- What a scan saw, as cuts of the list of references: where the wanted one stands, what those behind it count, and where a new one
+-- goes. Assumes nothing.
 use mathlib.Core.Path.{◌≡◌, refl, sym, ap, subst, ◌∙◌}
 use mathlib.Core.Bool.{Bool, true, false, ◌||◌}
 use mathlib.Core.Option.{none, some, map}
@@ -11,10 +11,13 @@ use Rattle.fields.proofs.Lists.{by-test}
 use Rattle.fields.specs.Lists.{sum, Cut, later, first_cut}
 use Rattle.format.specs.References.{Ref}
 use Rattle.format.specs.Bodies.{stops}
+use Rattle.format.specs.Left.{left_among}
 use Rattle.inline_refs.specs.declared.ref_name.RefName.{RefName}
 use Rattle.inline_refs.specs.declared.scan.Seen.{Seen}
 use Rattle.inline_refs.specs.declared.scan.Seen.TheVariants.{Open, Gap, Hit, Late}
-use Rattle.inline_refs.specs.Scans.{kind_of, is_wanted, ref_size_of, noted, walk}
+use Rattle.inline_refs.specs.declared.drop_scan.DropScan.{DropScan}
+use Rattle.inline_refs.specs.declared.drop_scan.DropScan.TheVariants.{Fault, Nothing, First}
+use Rattle.inline_refs.specs.Scans.{kind_of, fields_of, is_wanted, ref_size_of, noted, walk, drop_walk}
 use Rattle.inline_refs.proofs.Notes.{hit-stays, late-stays}
 
 -- ---- a part of the references that stands from one position up to another
@@ -178,3 +181,34 @@ module _ (w : RefName) (rank : ℕ) where
 
   pub viewed : (start : ℕ) (refs : List Ref) (s : Seen) → s ≡ walk w rank start (Open false) refs → View start refs false s
   viewed start refs s e = subst (View start refs false) (sym e) (view start refs false)
+
+-- ---- what the scan of a drop found
+
+-- the first wanted one, and what those behind it count
+pub record FirstAt (w : RefName) (start : ℕ) (refs : List Ref) (p q weight behind : ℕ) : Type 0 where
+  pub hit : CutAt (is_wanted w) start refs p q weight
+  pub sums : behind ≡ left_among (kind_of w) (fields_of w) hit.parts.back
+
+abbrev pub DropView : RefName → ℕ → List Ref → DropScan → Type 0
+DropView w start refs (Fault refusal) = ⊥
+DropView w start refs Nothing = first_cut (is_wanted w) refs ≡ none
+DropView w start refs (First p q weight behind) = FirstAt w start refs p q weight behind
+
+drop-later : (w : RefName) (start : ℕ) (r : Ref) (refs : List Ref) (s : DropScan) → is_wanted w r ≡ false
+    → DropView w (start + ref_size_of r) refs s → DropView w start (r ∷ refs) s
+unfolding cut_later
+drop-later w start r refs (Fault refusal) f v = v
+drop-later w start r refs Nothing f v = none-later (is_wanted w) start r refs f v
+drop-later w start r refs (First p q weight behind) f v =
+    record { hit = cut_later (is_wanted w) start r refs p q weight f v.hit; sums = v.sums }
+
+drop-view : (w : RefName) (start : ℕ) (refs : List Ref) → DropView w start refs (drop_walk w start refs)
+unfolding drop_walk cut-here
+drop-view w start [] = refl
+drop-view w start (r ∷ refs) =
+    by-test (is_wanted w r)
+    (λ t. rw t (record { hit = cut-here (is_wanted w) start r refs r.weight t refl; sums = refl }))
+    (λ f. rw f (drop-later w start r refs (drop_walk w (start + ref_size_of r) refs) f (drop-view w (start + ref_size_of r) refs)))
+
+pub drop-viewed : (w : RefName) (start : ℕ) (refs : List Ref) (s : DropScan) → s ≡ drop_walk w start refs → DropView w start refs s
+drop-viewed w start refs s e = subst (DropView w start refs) (sym e) (drop-view w start refs)

@@ -4,6 +4,7 @@ use Rattle.std.specs.Prelude.{◌≡◌, Bool, true, ◌||◌, cond, List, [], �
 use Rattle.format.specs.Questions.{Answer, accepted, result_or_code}
 use Rattle.format.specs.References.{payload_length, Ref, rank_of}
 use Rattle.format.specs.Bodies.{on_body, named, one, triple, stops}
+use Rattle.format.specs.Left.{left_among}
 use Rattle.extent_write.specs.Runs.{RunFits}
 use Rattle.inline_refs.specs.declared.ref_name.RefName.{RefName}
 use Rattle.inline_refs.specs.declared.ref_name.RefName.TheVariants.{Block, Data, SharedBlock, SharedData}
@@ -16,6 +17,10 @@ use Rattle.inline_refs.specs.declared.scan.Scan.{Scan}
 use Rattle.inline_refs.specs.declared.scan.Scan.TheVariants.{Fault, Read}
 use Rattle.inline_refs.specs.declared.scan.Rest.{Rest}
 use Rattle.inline_refs.specs.declared.scan.Rest.TheVariants.{Clean, Fault as Faulty}
+use Rattle.inline_refs.specs.declared.drop_scan.DropScan.{DropScan}
+use Rattle.inline_refs.specs.declared.drop_scan.DropScan.TheVariants.{Fault as Broken, Nothing as Unseen, First}
+use Rattle.inline_refs.specs.declared.drop_scan.Behind.{Behind}
+use Rattle.inline_refs.specs.declared.drop_scan.Behind.TheVariants.{Sum, Fault as BrokenBehind}
 use Rattle.inline_refs.specs.declared.count.Counted.{Counted}
 use Rattle.inline_refs.specs.declared.count.Counted.TheVariants.{Count, Refused}
 use Rattle.inline_refs.specs.declared.noted.Found.{Found}
@@ -91,6 +96,27 @@ refs_in type body = on_body type body (λ b. accepted b.refs)
 -- how many references were read. As above 100 and 101 do not come
 unfoldable pub ref_count_of : Answer (List Ref) → Counted
 ref_count_of answer = result_or_code Refused (λ refs. Count (length refs)) answer
+
+-- ---- the scan of a drop. In both definitions by what was read 100 and 101 do not come, as above
+
+-- what the wanted references count
+unfoldable pub behind_of : RefName → Answer (List Ref) → Behind
+behind_of wanted answer = result_or_code BrokenBehind (λ refs. Sum (left_among (kind_of wanted) (fields_of wanted) refs)) answer
+
+-- the first wanted reference, and what those behind it count
+unfoldable pub first_of : ℕ → ℕ → ℕ → Behind → DropScan
+first_of at next weight (Sum behind) = First at next weight behind
+first_of at next weight (BrokenBehind refusal) = Broken refusal
+
+-- from a reference that stands at `at` to the last
+unfoldable pub drop_walk : RefName → ℕ → List Ref → DropScan
+drop_walk wanted at [] = Unseen
+drop_walk wanted at (r ∷ refs) =
+    cond (is_wanted wanted r) (First at (at + ref_size_of r) r.weight (left_among (kind_of wanted) (fields_of wanted) refs))
+    (drop_walk wanted (at + ref_size_of r) refs)
+
+unfoldable pub drop_scan_of : RefName → ℕ → Answer (List Ref) → DropScan
+drop_scan_of wanted at answer = result_or_code Broken (drop_walk wanted at) answer
 
 -- ---- what a scan's notes mean to a call
 

@@ -3,6 +3,7 @@
 #![tactic(auto)]
 
 mod count;
+mod drop_scan;
 mod kinds;
 mod lengths;
 mod noted;
@@ -13,8 +14,9 @@ mod start;
 mod step;
 
 pub use count::{Counted, count_refs};
+pub use drop_scan::{DropScan, scan_to_drop};
 pub use kinds::{Row, row_of, rows};
-pub use lengths::{Lengths, lengths_of};
+pub use lengths::{Lengths, lengths_for, lengths_of};
 pub use noted::{AddAt, Found, add_anywhere, add_by_scan, any_others, hit_of};
 pub use reader::{Reader, Stepped, step_from};
 pub use ref_name::{OwnRank, Ranked, RefName, kind_of, names, names_triple, rank_at, rank_of};

@@ -1,5 +1,5 @@
 // What a scan looks for: a named reference, and the rank of a new one.
-ghost use Rattle.std.specs.Prelude.{◌≡◌, ◌||◌, ◌+◌, ◌≤◌, T, eqb, ltb, length, drop};
+ghost use Rattle.std.specs.Prelude.{◌≡◌, ◌||◌, ◌+◌, ◌≤◌, T, eqb, ltb, length, drop, get_or};
 ghost use Rattle.format.specs.References.{known, payload_length, ref_at, rank, rank_of};
 ghost use Rattle.format.specs.Bodies.{named, stops, triple};
 ghost use Rattle.extent_write.specs.Runs.{RunFits};
@@ -34,6 +34,17 @@ pub fn kind_of(wanted: RefName) -> u8
     }
 }
 
+// Whether the second and the third field from `start` on are those of a data reference.
+fn names_rest(name: DataRef, body: &[u8], start: usize) -> bool
+    requires { start + 24 ≤ length body.now }
+    ensures { result ≡ same (drop 1 (words 3 (drop start body.now))) (drop 1 (triple name)) }
+{
+    if fields::get_u64_le(body, start + 8) != name.objectid {
+        return false;
+    }
+    fields::get_u64_le(body, start + 16) == name.offset
+}
+
 // Whether three fields from `start` on are those of a data reference.
 pub fn names_triple(name: DataRef, body: &[u8], start: usize) -> bool
     requires { start + 24 ≤ length body.now }
@@ -42,10 +53,36 @@ pub fn names_triple(name: DataRef, body: &[u8], start: usize) -> bool
     if fields::get_u64_le(body, start) != name.tree {
         return false;
     }
-    if fields::get_u64_le(body, start + 8) != name.objectid {
+    names_rest(name, body, start)
+}
+
+// The wanted reference's first field.
+fn first_field(wanted: RefName) -> u64
+    ensures { result ≡ get_or (fields_of wanted) 0 0 }
+{
+    match wanted {
+        RefName::Block(name) => name.tree,
+        RefName::Data(name) => name.tree,
+        RefName::SharedBlock(parent) => parent,
+        RefName::SharedData(parent) => parent,
+    }
+}
+
+// Whether the reference of the wanted kind whose payload starts at `start` is the wanted one. The first field, which all kinds
+// have, is compared first, so that the loops of a drop do not ask for the kind of the name before it is needed.
+pub fn is_named(wanted: RefName, body: &[u8], start: usize) -> bool
+    requires { start + payload_length (kind_of wanted) ≤ length body.now }
+    ensures { result ≡ named (kind_of wanted) (fields_of wanted) (ref_at (kind_of wanted) (drop start body.now)) }
+{
+    if fields::get_u64_le(body, start) != first_field(wanted) {
         return false;
     }
-    fields::get_u64_le(body, start + 16) == name.offset
+    match wanted {
+        RefName::Block(_) => true,
+        RefName::Data(name) => names_rest(name, body, start),
+        RefName::SharedBlock(_) => true,
+        RefName::SharedData(_) => true,
+    }
 }
 
 // Whether the reference of this kind whose payload starts at `start` is the wanted one.
