@@ -10,9 +10,13 @@ use lib.Dec.{T}
 use Rattle.fields.specs.Lists.{all}
 use Rattle.fields.specs.Numbers.{are_bytes}
 use Rattle.fields.proofs.Lists.{cond_yes, cond_no, all_map, all_two}
+use Rattle.format.specs.declared.BlockRef.{BlockRef}
+use Rattle.format.specs.declared.DataRef.{DataRef}
+use Rattle.format.specs.declared.SharedRef.{SharedRef}
 use Rattle.format.specs.declared.Change.{Change}
 use Rattle.format.specs.declared.Change.TheVariants.{AddBlock, AddData, AddShared, DropBlock, DropData, DropShared}
 use Rattle.format.specs.Questions.{Answer, refused, absent, remove, accepted}
+use Rattle.format.specs.Bodies.{shared_kind}
 use Rattle.format.specs.Items.{Item, rising, read_sheet, sheet_bytes, data_fits, sheet_holds}
 use Rattle.format.specs.Names.{Name, same_name, count, balanced}
 use Rattle.format.specs.Ledger.{name_of, kind_fits, changed, posted}
@@ -96,6 +100,23 @@ drop-fit c out items after s n t q h = let e = moved (name_of c) 0 out items aft
 
 -- ---- one change
 
+pub block-step : (nodesize extent : ℕ) (name : BlockRef) (items after : List Item) → Balanced items → T (all tidy items)
+    → changed nodesize (DropBlock extent name) items ≡ accepted after → Step (name_of (DropBlock extent name)) 0 1 items after
+block-step nodesize extent name items after b t e =
+    drop-step (block_drop extent name) (block-proper extent name) items after b t (sym (block-changes nodesize extent name items) ∙ e)
+
+pub data-step : (nodesize extent : ℕ) (name : DataRef) (items after : List Item) → Balanced items → T (all tidy items)
+    → changed nodesize (DropData extent name) items ≡ accepted after → Step (name_of (DropData extent name)) 0 1 items after
+data-step nodesize extent name items after b t e =
+    drop-step (data_drop extent name) (data-proper extent name) items after b t (sym (data-changes nodesize extent name items) ∙ e)
+
+pub shared_step : (nodesize extent : ℕ) (name : SharedRef) (amount : ℕ) (items after : List Item) → T (shared_kind name.kind) → Balanced items
+    → T (all tidy items)
+    → changed nodesize (DropShared extent name amount) items ≡ accepted after → Step (name_of (DropShared extent name amount)) 0 amount items after
+shared_step nodesize extent name amount items after k b t e =
+    drop-step (shared_drop extent name amount) (shared-proper extent name amount k) items after b t
+    (sym (shared-changes nodesize extent name amount items) ∙ e)
+
 change-step : (nodesize : ℕ) (c : Change) (items after : List Item) → Wide c → T (kind_fits c) → Balanced items
     → T (all tidy items)
     → changed nodesize c items ≡ accepted after → Moved c items after
@@ -114,18 +135,15 @@ change-step nodesize (AddShared extent name amount) items after w k b t e =
     from_step c amount 0 items after b s (add_fit c amount items after s)
 change-step nodesize (DropBlock extent name) items after w k b t e =
     let c : Change = DropBlock extent name in
-    let s = drop-step (block_drop extent name) (block-proper extent name) items after b t
-    (sym (block-changes nodesize extent name items) ∙ e) in
+    let s = block-step nodesize extent name items after b t e in
     from_step c 0 1 items after b s (drop-fit c 1 items after s)
 change-step nodesize (DropData extent name) items after w k b t e =
     let c : Change = DropData extent name in
-    let s = drop-step (data_drop extent name) (data-proper extent name) items after b t
-    (sym (data-changes nodesize extent name items) ∙ e) in
+    let s = data-step nodesize extent name items after b t e in
     from_step c 0 1 items after b s (drop-fit c 1 items after s)
 change-step nodesize (DropShared extent name amount) items after w k b t e =
     let c : Change = DropShared extent name amount in
-    let s = drop-step (shared_drop extent name amount) (shared-proper extent name amount k) items after b t
-    (sym (shared-changes nodesize extent name amount items) ∙ e) in
+    let s = shared_step nodesize extent name amount items after k b t e in
     from_step c 0 amount items after b s (drop-fit c amount items after s)
 
 -- ---- one posting
@@ -149,18 +167,20 @@ on_of s b t = go (read_sheet s) refl t
     go remove q t = absurd t
     go (accepted items) q t = (items, record { raw = b; reads = q; balance = t })
 
--- a list in order, balanced, that a lent output holds
-on-after : (after : List Item) (room : ℕ) → T (rising after) → Balanced after → T (all tidy after) → T (sheet_holds room after)
-    → On (sheet_bytes after) after
-on-after after room rise balance tidied holds =
+-- a list in order that a lent output holds is read back
+pub read-after : (after : List Item) (room : ℕ) → T (rising after) → T (all tidy after) → T (sheet_holds room after)
+    → T (are_bytes (sheet_bytes after)) × (read_sheet (sheet_bytes after) ≡ accepted after)
+read-after after room rise tidied holds =
     let f = holds-out room after holds in
     let sanes : T (all sane after) = all_two tidy (λ i. data_fits i.bytes) sane tidy-sane after tidied f.3 in
     let short : length (sheet_bytes after) ≤ 262144 = rw (sheet-size after) f.1 in
-    record {
-      raw = are_bytes-sheet_bytes after sanes;
-      reads = read-sheet_bytes after sanes rise short f.2;
-      balance = balanced-in after balance;
-    }
+    (are_bytes-sheet_bytes after sanes, read-sheet_bytes after sanes rise short f.2)
+
+on-after : (after : List Item) (room : ℕ) → T (rising after) → Balanced after → T (all tidy after) → T (sheet_holds room after)
+    → On (sheet_bytes after) after
+on-after after room rise balance tidied holds =
+    let (raw, reads) = read-after after room rise tidied holds in
+    record { raw = raw; reads = reads; balance = balanced-in after balance }
 
 pub step-on : (m : Name) (given out : ℕ) (sheet : List ℕ) (items after : List Item) (room : ℕ) → SheetFacts sheet items
     → Step m given out items after → T (sheet_holds room after) → On (sheet_bytes after) after

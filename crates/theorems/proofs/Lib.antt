@@ -14,6 +14,10 @@ pub mod Counts
 pub mod DropCalls
 pub mod Decided
 pub mod Changes
+pub mod LeftCounts
+pub mod LeftBodies
+pub mod LeftSheets
+pub mod LeftPostings
 pub mod AddsAccepted
 pub mod DropsAccepted
 pub mod DropCallsAccepted
@@ -28,6 +32,7 @@ pub mod Instance
 pub mod Calls
 pub mod CallsInstance
 pub mod PartDropsInstance
+pub mod LeftInstance
 pub mod LeafImages
 pub mod LeafImagesRead
 pub mod LeafImagesComputed
