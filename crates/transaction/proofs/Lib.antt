@@ -3,6 +3,8 @@ pub mod Triples
 pub mod FileRefs
 pub mod Counts
 pub mod Only
+pub mod LeftBodies
+pub mod LeftItems
 pub mod ItemDrops
 pub mod RefDrops
 pub mod Owned

@@ -26,6 +26,12 @@ remove_absent e = let z : ◌≡◌ {A = ℕ} 0 1 = cc in absurd (omega arith)
 pub accepted-absent : {A : Type 0} {a : A} → ◌≡◌ {A = Answer A} (accepted a) absent → ⊥
 accepted-absent e = let z : ◌≡◌ {A = ℕ} 0 1 = cc in absurd (omega arith)
 
+-- a question that is answered "no" refuses
+pub asked-absent : {A : Type 0} (b : Bool) (n : ℕ) (next : Answer A) → ask b n next ≡ absent → next ≡ absent
+unfolding ask
+asked-absent true n next e = e
+asked-absent false n next e = absurd (refused-absent e)
+
 -- ---- by the outcome of the inline plan
 
 pub not-absent : (p : Plan) (body : List ℕ) → (p.outcome ≡ Absent → ⊥) → plan_answer p body ≡ absent → ⊥

@@ -1,20 +1,26 @@
 -- A reference dropped, by its name: out of the record's body, or else off its own item and the record's total; and the two edits
 -- of a drop, of the record's body and of an item behind the record. Assumes nothing.
-use Rattle.std.specs.Prelude.{◌≡◌, false, List, ℕ, ◌-◌, T, length, replicate}
+use Rattle.std.specs.Prelude.{◌≡◌, Bool, true, false, List, ℕ, ◌-◌, T, length, replicate}
 use Rattle.std.specs.Int.Bits.{bit_or}
-use Rattle.fields.specs.Lists.{all, Cut}
+use Rattle.fields.specs.Lists.{all, Cut, first_cut}
 use Rattle.fields.specs.Numbers.{le, le_bytes}
 use Rattle.fields.specs.Parts.{part, written}
-use Rattle.format.specs.Questions.{Answer, refused, absent, remove, accepted, bind}
-use Rattle.format.specs.Bodies.{lowered_by_part, on_total, lower_total, drop_keyed_data_ref}
-use Rattle.format.specs.Items.{Item}
+use Rattle.format.specs.declared.Key.{Key}
+use Rattle.format.specs.declared.SharedRef.{SharedRef}
+use Rattle.format.specs.Questions.{Answer, refused, absent, remove, accepted, bind, needed, result_or}
+use Rattle.format.specs.References.{rank_of}
+use Rattle.format.specs.Bodies.{one, lowered_by_part, on_total, lower_total, drop_keyed_data_ref}
+use Rattle.format.specs.Items.{Item, key_of}
+use Rattle.format.specs.Sheets.{has_key}
 use Rattle.format.specs.Apply.{drop_tree_ref}
 use Rattle.format.specs.Names.{good}
 use Rattle.format.specs.Ledger.{drop_data_ref, less_item, drop_shared_ref}
+use Rattle.format.specs.Left.{left_in}
 use Rattle.inline_refs.specs.declared.ref_name.RefName.{RefName}
 use Rattle.inline_refs.specs.declared.ref_name.RefName.TheVariants.{Block, Data, SharedBlock, SharedData}
+use Rattle.inline_refs.specs.Scans.{kind_of, fields_of}
 use Rattle.backref.specs.declared.plan.Plan.{Plan}
-use Rattle.backref.specs.ByName.{shared_ref}
+use Rattle.backref.specs.ByName.{shared_ref, drop_named}
 use Rattle.backref.specs.Plans.{plan_answer}
 use Rattle.record_edit.specs.declared.SecondEdit.{SecondEdit}
 use Rattle.record_edit.specs.declared.RecordAt.{RecordAt}
@@ -89,3 +95,29 @@ CountFits (Block name) item = Unit {0}
 CountFits (Data name) item = Unit {0}
 CountFits (SharedBlock parent) item = Unit {0}
 CountFits (SharedData parent) item = length item ≡ 4
+
+-- ---- what is left under the name
+
+-- of an item of a key
+unfoldable pub on_key_left : Key → List Item → (Cut Item → ℕ) → ℕ
+on_key_left key items left = result_or 0 left (needed 5 (first_cut (has_key key) items))
+
+-- at the name's own item, whose last four bytes are its count where it has one
+unfoldable pub own_left : RefName → ℕ → Cut Item → ℕ
+own_left name amount k = item_left name amount (le (part (length k.hit.bytes - 4) 4 k.hit.bytes))
+
+-- by what the inline drop answers: in the body that it makes, or else at the item
+unfoldable pub left_by : RefName → ℕ → List Item → Cut Item → Answer (List ℕ) → ℕ
+left_by name amount items c (refused refusal) = 0
+left_by name amount items c absent =
+    on_key_left (key_of c.hit.key.objectid (kind_of name) (rank_of (kind_of name) (fields_of name))) items (own_left name amount)
+left_by name amount items c remove = 0
+left_by name amount items c (accepted body) = left_in c.hit.key.kind (kind_of name) (fields_of name) body
+
+unfoldable pub ref_left : RefName → ℕ → List Item → Cut Item → ℕ
+ref_left name amount items c = left_by name amount items c (drop_named c.hit.key.kind c.hit.bytes name amount)
+
+-- apply_shared_drop, in the record's body
+unfoldable pub shared_left : ℕ → SharedRef → Bool → List ℕ → ℕ
+shared_left type s true body = 0
+shared_left type s false body = left_in type s.kind (one s.parent) body
