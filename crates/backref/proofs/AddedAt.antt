@@ -37,7 +37,7 @@ pub data Decided (type : ℕ) (d : List ℕ) : Type 1 where
   readable : (b : Body) → length d ≤ 65535 → read_body type d ≡ accepted b → Decided type d
   faulty : (n : ℕ) → ((A : Type 0) (next : Body → Answer A) → on_body type d next ≡ refused n) → Decided type d
 
-decide : (type : ℕ) (d : List ℕ) → Decided type d
+pub decide : (type : ℕ) (d : List ℕ) → Decided type d
 unfolding on_body ask bind body_fits
 decide type d =
     by-test (leb (length d) 65535)

@@ -11,6 +11,7 @@ pub mod Writes
 pub mod Outcomes
 pub mod PlannedTotals
 pub mod TakenPlans
+pub mod LeftTakes
 pub mod Reductions
 pub mod PlanAnswers
 pub mod Named

@@ -11,11 +11,13 @@ use Rattle.format.specs.declared.Edited.{Edited}
 use Rattle.format.specs.declared.Edited.TheVariants.{Written, Absent as NoMatch, Remove as Gone, Refused as Denied}
 use Rattle.format.specs.Questions.{Answer, refused, absent, remove, accepted, bind, held, lent, edited_of, Answered}
 use Rattle.format.specs.Bodies.{held_body}
+use Rattle.format.proofs.Answers.{refused-not, absent-not, remove-not, accepted-inj}
 use Rattle.format.proofs.Outputs.{answered-refused, answered-written, held-body, no_room, too_long}
 use Rattle.backref.specs.declared.plan.Outcome.{Outcome}
 use Rattle.backref.specs.declared.plan.Outcome.TheVariants.{Edit, Absent, Remove, Refused}
 use Rattle.backref.specs.declared.plan.Plan.{Plan}
-use Rattle.backref.specs.Plans.{edited, plan_outcome, plan_answer, EditIn, within, PlanIn, Planned}
+use Rattle.backref.specs.declared.plan.DropPlan.{DropPlan}
+use Rattle.backref.specs.Plans.{edited, plan_outcome, plan_answer, EditIn, within, PlanIn, Planned, PlannedDrop}
 use Rattle.backref.proofs.Writes.{front_of, length-edit, same}
 
 -- ---- the writer
@@ -150,3 +152,36 @@ module _ (p : Plan) (body : List ℕ) (answer : Answer (List ℕ)) where
 
   pub plan-same : (other : Answer (List ℕ)) → answer ≡ other → Planned p body answer → Planned p body other
   plan-same other e h = record { says = h.says ∙ e; inside = h.inside }
+
+-- a plan that answers a result is an edit
+pub edits : (p : Plan) (body : List ℕ) {rest : List ℕ} → plan_answer p body ≡ accepted rest → p.outcome ≡ Edit
+unfolding plan_answer plan_outcome
+edits p body {rest} e = go p.outcome e
+  where
+    go : (o : Outcome) → plan_outcome o p body ≡ accepted rest → o ≡ Edit
+    go Edit h = refl
+    go Absent h = absent-not h
+    go Remove h = remove-not h
+    go (Refused n) h = refused-not h
+
+-- ---- of a planned drop: without a result it has nothing to report
+
+pub no-edit : {p : DropPlan} {plan : Plan} {o : Outcome} → p ≡ record { plan = plan; left = 0 } → plan.outcome ≡ o → p.plan.outcome ≡ o
+no-edit e o = ap (λ (x : DropPlan). x.plan.outcome) e ∙ o
+
+pub no-edit-keeps : {p : DropPlan} {plan : Plan} → p ≡ record { plan = plan; left = 0 } → plan.from + plan.size ≡ plan.to
+    → p.plan.from + p.plan.size ≡ p.plan.to
+no-edit-keeps e h = keeps-length (ap (λ (x : DropPlan). x.plan) e) h
+
+module _ (p : DropPlan) (body : List ℕ) (answer : Answer (List ℕ)) (left : List ℕ → ℕ) where
+  pub drop-refused : (n : ℕ) → p.plan.outcome ≡ Refused n → answer ≡ refused n → PlannedDrop p body answer left
+  drop-refused n o e = record { planned = plan-refused p.plan body answer n o e; leaves = λ rest h. refused-not (sym e ∙ h) }
+
+  pub drop-absent : p.plan.outcome ≡ Absent → answer ≡ absent → PlannedDrop p body answer left
+  drop-absent o e = record { planned = plan-absent p.plan body answer o e; leaves = λ rest h. absent-not (sym e ∙ h) }
+
+  pub drop-remove : p.plan.outcome ≡ Remove → answer ≡ remove → PlannedDrop p body answer left
+  drop-remove o e = record { planned = plan-remove p.plan body answer o e; leaves = λ rest h. remove-not (sym e ∙ h) }
+
+  pub drop-edit : (bytes : List ℕ) → Planned p.plan body answer → answer ≡ accepted bytes → p.left ≡ left bytes → PlannedDrop p body answer left
+  drop-edit bytes h e l = record { planned = h; leaves = λ rest k. l ∙ ap left (accepted-inj (sym e ∙ k)) }

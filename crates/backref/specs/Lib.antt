@@ -2,3 +2,4 @@ pub mod Reads
 pub mod Totals
 pub mod ByName
 pub mod Plans
+pub mod Offs

@@ -5,13 +5,16 @@ use Rattle.fields.specs.Numbers.{le_bytes}
 use Rattle.fields.specs.Parts.{written, spliced}
 use Rattle.format.specs.declared.Edited.{Edited}
 use Rattle.format.specs.declared.Edited.TheVariants.{Written, Absent as Missing, Remove as Gone, Refused as Stopped}
+use Rattle.format.specs.declared.Dropped.{Dropped}
+use Rattle.format.specs.declared.Dropped.TheVariants.{Written as Less, Absent as Unfound, Remove as Last, Refused as Undropped}
 use Rattle.format.specs.declared.Taken.{Taken}
 use Rattle.format.specs.declared.Taken.TheVariants.{Written as Out, Absent as NoMatch, Refused as Denied}
-use Rattle.format.specs.Questions.{Answer, refused, absent, remove, accepted, bind, if_absent, TakenOut}
+use Rattle.format.specs.Questions.{Answer, refused, absent, remove, accepted, bind, if_absent, TakenOut, bytes_of}
 use Rattle.format.specs.Bodies.{reduced_by}
 use Rattle.backref.specs.declared.plan.Outcome.{Outcome}
 use Rattle.backref.specs.declared.plan.Outcome.TheVariants.{Edit, Absent, Remove, Refused}
 use Rattle.backref.specs.declared.plan.Plan.{Plan}
+use Rattle.backref.specs.declared.plan.DropPlan.{DropPlan}
 
 -- the bytes from `from` up to `to` give way to the new ones, and the first eight are the total
 unfoldable pub edited : Plan → List ℕ → List ℕ
@@ -57,6 +60,15 @@ pub record PlannedTaken (p : Plan) (body : List ℕ) (answer : Answer TakenOut) 
   pub says : plan_taken p body ≡ answer
   pub inside : PlanIn p body
 
+-- and of a planned drop: what it reports is what the body that it makes counts
+pub record PlannedDrop (p : DropPlan) (body : List ℕ) (answer : Answer (List ℕ)) (left : List ℕ → ℕ) : Type 0 where
+  pub planned : Planned p.plan body answer
+  pub leaves : (rest : List ℕ) → answer ≡ accepted rest → p.left ≡ left rest
+
+pub record PlannedTake (p : DropPlan) (body : List ℕ) (answer : Answer TakenOut) (left : List ℕ → ℕ) : Type 0 where
+  pub planned : PlannedTaken p.plan body answer
+  pub leaves : (rest : List ℕ) → bytes_of answer ≡ accepted rest → p.left ≡ left rest
+
 -- ---- a further step
 
 -- every result is long enough for a head, and not too long for a body
@@ -75,6 +87,13 @@ pub record Reduces (plan : Plan) (amount : ℕ) (r : Plan) : Type 0 where
 pub record Needs (plan r : Plan) : Type 0 where
   pub says : (body : List ℕ) → plan_answer r body ≡ if_absent (plan_answer plan body) (refused 5)
   pub inside : (body : List ℕ) → PlanIn plan body → PlanIn r body
+
+-- an edit's answer with how many are left
+unfoldable pub dropped_from : ℕ → Edited → Dropped
+dropped_from left (Written size) = Less size left
+dropped_from left Missing = Unfound
+dropped_from left Gone = Last
+dropped_from left (Stopped refusal) = Undropped refusal
 
 -- an edit's answer with the count of the reference that was taken out. No plan that takes one out is remove (format/proofs/Decisions,
 -- `take-keeps`), so 101 does not come

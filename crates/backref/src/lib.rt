@@ -9,6 +9,7 @@ mod further;
 mod keyed;
 mod keyed_plans;
 mod new_bytes;
+mod offs;
 mod pick;
 mod plan;
 mod plans;
@@ -27,10 +28,13 @@ pub use drop_plans::plan_drop;
 pub use further::{plan_needed, plan_reduced};
 pub use keyed::{drop_keyed_data_ref, keyed_data_ref_body};
 pub use keyed_plans::plan_drop_keyed;
+pub use offs::{Off, off_of, plan_off};
 pub use pick::{inline_payload, inline_ref};
-pub use plan::{Outcome, Plan, edit, refuse, without};
+pub use plan::{DropPlan, Outcome, Plan, edit, no_drop, refuse, without};
 pub use plans::{plan_add_shared, plan_take_shared, shared_kind, shared_name};
 pub use positions::inline_refs;
 pub use total_calls::{flags, lower_total, raise_total, reduce_total, with_flags};
 pub use total_plans::{TotalChange, plan_total, plan_total_part};
-pub use write::{plan_length, put_edit, write_plan, write_same, write_taken};
+pub use write::{
+    plan_length, put_edit, with_left, write_dropped, write_plan, write_same, write_taken,
+};

@@ -23,6 +23,13 @@ pub struct Plan {
     pub count: u32,
 }
 
+// A planned drop: the edit, and how many are left under the name in what it makes.
+#[derive(Clone, Copy)]
+pub struct DropPlan {
+    pub plan: Plan,
+    pub left: u64,
+}
+
 // No edit.
 pub fn without(outcome: Outcome) -> Plan
     ensures outcome_value { result.outcome ≡ outcome }
@@ -58,4 +65,11 @@ pub fn edit(from: usize, to: usize, new: [u8; 32], size: usize, total: u64, coun
         total,
         count,
     }
+}
+
+// A drop without a result leaves nothing to report.
+pub fn no_drop(plan: Plan) -> DropPlan
+    ensures { result ≡ record { plan = plan; left = 0 } }
+{
+    DropPlan { plan, left: 0 }
 }

@@ -3,12 +3,12 @@ ghost use Rattle.std.specs.Prelude.{◌≡◌, ◌+◌, ◌-◌, ◌≤◌, leng
 ghost use Rattle.fields.specs.Numbers.{le_bytes};
 ghost use Rattle.fields.specs.Parts.{written, spliced};
 ghost use Rattle.format.specs.Constants.{most_data};
-ghost use Rattle.format.specs.Questions.{Answered, AnsweredTaken, accepted};
+ghost use Rattle.format.specs.Questions.{Answered, AnsweredDropped, AnsweredTaken, accepted};
 ghost use Rattle.format.specs.Bodies.{held_body, held_taken};
-ghost use Rattle.backref.specs.Plans.{edited, plan_answer, plan_taken, EditIn, PlanIn};
+ghost use Rattle.backref.specs.Plans.{edited, plan_answer, plan_taken, EditIn, PlanIn, dropped_from};
 
-use crate::plan::{Outcome, Plan};
-use format::{Edited, MOST_DATA, Taken};
+use crate::plan::{DropPlan, Outcome, Plan};
+use format::{Dropped, Edited, MOST_DATA, Taken};
 
 // How long a body of so many bytes is after a planned edit.
 pub fn plan_length(plan: Plan, body_len: usize) -> usize
@@ -67,6 +67,26 @@ pub fn write_plan(body: &[u8], plan: Plan, out: &mut [u8]) -> Edited
         Outcome::Remove => Edited::Remove,
         Outcome::Refused(refusal) => Edited::Refused(refusal),
     }
+}
+
+// An edit's answer with how many are left.
+pub fn with_left(answer: Edited, left: u64) -> Dropped
+    ensures { result ≡ dropped_from left answer }
+{
+    match answer {
+        Edited::Written(size) => Dropped::Written { size, left },
+        Edited::Absent => Dropped::Absent,
+        Edited::Remove => Dropped::Remove,
+        Edited::Refused(refusal) => Dropped::Refused(refusal),
+    }
+}
+
+pub fn write_dropped(body: &[u8], drop: DropPlan, out: &mut [u8]) -> Dropped
+    requires { PlanIn drop.plan body.now }
+    ensures { AnsweredDropped (held_body (length out.old) (plan_answer drop.plan body.now)) drop.left result out.old out.new }
+{
+    let edited = write_plan(body, drop.plan, out);
+    with_left(edited, drop.left)
 }
 
 // The same with the count of the reference that was taken out. No plan that takes one out is `Remove`, so 101 does not come.
