@@ -4,21 +4,21 @@ use mathlib.Core.Bool.{Bool, true, false, ◌&&◌, cond}
 use mathlib.Core.List.{List}
 use Prim.Native.Nat.{ℕ, ◌+◌, ◌-◌, ◌≤◌, ◌<◌}
 use native.Mathlib.Omega.{arith}
-use lib.Dec.{leb, eqb, eqb→eq, leb→le}
+use lib.Dec.{T, leb, eqb, eqb→eq, leb→le}
 use lib.ListN.{length}
 use lib.Seq.{take_all}
 use mir.Facts.{and_yes}
-use borrow.Author.Tests.{lt-ltb, le-ltb}
+use borrow.Author.Tests.{lt-ltb, le-ltb, eqb-true}
 use Rattle.fields.specs.Lists.{same}
 use Rattle.fields.specs.Numbers.{le, le_bytes, words}
 use Rattle.fields.specs.Parts.{part, written}
 use Rattle.format.specs.declared.DataRef.{DataRef}
 use Rattle.format.specs.declared.Edited.{Edited}
 use Rattle.format.specs.declared.Edited.TheVariants.{Absent as NoMatch, Refused as Denied}
-use Rattle.format.specs.Questions.{Answer, absent, refused, remove, accepted, bind, lent, edited_of, Answered}
+use Rattle.format.specs.Questions.{Answer, absent, refused, remove, accepted, ask, bind, lent, edited_of, Answered}
 use Rattle.format.specs.Bodies.{triple, body_fits, lowered_by_part, on_total, lower_total, keyed_count, drop_keyed_data_ref}
 use Rattle.format.specs.Ledger.{less_item}
-use Rattle.format.proofs.Answers.{ask-ok, accepted-inj, remove-not}
+use Rattle.format.proofs.Answers.{ask-ok, bind_ok, accepted-inj, refused-not, absent-not, remove-not}
 use Rattle.format.proofs.Outputs.{answered-refused}
 use Rattle.backref.specs.declared.plan.Outcome.{Outcome}
 use Rattle.backref.specs.declared.plan.Outcome.TheVariants.{Edit, Absent, Remove, Refused}
@@ -46,6 +46,24 @@ keyed-out item d {bytes} e =
         → bytes ≡ written 24 (le_bytes 4 (keyed_count item - 1)) item
     go true f = remove-not f
     go false f = sym (accepted-inj f)
+
+-- an item that goes: it counts one
+asked-gone : {A : Type 0} (b : Bool) (n : ℕ) (next : Answer A) → ask b n next ≡ remove → T b × (next ≡ remove)
+unfolding ask
+asked-gone true n next e = (tt, e)
+asked-gone false n next e = let z : ◌≡◌ {A = ℕ} 0 1 = cc in absurd (omega arith)
+
+pub keyed-gone : (item : List ℕ) (d : DataRef) → drop_keyed_data_ref item d ≡ remove → (length item ≡ 28) × (keyed_count item ≡ 1)
+unfolding drop_keyed_data_ref
+keyed-gone item d e =
+    let h₁ = asked-gone (body_fits item) 3 _ e in
+    let h₂ = asked-gone (eqb (length item) 28 && same (words 3 item) (triple d)) 15 _ h₁.1 in
+    let h₃ = asked-gone (leb 1 (keyed_count item)) 16 _ h₂.1 in
+    (eqb→eq _ _ (and_yes (eqb (length item) 28) _ h₂.0).0, go (eqb (keyed_count item) 1) refl h₃.1)
+  where
+    go : (b : Bool) → eqb (keyed_count item) 1 ≡ b → cond b remove (accepted (written 24 (le_bytes 4 (keyed_count item - 1)) item)) ≡ remove → keyed_count item ≡ 1
+    go true h f = eqb-true _ _ h
+    go false h f = remove-not (sym f)
 
 -- as code reads it
 count-is : (s : List ℕ) (from to : ℕ) → from + 21 ≤ to → to ≤ length s → length (data_of s from to) ≡ 28 → keyed_count (data_of s from to) ≡ le (part (to - 4) 4 s)
@@ -116,12 +134,37 @@ total-refused s target room next p r old new total other w =
     go Remove e h = rw (plan-is p (data_of s target.start target.end) e)
     go (Refused k) e h = rw (plan-is p (data_of s target.start target.end) e)
 
+-- and nothing is made
+pub total-stays : (p : Plan) (d : List ℕ) (next : List ℕ → Answer (List ℕ)) → Planned p d (lower_total d) → (p.outcome ≡ Edit → ⊥)
+    → {result : List ℕ} → bind (lower_total d) next ≡ accepted result → ⊥
+unfolding plan_outcome
+total-stays p d next total other f = go p.outcome refl other
+  where
+    made : (body : List ℕ) × (plan_answer p d ≡ accepted body)
+    made = let h = bind_ok (lower_total d) next f in (h.0, total.says ∙ h.1)
+
+    go : (o : Outcome) → p.outcome ≡ o → (o ≡ Edit → ⊥) → ⊥
+    go Edit e h = h refl
+    go Absent e h = absent-not (sym (plan-is p d e) ∙ made.1)
+    go Remove e h = remove-not (sym (plan-is p d e) ∙ made.1)
+    go (Refused k) e h = refused-not (sym (plan-is p d e) ∙ made.1)
+
 -- what stands there counts at least one
 pub one-counted : (s : List ℕ) (from to count : ℕ) (name : DataRef) (q : Plan) → from + 21 ≤ to → to ≤ length s
     → Planned q (data_of s from to) (drop_keyed_data_ref (data_of s from to) name) → q.outcome ≡ Edit → count ≡ le (part (to - 4) 4 s) → 1 ≤ count
 unfolding plan_outcome
 one-counted s from to count name q a b h e is =
     let k = keyed-out (data_of s from to) name (sym h.says ∙ plan-is q (data_of s from to) e) in
+    let c = count-is s from to a b k.0 in
+    let one = k.1 in
+    omega arith
+
+-- and one, where the item goes
+pub one-gone : (s : List ℕ) (from to : ℕ) (name : DataRef) (q : Plan) → from + 21 ≤ to → to ≤ length s
+    → Planned q (data_of s from to) (drop_keyed_data_ref (data_of s from to) name) → q.outcome ≡ Remove → 0 ≡ le (part (to - 4) 4 s) - 1
+unfolding plan_outcome
+one-gone s from to name q a b h e =
+    let k = keyed-gone (data_of s from to) name (sym h.says ∙ plan-is q (data_of s from to) e) in
     let c = count-is s from to a b k.0 in
     let one = k.1 in
     omega arith

@@ -3,6 +3,7 @@ pub mod Triples
 pub mod FileRefs
 pub mod Counts
 pub mod Only
+pub mod Reports
 pub mod LeftBodies
 pub mod LeftItems
 pub mod ItemDrops
