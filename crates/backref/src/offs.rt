@@ -58,8 +58,7 @@ fn total_off(off: Off, total: u64) -> u64
     }
 }
 
-// So much off the wanted reference. All drops share this function, which the compiler then keeps whole, the scan in it: handed on
-// in memory, the name and the body cost a short call a third of its time.
+// So much off the wanted reference, and how many are left under its name.
 pub fn plan_off(item_type: u8, body: &[u8], wanted: RefName, off: Off) -> DropPlan
     ensures { PlannedOff result item_type body.now wanted off }
 {

@@ -1,5 +1,5 @@
 -- Document 02, ticket 5, "How many are left": what each drop reports beside its result. No result moves for it: the number is read
--- off what the call's definition answers, and is 0 where that has no result. Assumes nothing.
+-- off what the call's definition answers, and is 0 where that has no result. No call hands it back so far. Assumes nothing.
 use Rattle.std.specs.Prelude.{Bool, true, false, cond, List, ℕ}
 use Rattle.fields.specs.Lists.{sum, first_cut}
 use Rattle.format.specs.declared.BlockRef.{BlockRef}

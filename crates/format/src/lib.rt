@@ -131,8 +131,8 @@ pub enum Edited {
     Refused(u32),
 }
 
-// What a drop answers (document 02's ticket 5): the same, and how many are left under the name that it touched. A posting answers
-// so too, and an added reference leaves 0.
+// The same with how many are left under the name that a drop touched (document 02's ticket 5); an added reference leaves 0. The
+// calls that drop answer `Edited` so far.
 #[derive(Clone, Copy)]
 pub enum Dropped {
     Written { size: usize, left: u64 },
