@@ -24,12 +24,12 @@ use Rattle.format.specs.Apply.{inline_limit, keyed_body, apply_keyed_add, shared
 use Rattle.format.specs.Names.{Name, ref_entries}
 use Rattle.format.specs.Ledger.{name_of, not_its_own, added}
 use Rattle.format.proofs.Answers.{ask-ok, bind_ok, also-ok, accepted-inj}
-use Rattle.format.proofs.Refs.{whole, whole_in}
+use Rattle.format.proofs.Refs.{whole, whole_in, whole-weighed}
 use Rattle.format.proofs.Bodies.{sound-with}
 use Rattle.theorems.proofs.Naming.{not-172, naming-known, weighs-one, shared-rank}
 use Rattle.theorems.proofs.Order.{named-yes, PositionOk, at_gap, at-standing, position-anywhere, position-by-scan, ordered-weighed}
 use Rattle.theorems.proofs.Edit.{Balanced}
-use Rattle.theorems.proofs.Facts.{named-entries, whole-weighed, not-empty}
+use Rattle.theorems.proofs.Facts.{named-entries, not-empty}
 use Rattle.theorems.proofs.Steps.{tidy, NameOk, Step, Here, on-record, on-body, ordered_at, long-at, inline-step, nowhere}
 
 -- what an accepted addition says, and the body that it makes

@@ -21,14 +21,14 @@ use Rattle.format.specs.Apply.{is_record, record_of, replaced}
 use Rattle.format.specs.Names.{Name, Entry, extent_record, view_of, ref_entries, item_entries, entries, under, count, good, stands, of_extent}
 use Rattle.format.specs.Ledger.{dropped_at}
 use Rattle.format.proofs.Answers.{bind_ok, needed-ok, accepted-inj}
-use Rattle.format.proofs.Refs.{whole, whole_out}
+use Rattle.format.proofs.Refs.{whole, whole_out, whole-weighed}
 use Rattle.format.proofs.Bodies.{Sound, sound-with, are_bytes-body_bytes}
 use Rattle.format.proofs.Keys.{same_key-yes, same_key-refl}
 use Rattle.theorems.proofs.Sums.{empty, sum-mid, sum-two, sum-refs}
 use Rattle.theorems.proofs.Naming.{Naming, not-172, weighs-one, naming-no-record}
 use Rattle.theorems.proofs.Order.{named-yes, ordered-weighed, ordered-drop}
 use Rattle.theorems.proofs.Edit.{only, worth, only-stands, only-counts, Balanced, Fresh, Half, half-drop, half-swap, edit-item, extent-self, record-entries}
-use Rattle.theorems.proofs.Facts.{named-entries, whole-weighed, unstood, positive, not-empty, view-written}
+use Rattle.theorems.proofs.Facts.{named-entries, unstood, positive, not-empty, view-written}
 use Rattle.theorems.proofs.Steps.{tidy, tidy-with, tidy-bytes, Step, Here, ordered_at, inline-step}
 use Rattle.theorems.proofs.Bounds.{total-is}
 

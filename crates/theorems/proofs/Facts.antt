@@ -18,12 +18,11 @@ use Rattle.fields.proofs.Parts.{length_part}
 use Rattle.fields.proofs.Numbers.{are_bytes-part, le-bound, le-le_bytes}
 use Rattle.format.specs.Questions.{Answer, refused, absent, remove, accepted}
 use Rattle.format.specs.References.{known, payload_length, count_position, counted, field_count, row_in, weight_of, Ref, make_ref, ref_at, Body, read_body, body_bytes, rank}
-use Rattle.format.specs.Bodies.{named, one, weighed, keyed_count}
+use Rattle.format.specs.Bodies.{named, one, keyed_count}
 use Rattle.format.specs.Items.{Item, with_bytes}
 use Rattle.format.specs.Apply.{is_record, record_of}
 use Rattle.format.specs.Names.{Name, same_name, Entry, View, extent_record, reference, unrelated, malformed, is_ref_item, view_record, in_form, view_ref_item, view_of, ref_entry, ref_entries, view_entries, item_entries, entries, under, well_formed, good, stands}
 use Rattle.format.specs.Ledger.{not_its_own, shared_count}
-use Rattle.format.proofs.Refs.{whole, whole_in, whole_out}
 use Rattle.format.proofs.Bodies.{Sound, read-body_bytes}
 use Rattle.theorems.proofs.Sums.{same_name-yes, empty}
 use Rattle.theorems.proofs.Naming.{Naming, is176, is178, is182, is184}
@@ -155,20 +154,6 @@ pub named-entries : (m : Name) (r : Ref) → eqb m.kind 172 ≡ false → r.kind
     → ref_entries m.extent (r ∷ []) ≡ only m (some r.weight)
 unfolding ref_entries
 named-entries m r q k f = ap (λ (l : List Entry). l ++ []) (named-entry m r q k f)
-
--- a reference that bytes can hold, with another weight
-pub whole-weighed : (r : Ref) (v : ℕ) → T (whole r) → (T (counted r.kind) → v < 4294967296)
-    → (T (not (counted r.kind)) → v ≡ r.weight) → T (whole (weighed r v))
-whole-weighed r v t small fixed =
-    let w = whole_out r t in
-    whole_in (weighed r v)
-    (record {
-      kind_known = w.kind_known;
-      fields_long = w.fields_long;
-      fields_small = w.fields_small;
-      weighs = small;
-      weight_fixed = λ u. fixed u ∙ w.weight_fixed u;
-    })
 
 -- ---- a reference as an item
 

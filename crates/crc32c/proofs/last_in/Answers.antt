@@ -14,22 +14,18 @@ use Rattle.crc32c.proofs.last_in.Goals as goal
 
 pub overflow_cast-above-2 : goal.overflow_cast-above-2
 overflow_cast-above-2 c =
-    let start = c in
-    let bits = 8 * (length start.args.bytes.now - start.args.at) in
-    omega (arith, shr_le start.args.register bits, start.ranges.register.fits)
+    let bits = 8 * (length c.args.bytes.now - c.args.at) in
+    omega (arith, shr_le c.args.register bits, c.ranges.register.fits)
 
 pub returns : goal.returns
 returns c =
-    let call = c in
-    let known = call in
-    let start = known in
-    let register = start.args.register in
-    let bytes = start.args.bytes.now in
-    let at = start.args.at in
+    let register = c.args.register in
+    let bytes = c.args.bytes.now in
+    let at = c.args.at in
     let n = length bytes - at in
-    let fits : (i : ℕ) → get_or bytes i 0 < 256 = λ i. (known.shared_slice_known-1.given i).fits in
+    let fits : (i : ℕ) → get_or bytes i 0 < 256 = λ i. (c.shared_slice_known-1.given i).fits in
     let few : n ≤ 8 = omega arith in
     let all : length bytes ≤ at + n = omega arith in
     ap (bit_xor (register / 2 ^ (8 * n))) c.u64_in.ensures
-    ∙ last-bytes crc32c n register _ few (last-bound bytes fits at n all call.last_number-x.ensures)
-    ∙ ap (crc_run crc32c register) (last-part bytes fits at call.last_number-x.ensures)
+    ∙ last-bytes crc32c n register _ few (last-bound bytes fits at n all c.last_number-x.ensures)
+    ∙ ap (crc_run crc32c register) (last-part bytes fits at c.last_number-x.ensures)

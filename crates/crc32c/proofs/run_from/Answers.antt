@@ -13,15 +13,13 @@ loop-at-init c = (c.requires, refl)
 
 pub loop-at-preserved : goal.loop-at-preserved
 loop-at-preserved c =
-    let read = c in
-    let l = read.loop-at in
-    let known = read in
-    let bytes = known.args.bytes.now in
-    let fits : (i : ℕ) → get_or bytes i 0 < 256 = λ i. (known.shared_slice_known-1.given i).fits in
+    let l = c.loop-at in
+    let bytes = c.args.bytes.now in
+    let fits : (i : ℕ) → get_or bytes i 0 < 256 = λ i. (c.shared_slice_known-1.given i).fits in
     let inside : l.at + 8 ≤ length bytes = omega arith in (
       inside,
       ap (λ (s : ℕ). crc_run crc32c s (drop (l.at + 8) bytes))
-          (c.u64_in-r.ensures ∙ ap (crc_run crc32c l.r) (number-part bytes fits 8 l.at inside read.get_u64_le.ensures))
+          (c.u64_in-r.ensures ∙ ap (crc_run crc32c l.r) (number-part bytes fits 8 l.at inside c.get_u64_le.ensures))
           ∙ run-part crc32c l.r 8 l.at bytes
           ∙ l.invariant.1,
     )

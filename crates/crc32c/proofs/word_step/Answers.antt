@@ -10,9 +10,6 @@ use Rattle.crc32c.proofs.word_step.Goals as goal
 
 pub returns : goal.returns
 returns c =
-    let three = c in
-    let two = three in
-    let one = two in
-    let args = one.args in
-    ap₂ bit_xor (ap₂ bit_xor (ap₂ bit_xor one.entry-a.ensures two.entry-b.ensures) three.entry-c.ensures) c.entry-d.ensures
+    let args = c.args in
+    ap₂ bit_xor (ap₂ bit_xor (ap₂ bit_xor c.entry-a.ensures c.entry-b.ensures) c.entry-c.ensures) c.entry-d.ensures
     ∙ sym (word-by-steps crc32c args.register args.word (search rules) (search rules))

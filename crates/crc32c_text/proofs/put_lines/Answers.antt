@@ -17,21 +17,18 @@ put_hex-end-requires c = omega (arith, c.loop-n.invariant.1)
 
 pub put_byte-at-requires : goal.put_byte-at-requires
 put_byte-at-requires c =
-    let hex = c in
-    omega (arith, hex.put_hex-end.ensures.1, hex.loop-n.invariant.1)
+    omega (arith, c.put_hex-end.ensures.1, c.loop-n.invariant.1)
 
 pub loop-n-preserved : goal.loop-n-preserved
 loop-n-preserved c =
-    let byte = c in
-    let hex = byte in
-    let l = hex.loop-n in
-    let table = hex.table_of-table.result in
+    let l = c.loop-n in
+    let table = c.table_of-table.result in
     let inside : l.n < length table = omega (arith, l.invariant.3) in (
-      makes-line table l.n inside (put-line _ hex.put_hex-end.ensures.0 byte.put_byte-at.ensures) l.invariant.0,
-      omega (arith, byte.put_byte-at.ensures.further, hex.put_hex-end.ensures.1, l.invariant.1),
+      makes-line table l.n inside (put-line _ c.put_hex-end.ensures.0 c.put_byte-at.ensures) l.invariant.0,
+      omega (arith, c.put_byte-at.ensures.further, c.put_hex-end.ensures.1, l.invariant.1),
       omega arith,
       l.invariant.3,
-      byte.put_byte-at.auto.out ∙ hex.put_hex-end.auto.out ∙ l.invariant.4,
+      c.put_byte-at.auto.out ∙ c.put_hex-end.auto.out ∙ l.invariant.4,
     )
 
 pub shape_of-out : goal.shape_of-out

@@ -4,8 +4,7 @@ use Rattle.extent_write.proofs.hash_below.Goals as goal
 
 pub returns-then-top-bound : goal.returns-then-top-bound
 returns-then-top-bound c =
-    let s = c in
-    below-by-top s.args.tree s.args.objectid s.args.offset _ s.args.rank c.register_of-one.ensures
+    below-by-top c.args.tree c.args.objectid c.args.offset _ c.args.rank c.register_of-one.ensures
     (search rules) (search rules) c.if-top-bound.true
 
 pub returns : goal.returns

@@ -14,7 +14,6 @@ returns-then-n-gt-MOST_DATA c = answered-refused _ (too_long _ _ c.if-out-n.fals
 
 pub returns : goal.returns
 returns c =
-    let at-if2 = c in
-    let bytes : List ℕ = at-if2.args.bytes.now in
-    answered-written (held-body bytes _ at-if2.if-out-n.false at-if2.if-n-gt-MOST_DATA.false)
+    let bytes : List ℕ = c.args.bytes.now in
+    answered-written (held-body bytes _ c.if-out-n.false c.if-n-gt-MOST_DATA.false)
     (rw (part-all (length bytes) bytes refl) at c.copy_at.ensures)

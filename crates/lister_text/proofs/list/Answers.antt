@@ -7,6 +7,4 @@ returns-then-out-n c =
 
 pub returns : goal.returns
 returns c =
-    let put = c in
-    let test = c in
-    text-writes _ _ _ _ _ test.put_text-n.ensures.0.further test.if-out-n.false put.put_text.ensures.0
+    text-writes _ _ _ _ _ c.put_text-n.ensures.0.further c.if-out-n.false c.put_text.ensures.0

@@ -7,49 +7,31 @@ use Rattle.lister_text.proofs.put_body.Goals as goal
 
 pub count_refs-requires : goal.count_refs-requires
 count_refs-requires c =
-    let start = c in
-    let o = opens _ _ _ (sym start.in-From.is ∙ start.open_body.ensures) in record { table_value = c.rows-rows.ensures; start_in_bounds = (o.inside, o.fits) }
+    let o = opens _ _ _ (sym c.in-From.is ∙ c.open_body.ensures) in record { table_value = c.rows-rows.ensures; start_in_bounds = (o.inside, o.fits) }
 
 pub put_head-at-requires : goal.put_head-at-requires
 put_head-at-requires c =
-    let start = c in
-    (opens _ _ _ (sym start.in-From.is ∙ start.open_body.ensures)).long
+    (opens _ _ _ (sym c.in-From.is ∙ c.open_body.ensures)).long
 
 pub put_refs-requires : goal.put_refs-requires
 put_refs-requires c =
-    let head = c in
-    let count = c in
-    let counted = c in
-    let rows = c in
-    let start = c in
-    let o = opens _ _ _ (sym start.in-From.is ∙ start.open_body.ensures) in record { rows_value = rows.rows-rows.ensures; body_len_bound = (o.fits, sym count.in-Count.is ∙ counted.count_refs.ensures, o.inside, head.put_head-at.ensures.1) }
+    let o = opens _ _ _ (sym c.in-From.is ∙ c.open_body.ensures) in record { rows_value = c.rows-rows.ensures; body_len_bound = (o.fits, sym c.in-Count.is ∙ c.count_refs.ensures, o.inside, c.put_head-at.ensures.1) }
 
 pub returns-in-Refused : goal.returns-in-Refused
 returns-in-Refused c =
-    let put = c in
-    let number = c in
-    let o = opens _ _ _ (sym number.in-Refused.is ∙ number.open_body.ensures) in
-    (put_is (text-shut _ _ _ o) put.put_refused.ensures.0, omega (arith, put.put_refused.ensures.1))
+    let o = opens _ _ _ (sym c.in-Refused.is ∙ c.open_body.ensures) in
+    (put_is (text-shut _ _ _ o) c.put_refused.ensures.0, omega (arith, c.put_refused.ensures.1))
 
 pub returns-in-Refused-count_refs : goal.returns-in-Refused-count_refs
 returns-in-Refused-count_refs c =
-    let put = c in
-    let number = c in
-    let counted = c in
-    let start = c in
-    let o = opens _ _ _ (sym start.in-From.is ∙ start.open_body.ensures) in (
-      put_is (text-fault _ _ _ o _ (sym number.in-Refused-count_refs.is ∙ counted.count_refs.ensures)) put.put_refused-in-Refused-count_refs.ensures.0,
-      omega (arith, put.put_refused-in-Refused-count_refs.ensures.1),
+    let o = opens _ _ _ (sym c.in-From.is ∙ c.open_body.ensures) in (
+      put_is (text-fault _ _ _ o _ (sym c.in-Refused-count_refs.is ∙ c.count_refs.ensures)) c.put_refused-in-Refused-count_refs.ensures.0,
+      omega (arith, c.put_refused-in-Refused-count_refs.ensures.1),
     )
 
 pub returns-in-Count : goal.returns-in-Count
 returns-in-Count c =
-    let put = c in
-    let head = c in
-    let count = c in
-    let counted = c in
-    let start = c in
-    let o = opens _ _ _ (sym start.in-From.is ∙ start.open_body.ensures) in (
-      put_is (text-is _ _ _ o _ (sym count.in-Count.is ∙ counted.count_refs.ensures)) (put_then head.put_head-at.ensures.0 put.put_refs.ensures.0),
-      omega (arith, o.fits, put.put_refs.ensures.1),
+    let o = opens _ _ _ (sym c.in-From.is ∙ c.open_body.ensures) in (
+      put_is (text-is _ _ _ o _ (sym c.in-Count.is ∙ c.count_refs.ensures)) (put_then c.put_head-at.ensures.0 c.put_refs.ensures.0),
+      omega (arith, o.fits, c.put_refs.ensures.1),
     )

@@ -5,12 +5,8 @@ use Rattle.lister_text.proofs.put_text.Goals as goal
 
 pub returns-then-input-eq0 : goal.returns-then-input-eq0
 returns-then-input-eq0 c =
-    let put = c in
-    let test = c in
-    (put_is (text-empty test.args.input.now test.if-input-eq0.true) put.put_refused.ensures.0, omega (arith, put.put_refused.ensures.1))
+    (put_is (text-empty c.args.input.now c.if-input-eq0.true) c.put_refused.ensures.0, omega (arith, c.put_refused.ensures.1))
 
 pub returns : goal.returns
 returns c =
-    let put = c in
-    let test = c in
-    (put_is (text-some test.args.input.now test.if-input-eq0.false) put.put_body.ensures.0, put.put_body.ensures.1)
+    (put_is (text-some c.args.input.now c.if-input-eq0.false) c.put_body.ensures.0, c.put_body.ensures.1)

@@ -15,14 +15,13 @@ put_byte-next-requires c =
 
 pub loop-i-preserved : goal.loop-i-preserved
 loop-i-preserved c =
-    let call = c in
-    let loop = call.loop-i in
-    let bytes = call.args.bytes.now in
+    let loop = c.loop-i in
+    let bytes = c.args.bytes.now in
     let inside : loop.i < length bytes = omega arith in (
-      makes-byte _ _ inside call.put_byte-next.ensures loop.invariant.0,
-      omega (arith, call.put_byte-next.ensures.further, loop.invariant.1),
+      makes-byte _ _ inside c.put_byte-next.ensures loop.invariant.0,
+      omega (arith, c.put_byte-next.ensures.further, loop.invariant.1),
       omega arith,
-      call.put_byte-next.auto.out ∙ loop.invariant.3,
+      c.put_byte-next.auto.out ∙ loop.invariant.3,
     )
 
 pub shape_of-out : goal.shape_of-out

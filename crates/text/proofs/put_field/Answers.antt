@@ -5,9 +5,7 @@ use Rattle.text.proofs.Writes.{put_is, put_then}
 use Rattle.text.proofs.put_field.Goals as goal
 
 pub returns : goal.returns
-returns c =
-    let last = c in
-    let first = last in (
-      put_is (sym (spaced-one _)) (put_then first.put_byte-next.ensures last.put_digits.ensures.0),
-      omega (arith, first.put_byte-next.ensures.further, last.put_digits.ensures.1),
-    )
+returns c = (
+  put_is (sym (spaced-one _)) (put_then c.put_byte-next.ensures c.put_digits.ensures.0),
+  omega (arith, c.put_byte-next.ensures.further, c.put_digits.ensures.1),
+)

@@ -6,10 +6,8 @@ use Rattle.backref.proofs.asks.holds_inline_data_ref.Goals as goal
 
 pub returns-in_default : goal.returns-in_default
 returns-in_default c =
-    let hit = c in
-    let seen = c in
-    let r = scan-reads _ _ (Data _) 0 _ (sym seen.in-Read.is ∙ seen.scan_body.ensures) in
-    holds-no _ _ _ _ r (sym c.in_default.is ∙ hit.hit_of.ensures)
+    let r = scan-reads _ _ (Data _) 0 _ (sym c.in-Read.is ∙ c.scan_body.ensures) in
+    holds-no _ _ _ _ r (sym c.in_default.is ∙ c.hit_of.ensures)
 
 pub returns-in-Fault : goal.returns-in-Fault
 returns-in-Fault c =
@@ -17,7 +15,5 @@ returns-in-Fault c =
 
 pub returns-in-At : goal.returns-in-At
 returns-in-At c =
-    let hit = c in
-    let seen = c in
-    let r = scan-reads _ _ (Data _) 0 _ (sym seen.in-Read.is ∙ seen.scan_body.ensures) in
-    holds-yes _ _ _ _ r _ _ _ (sym c.in-At.is ∙ hit.hit_of.ensures)
+    let r = scan-reads _ _ (Data _) 0 _ (sym c.in-Read.is ∙ c.scan_body.ensures) in
+    holds-yes _ _ _ _ r _ _ _ (sym c.in-At.is ∙ c.hit_of.ensures)

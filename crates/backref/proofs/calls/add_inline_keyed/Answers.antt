@@ -3,10 +3,8 @@ use Rattle.backref.proofs.calls.add_inline_keyed.Goals as goal
 
 pub returns-in-Block : goal.returns-in-Block
 returns-in-Block c =
-    let add = c in
-    keyed-block _ _ _ _ _ _ add.in-Block.is add.add_keyed.ensures
+    keyed-block _ _ _ _ _ _ c.in-Block.is c.add_keyed.ensures
 
 pub returns-in-Data : goal.returns-in-Data
 returns-in-Data c =
-    let add = c in
-    keyed-data _ _ _ _ _ _ add.in-Data.is add.add_keyed-in-Data.ensures
+    keyed-data _ _ _ _ _ _ c.in-Data.is c.add_keyed-in-Data.ensures

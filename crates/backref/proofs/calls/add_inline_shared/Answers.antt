@@ -3,5 +3,4 @@ use Rattle.backref.proofs.calls.add_inline_shared.Goals as goal
 
 pub returns : goal.returns
 returns c =
-    let write = c in
-    answered _ write.plan_add_shared-plan.ensures write.write_plan.ensures
+    answered _ c.plan_add_shared-plan.ensures c.write_plan.ensures

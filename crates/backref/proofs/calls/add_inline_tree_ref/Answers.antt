@@ -5,5 +5,4 @@ use Rattle.backref.proofs.calls.add_inline_tree_ref.Goals as goal
 pub returns : goal.returns
 unfolding add_inline_tree_ref
 returns c =
-    let write = c in
-    answered _ write.plan_add-plan.ensures write.write_plan.ensures
+    answered _ c.plan_add-plan.ensures c.write_plan.ensures

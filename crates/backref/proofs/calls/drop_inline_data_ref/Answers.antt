@@ -3,5 +3,4 @@ use Rattle.backref.proofs.calls.drop_inline_data_ref.Goals as goal
 
 pub returns : goal.returns
 returns c =
-    let write = c in
-    answered _ write.plan_drop-plan.ensures write.write_plan.ensures
+    answered _ c.plan_drop-plan.ensures c.write_plan.ensures

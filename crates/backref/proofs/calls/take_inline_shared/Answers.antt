@@ -3,5 +3,4 @@ use Rattle.backref.proofs.calls.take_inline_shared.Goals as goal
 
 pub returns : goal.returns
 returns c =
-    let write = c in
-    answered-taken _ write.plan_take_shared-plan.ensures write.write_taken.ensures
+    answered-taken _ c.plan_take_shared-plan.ensures c.write_taken.ensures

@@ -8,67 +8,42 @@ use Rattle.backref.proofs.drop_plans.plan_drop.Goals as goal
 
 pub returns-in_default : goal.returns-in_default
 returns-in_default c =
-    let hit = c in
-    let seen = c in
-    let s = c in
-    let r = scan-reads _ _ _ 0 _ (sym seen.in-Read.is ∙ seen.scan_body.ensures) in
-    drop-named _ _ _ s.requires (drop-absent _ _ _ _ _ _ _ r (sym c.in_default.is ∙ hit.hit_of.ensures) c.without.ensures.outcome_value)
+    let r = scan-reads _ _ _ 0 _ (sym c.in-Read.is ∙ c.scan_body.ensures) in
+    drop-named _ _ _ c.requires (drop-absent _ _ _ _ _ _ _ r (sym c.in_default.is ∙ c.hit_of.ensures) c.without.ensures.outcome_value)
 
 pub get_u64_le-total-requires : goal.get_u64_le-total-requires
 get_u64_le-total-requires c =
-    let seen = c in
-    let r = scan-reads _ _ _ 0 _ (sym seen.in-Read.is ∙ seen.scan_body.ensures) in
+    let r = scan-reads _ _ _ 0 _ (sym c.in-Read.is ∙ c.scan_body.ensures) in
     omega (arith, read-long _ _ _ r.read)
 
 pub returns-then-fault-ne0 : goal.returns-then-fault-ne0
 returns-then-fault-ne0 c =
-    let fault = c in
-    let got = c in
-    let hit = c in
-    let seen = c in
-    let s = c in
-    let r = scan-reads _ _ _ 0 _ (sym seen.in-Read.is ∙ seen.scan_body.ensures) in
-    drop-named _ _ _ s.requires
-    (drop-refused _ _ _ _ _ _ _ r _ _ _ _ (sym got.in-At.is ∙ hit.hit_of.ensures) got.get_u64_le-total.ensures _
-    (lowers-refused s.args.wanted _ _ _ _ fault.drop_fault-fault.ensures s.requires c.if-fault-ne0.true) c.refuse-then-fault-ne0.ensures.outcome_value)
+    let r = scan-reads _ _ _ 0 _ (sym c.in-Read.is ∙ c.scan_body.ensures) in
+    drop-named _ _ _ c.requires
+    (drop-refused _ _ _ _ _ _ _ r _ _ _ _ (sym c.in-At.is ∙ c.hit_of.ensures) c.get_u64_le-total.ensures _
+    (lowers-refused c.args.wanted _ _ _ _ c.drop_fault-fault.ensures c.requires c.if-fault-ne0.true) c.refuse-then-fault-ne0.ensures.outcome_value)
 
 pub returns-then-weight-amount : goal.returns-then-weight-amount
 returns-then-weight-amount c =
-    let less = c in
-    let fault = c in
-    let got = c in
-    let hit = c in
-    let seen = c in
-    let scan = c in
-    let s = c in
-    let a = s.args in
-    let r = scan-reads a.item_type a.body.now a.wanted 0 _ (sym seen.in-Read.is ∙ scan.scan_body.ensures) in
-    drop-named a.item_type a.wanted _ s.requires
-    (drop-gone a.item_type a.body.now a.wanted _ _ _ _ r _ _ _ _ (sym got.in-At.is ∙ hit.hit_of.ensures)
-    got.get_u64_le-total.ensures (are_bytes-in a.body.now (λ i. (scan.shared_slice_known-1.given i).fits)) _
-    (lowers-passed a.wanted _ _ _ _ fault.drop_fault-fault.ensures s.requires _ less.if-fault-ne0.false less.total_less-rest.ensures)
+    let a = c.args in
+    let r = scan-reads a.item_type a.body.now a.wanted 0 _ (sym c.in-Read.is ∙ c.scan_body.ensures) in
+    drop-named a.item_type a.wanted _ c.requires
+    (drop-gone a.item_type a.body.now a.wanted _ _ _ _ r _ _ _ _ (sym c.in-At.is ∙ c.hit_of.ensures)
+    c.get_u64_le-total.ensures (are_bytes-in a.body.now (λ i. (c.shared_slice_known-1.given i).fits)) _
+    (lowers-passed a.wanted _ _ _ _ c.drop_fault-fault.ensures c.requires _ c.if-fault-ne0.false c.total_less-rest.ensures)
     c.if-weight-amount.true c.edit.ensures)
 
 pub returns-in-Fault : goal.returns-in-Fault
 returns-in-Fault c =
-    let scan = c in
-    drop-named _ _ _ scan.requires
-    (drop-fault _ _ _ _ _ _ _ (sym c.in-Fault.is ∙ scan.scan_body.ensures) c.refuse.ensures.outcome_value)
+    drop-named _ _ _ c.requires
+    (drop-fault _ _ _ _ _ _ _ (sym c.in-Fault.is ∙ c.scan_body.ensures) c.refuse.ensures.outcome_value)
 
 pub returns-else-weight-amount : goal.returns-else-weight-amount
 returns-else-weight-amount c =
-    let new = c in
-    let less = c in
-    let fault = c in
-    let got = c in
-    let hit = c in
-    let seen = c in
-    let scan = c in
-    let s = c in
-    let a = s.args in
-    let r = scan-reads a.item_type a.body.now a.wanted 0 _ (sym seen.in-Read.is ∙ scan.scan_body.ensures) in
-    drop-named a.item_type a.wanted _ s.requires
-    (drop-kept a.item_type a.body.now a.wanted _ _ _ _ r _ _ _ _ (sym got.in-At.is ∙ hit.hit_of.ensures)
-    got.get_u64_le-total.ensures (are_bytes-in a.body.now (λ i. (scan.shared_slice_known-1.given i).fits)) _
-    (lowers-passed a.wanted _ _ _ _ fault.drop_fault-fault.ensures s.requires _ less.if-fault-ne0.false less.total_less-rest.ensures)
-    _ _ new.if-weight-amount.false (record { front = new.bytes_of-new.ensures.result_value; long = new.bytes_of-new.ensures.result_len }) c.size_of-size.ensures c.edit-in-Read.ensures)
+    let a = c.args in
+    let r = scan-reads a.item_type a.body.now a.wanted 0 _ (sym c.in-Read.is ∙ c.scan_body.ensures) in
+    drop-named a.item_type a.wanted _ c.requires
+    (drop-kept a.item_type a.body.now a.wanted _ _ _ _ r _ _ _ _ (sym c.in-At.is ∙ c.hit_of.ensures)
+    c.get_u64_le-total.ensures (are_bytes-in a.body.now (λ i. (c.shared_slice_known-1.given i).fits)) _
+    (lowers-passed a.wanted _ _ _ _ c.drop_fault-fault.ensures c.requires _ c.if-fault-ne0.false c.total_less-rest.ensures)
+    _ _ c.if-weight-amount.false (record { front = c.bytes_of-new.ensures.result_value; long = c.bytes_of-new.ensures.result_len }) c.size_of-size.ensures c.edit-in-Read.ensures)

@@ -3,5 +3,4 @@ use Rattle.backref.proofs.keyed.drop_keyed_data_ref.Goals as goal
 
 pub returns : goal.returns
 returns c =
-    let write = c in
-    answered _ write.plan_drop_keyed-plan.ensures.planned write.write_same.ensures
+    answered _ c.plan_drop_keyed-plan.ensures.planned c.write_same.ensures

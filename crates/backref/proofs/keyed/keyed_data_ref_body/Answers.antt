@@ -14,26 +14,18 @@ put_u32_le-requires c =
 
 pub slice_bounds-new-end : goal.slice_bounds-new-end
 slice_bounds-new-end c =
-    let row = c in
-    let long = long-is row.lengths_of-row.ensures.0 in
+    let long = long-is c.lengths_of-row.ensures.0 in
     omega (arith, long)
 
 pub slice_bounds-put_body-end : goal.slice_bounds-put_body-end
 slice_bounds-put_body-end c =
-    let row = c in
-    let long = long-is row.lengths_of-row.ensures.0 in
-    let inside : row.lengths_of-row.result.payload ≤ length c.put_u32_le.new.out = omega (arith, long) in
+    let long = long-is c.lengths_of-row.ensures.0 in
+    let inside : c.lengths_of-row.result.payload ≤ length c.put_u32_le.new.out = omega (arith, long) in
     sym (length-take-le _ _ inside)
 
 pub returns : goal.returns
 returns c =
-    let at_body = c in
-    let at_count = c in
-    let at_offset = c in
-    let at-objectid = c in
-    let at-tree = c in
-    let row = c in
     answered-body _
-    (item-is _ _ row.lengths_of-row.ensures.1 row.lengths_of-row.ensures.0 at-tree.put_u64_le.ensures
-    at-objectid.put_u64_le-2.ensures at_offset.put_u64_le-3.ensures at_count.put_u32_le.ensures)
-    at_body.put_body.ensures
+    (item-is _ _ c.lengths_of-row.ensures.1 c.lengths_of-row.ensures.0 c.put_u64_le.ensures
+    c.put_u64_le-2.ensures c.put_u64_le-3.ensures c.put_u32_le.ensures)
+    c.put_body.ensures

@@ -15,10 +15,7 @@ put_count-requires c =
 
 pub returns : goal.returns
 returns c =
-    let row = c in
-    let field = c in
-    let kind = c in
-    let a = kind.args in
+    let a = c.args in
     c.put_count.ensures
-    ∙ ap₂ (λ (n : ℕ) (l : List ℕ). with_count n a.count l) row.lengths_of.ensures.1
-    (field.put_u64_le.ensures ∙ ap (written 1 (le_bytes 8 a.field)) kind.put_u8.ensures)
+    ∙ ap₂ (λ (n : ℕ) (l : List ℕ). with_count n a.count l) c.lengths_of.ensures.1
+    (c.put_u64_le.ensures ∙ ap (written 1 (le_bytes 8 a.field)) c.put_u8.ensures)

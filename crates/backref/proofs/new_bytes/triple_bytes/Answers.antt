@@ -13,15 +13,10 @@ put_count-requires c = omega (arith, c.lengths_of.ensures.1, count-inside 178)
 
 pub returns : goal.returns
 returns c =
-    let row = c in
-    let offset = c in
-    let objectid = c in
-    let tree = c in
-    let kind = c in
-    let a = kind.args in
+    let a = c.args in
     c.put_count.ensures
-    ∙ ap₂ (λ (n : ℕ) (l : List ℕ). with_count n a.count l) row.lengths_of.ensures.1
-    (offset.put_u64_le-3.ensures
-    ∙ ap (written 17 (le_bytes 8 a.name.offset)) (objectid.put_u64_le-2.ensures
-    ∙ ap (written 9 (le_bytes 8 a.name.objectid)) (tree.put_u64_le.ensures
-    ∙ ap (written 1 (le_bytes 8 a.name.tree)) kind.put_u8.ensures)))
+    ∙ ap₂ (λ (n : ℕ) (l : List ℕ). with_count n a.count l) c.lengths_of.ensures.1
+    (c.put_u64_le-3.ensures
+    ∙ ap (written 17 (le_bytes 8 a.name.offset)) (c.put_u64_le-2.ensures
+    ∙ ap (written 9 (le_bytes 8 a.name.objectid)) (c.put_u64_le.ensures
+    ∙ ap (written 1 (le_bytes 8 a.name.tree)) c.put_u8.ensures)))

@@ -6,9 +6,8 @@ use Rattle.backref.proofs.pick.inline_payload.Goals as goal
 
 pub returns-in-Refused : goal.returns-in-Refused
 returns-in-Refused c =
-    let call = c in
-    let a = call.args in
-    let h = no_payload a.body.now a.item_type a.index _ call.inline_ref-picked.ensures.0 _ c.in-Refused.is in
+    let a = c.args in
+    let h = no_payload a.body.now a.item_type a.index _ c.inline_ref-picked.ensures.0 _ c.in-Refused.is in
     (h.0, h.1, refl, ap (λ (n : ℕ). n + a.body.ref_ptr.1) h.2)
 
 pub overflow_add-end : goal.overflow_add-end
@@ -23,7 +22,6 @@ slice_bounds-result-end-in-Ref c =
 
 pub returns-in-Ref : goal.returns-in-Ref
 returns-in-Ref c =
-    let call = c in
-    let a = call.args in
-    let h = a-payload a.body.now a.item_type a.index _ call.inline_ref-picked.ensures.0 _ _ c.in-Ref.is refl in
+    let a = c.args in
+    let h = a-payload a.body.now a.item_type a.index _ c.inline_ref-picked.ensures.0 _ _ c.in-Ref.is refl in
     (h.0, h.1, refl, ap (λ (n : ℕ). n + a.body.ref_ptr.1) h.2)

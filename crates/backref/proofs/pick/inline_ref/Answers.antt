@@ -5,15 +5,11 @@ use Rattle.backref.proofs.pick.inline_ref.Goals as goal
 
 pub count_refs-requires : goal.count_refs-requires
 count_refs-requires c =
-    let opened = c in
-    let w = opens _ _ _ (sym c.in-From.is ∙ opened.open_body.ensures) in record { table_value = c.rows-rows.ensures; start_in_bounds = (w.inside, w.fits) }
+    let w = opens _ _ _ (sym c.in-From.is ∙ c.open_body.ensures) in record { table_value = c.rows-rows.ensures; start_in_bounds = (w.inside, w.fits) }
 
 pub pick-requires : goal.pick-requires
 pick-requires c =
-    let counted = c in
-    let rows = c in
-    let start = c in
-    let w = opens _ _ _ (sym start.in-From.is ∙ start.open_body.ensures) in record { rows_value = rows.rows-rows.ensures; body_len_bound = (w.fits, sym c.in-Count.is ∙ counted.count_refs.ensures) }
+    let w = opens _ _ _ (sym c.in-From.is ∙ c.open_body.ensures) in record { rows_value = c.rows-rows.ensures; body_len_bound = (w.fits, sym c.in-Count.is ∙ c.count_refs.ensures) }
 
 pub returns-in-Refused : goal.returns-in-Refused
 returns-in-Refused c =
@@ -21,13 +17,10 @@ returns-in-Refused c =
 
 pub returns-in-Refused-count_refs : goal.returns-in-Refused-count_refs
 returns-in-Refused-count_refs c =
-    let counted = c in
-    let start = c in
-    let w = opens _ _ _ (sym start.in-From.is ∙ start.open_body.ensures) in
-    (pick-refused _ _ _ _ w _ (sym c.in-Refused-count_refs.is ∙ counted.count_refs.ensures), tt)
+    let w = opens _ _ _ (sym c.in-From.is ∙ c.open_body.ensures) in
+    (pick-refused _ _ _ _ w _ (sym c.in-Refused-count_refs.is ∙ c.count_refs.ensures), tt)
 
 pub returns-in-Count : goal.returns-in-Count
 returns-in-Count c =
-    let start = c in
-    let w = opens _ _ _ (sym start.in-From.is ∙ start.open_body.ensures) in
+    let w = opens _ _ _ (sym c.in-From.is ∙ c.open_body.ensures) in
     (c.pick.ensures.0 ∙ pick_is _ _ _ _ w, c.pick.ensures.1)

@@ -8,8 +8,7 @@ shared_name-requires c = sym c.shared_kind.ensures ∙ c.if-shared_kind.true
 
 pub returns-then-shared_kind : goal.returns-then-shared_kind
 returns-then-shared_kind c =
-    let wanted = c in
-    take-is _ _ _ _ _ (sym wanted.shared_kind.ensures ∙ wanted.if-shared_kind.true) wanted.shared_name.ensures c.plan_take.ensures
+    take-is _ _ _ _ _ (sym c.shared_kind.ensures ∙ c.if-shared_kind.true) c.shared_name.ensures c.plan_take.ensures
 
 pub returns : goal.returns
 returns c = take-other _ _ _ _ (sym c.shared_kind.ensures ∙ c.if-shared_kind.false) c.refuse.ensures.outcome_value

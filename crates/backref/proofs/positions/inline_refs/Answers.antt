@@ -5,23 +5,16 @@ use Rattle.backref.proofs.positions.inline_refs.Goals as goal
 
 pub count_refs-requires : goal.count_refs-requires
 count_refs-requires c =
-    let opened = c in
-    let w = opens _ _ _ (sym c.in-From.is ∙ opened.open_body.ensures) in record { table_value = c.rows-rows.ensures; start_in_bounds = (w.inside, w.fits) }
+    let w = opens _ _ _ (sym c.in-From.is ∙ c.open_body.ensures) in record { table_value = c.rows-rows.ensures; start_in_bounds = (w.inside, w.fits) }
 
 pub returns-then-positions-count : goal.returns-then-positions-count
 returns-then-positions-count c =
-    let counted = c in
-    let start = c in
-    let w = opens _ _ _ (sym start.in-From.is ∙ start.open_body.ensures) in
-    call-short _ _ _ w _ (sym c.in-Count.is ∙ counted.count_refs.ensures) _ c.if-positions-count.true
+    let w = opens _ _ _ (sym c.in-From.is ∙ c.open_body.ensures) in
+    call-short _ _ _ w _ (sym c.in-Count.is ∙ c.count_refs.ensures) _ c.if-positions-count.true
 
 pub put_positions-requires : goal.put_positions-requires
 put_positions-requires c =
-    let test = c in
-    let counted = c in
-    let rows = c in
-    let start = c in
-    let w = opens _ _ _ (sym start.in-From.is ∙ start.open_body.ensures) in record { rows_value = rows.rows-rows.ensures; body_len_bound = (w.fits, sym test.in-Count.is ∙ counted.count_refs.ensures, test.if-positions-count.false) }
+    let w = opens _ _ _ (sym c.in-From.is ∙ c.open_body.ensures) in record { rows_value = c.rows-rows.ensures; body_len_bound = (w.fits, sym c.in-Count.is ∙ c.count_refs.ensures, c.if-positions-count.false) }
 
 pub returns-in-Refused : goal.returns-in-Refused
 returns-in-Refused c =
@@ -29,16 +22,10 @@ returns-in-Refused c =
 
 pub returns-in-Refused-count_refs : goal.returns-in-Refused-count_refs
 returns-in-Refused-count_refs c =
-    let counted = c in
-    let start = c in
-    let w = opens _ _ _ (sym start.in-From.is ∙ start.open_body.ensures) in
-    call-fault _ _ _ w _ _ (sym c.in-Refused-count_refs.is ∙ counted.count_refs.ensures)
+    let w = opens _ _ _ (sym c.in-From.is ∙ c.open_body.ensures) in
+    call-fault _ _ _ w _ _ (sym c.in-Refused-count_refs.is ∙ c.count_refs.ensures)
 
 pub returns-else-positions-count : goal.returns-else-positions-count
 returns-else-positions-count c =
-    let put = c in
-    let test = c in
-    let counted = c in
-    let start = c in
-    let w = opens _ _ _ (sym start.in-From.is ∙ start.open_body.ensures) in
-    call-writes _ _ _ w _ (sym test.in-Count.is ∙ counted.count_refs.ensures) _ _ test.if-positions-count.false put.put_positions.ensures
+    let w = opens _ _ _ (sym c.in-From.is ∙ c.open_body.ensures) in
+    call-writes _ _ _ w _ (sym c.in-Count.is ∙ c.count_refs.ensures) _ _ c.if-positions-count.false c.put_positions.ensures

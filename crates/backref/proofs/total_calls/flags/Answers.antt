@@ -4,16 +4,12 @@ use Rattle.backref.proofs.total_calls.flags.Goals as goal
 
 pub returns-then-fault-ne0 : goal.returns-then-fault-ne0
 returns-then-fault-ne0 c =
-    let call = c in
-    flags-refused call.args.body.now _ call.head_fault-fault.ensures c.if-fault-ne0.true
+    flags-refused c.args.body.now _ c.head_fault-fault.ensures c.if-fault-ne0.true
 
 pub get_u64_le-requires : goal.get_u64_le-requires
 get_u64_le-requires c =
-    let call = c in
-    omega (arith, (head call.args.body.now _ call.head_fault-fault.ensures).long c.if-fault-ne0.false)
+    omega (arith, (head c.args.body.now _ c.head_fault-fault.ensures).long c.if-fault-ne0.false)
 
 pub returns : goal.returns
 returns c =
-    let test = c in
-    let call = c in
-    flags-are call.args.body.now _ call.head_fault-fault.ensures _ test.if-fault-ne0.false c.get_u64_le.ensures
+    flags-are c.args.body.now _ c.head_fault-fault.ensures _ c.if-fault-ne0.false c.get_u64_le.ensures

@@ -3,5 +3,4 @@ use Rattle.backref.proofs.total_calls.reduce_total.Goals as goal
 
 pub returns : goal.returns
 returns c =
-    let write = c in
-    answered _ write.plan_total-plan.ensures.planned write.write_same.ensures
+    answered _ c.plan_total-plan.ensures.planned c.write_same.ensures

@@ -13,13 +13,11 @@ AfterGetU64LeTotal = lts.After-get_u64_le tie.the-claims reads.Pre reads.Post ti
 
 pub returns-then-fault-ne0 : goal.returns-then-fault-ne0
 returns-then-fault-ne0 c =
-    let call = c in
-    let a = call.args in record { planned = total_head a.body.now _ _ (change-is a.body.now a.change) _ call.head_fault-fault.ensures _ c.if-fault-ne0.true c.refuse.ensures.outcome_value; size_value = c.refuse.ensures.size_value }
+    let a = c.args in record { planned = total_head a.body.now _ _ (change-is a.body.now a.change) _ c.head_fault-fault.ensures _ c.if-fault-ne0.true c.refuse.ensures.outcome_value; size_value = c.refuse.ensures.size_value }
 
 pub get_u64_le-total-requires : goal.get_u64_le-total-requires
 get_u64_le-total-requires c =
-    let call = c in
-    omega (arith, (head call.args.body.now _ call.head_fault-fault.ensures).long c.if-fault-ne0.false)
+    omega (arith, (head c.args.body.now _ c.head_fault-fault.ensures).long c.if-fault-ne0.false)
 
 past : (c : AfterGetU64LeTotal)
     → let a = c.args in
@@ -30,25 +28,24 @@ past c =
 
 pub returns-then-amount-total : goal.returns-then-amount-total
 returns-then-amount-total c =
-    let arm = c in let all = (past c.before.before.before.before).refuses _ _ (change-told _ arm.in-Raise.is (raised-no _ _ c.if-amount-total.true)) (c.refuse-then-amount-total.ensures.outcome_value, c.refuse-then-amount-total.ensures.size_value) in record { planned = all.0; size_value = all.1 }
+    let all = (past c.before.before.before.before).refuses _ _ (change-told _ c.in-Raise.is (raised-no _ _ c.if-amount-total.true)) (c.refuse-then-amount-total.ensures.outcome_value, c.refuse-then-amount-total.ensures.size_value) in record { planned = all.0; size_value = all.1 }
 
 pub returns-then-total-lt2 : goal.returns-then-total-lt2
 returns-then-total-lt2 c =
-    let arm = c in let all = (past c.before.before.before.before).refuses _ _ (change-told _ arm.in-LowerByOne.is (lowered-no _ c.if-total-lt2.true)) (c.refuse-then-total-lt2.ensures.outcome_value, c.refuse-then-total-lt2.ensures.size_value) in record { planned = all.0; size_value = all.1 }
+    let all = (past c.before.before.before.before).refuses _ _ (change-told _ c.in-LowerByOne.is (lowered-no _ c.if-total-lt2.true)) (c.refuse-then-total-lt2.ensures.outcome_value, c.refuse-then-total-lt2.ensures.size_value) in record { planned = all.0; size_value = all.1 }
 
 pub returns-then-total-amount : goal.returns-then-total-amount
 returns-then-total-amount c =
-    let arm = c in let all = (past c.before.before.before.before).refuses _ _ (change-told _ arm.in-Reduce.is (reduced-no _ _ c.if-total-amount.true)) (c.refuse-then-total-amount.ensures.outcome_value, c.refuse-then-total-amount.ensures.size_value) in record { planned = all.0; size_value = all.1 }
+    let all = (past c.before.before.before.before).refuses _ _ (change-told _ c.in-Reduce.is (reduced-no _ _ c.if-total-amount.true)) (c.refuse-then-total-amount.ensures.outcome_value, c.refuse-then-total-amount.ensures.size_value) in record { planned = all.0; size_value = all.1 }
 
 pub returns-else-amount-total : goal.returns-else-amount-total
 returns-else-amount-total c =
-    let arm = c in
-    let small : arm.in-Raise.amount < 18446744073709551616 = omega arith in let all = (past c.before.before.before.before).plans _ _ (change-told _ arm.in-Raise.is (raised-yes _ _ c.if-amount-total.false small)) c.set_total.ensures in record { planned = all.0; size_value = all.1 }
+    let small : c.in-Raise.amount < 18446744073709551616 = omega arith in let all = (past c.before.before.before.before).plans _ _ (change-told _ c.in-Raise.is (raised-yes _ _ c.if-amount-total.false small)) c.set_total.ensures in record { planned = all.0; size_value = all.1 }
 
 pub returns-else-total-lt2 : goal.returns-else-total-lt2
 returns-else-total-lt2 c =
-    let arm = c in let all = (past c.before.before.before.before).plans _ _ (change-told _ arm.in-LowerByOne.is (lowered-yes _ c.if-total-lt2.false)) c.set_total-in-LowerByOne.ensures in record { planned = all.0; size_value = all.1 }
+    let all = (past c.before.before.before.before).plans _ _ (change-told _ c.in-LowerByOne.is (lowered-yes _ c.if-total-lt2.false)) c.set_total-in-LowerByOne.ensures in record { planned = all.0; size_value = all.1 }
 
 pub returns-else-total-amount : goal.returns-else-total-amount
 returns-else-total-amount c =
-    let arm = c in let all = (past c.before.before.before.before).plans _ _ (change-told _ arm.in-Reduce.is (reduced-yes _ _ c.if-total-amount.false)) c.set_total-in-Reduce.ensures in record { planned = all.0; size_value = all.1 }
+    let all = (past c.before.before.before.before).plans _ _ (change-told _ c.in-Reduce.is (reduced-yes _ _ c.if-total-amount.false)) c.set_total-in-Reduce.ensures in record { planned = all.0; size_value = all.1 }

@@ -6,22 +6,18 @@ use Rattle.backref.proofs.total_plans.plan_total_part.Goals as goal
 
 pub returns-then-short-ne0 : goal.returns-then-short-ne0
 returns-then-short-ne0 c =
-    let call = c in record { planned = total_head call.args.body.now _ _ refl _ call.head_fault-short.ensures _ c.if-short-ne0.true c.refuse.ensures.outcome_value; size_value = c.refuse.ensures.size_value }
+    record { planned = total_head c.args.body.now _ _ refl _ c.head_fault-short.ensures _ c.if-short-ne0.true c.refuse.ensures.outcome_value; size_value = c.refuse.ensures.size_value }
 
 pub returns-then-fault-ne0 : goal.returns-then-fault-ne0
 returns-then-fault-ne0 c =
-    let part = c in
-    let call = c in let all = (behind call.args.body.now _ _ refl _ call.head_fault-short.ensures _ part.if-short-ne0.false refl).refuses _ _
-    (part-refused _ _ _ _ part.part_fault-fault.ensures c.if-fault-ne0.true) (c.refuse-then-fault-ne0.ensures.outcome_value, c.refuse-then-fault-ne0.ensures.size_value) in record { planned = all.0; size_value = all.1 }
+    let all = (behind c.args.body.now _ _ refl _ c.head_fault-short.ensures _ c.if-short-ne0.false refl).refuses _ _
+    (part-refused _ _ _ _ c.part_fault-fault.ensures c.if-fault-ne0.true) (c.refuse-then-fault-ne0.ensures.outcome_value, c.refuse-then-fault-ne0.ensures.size_value) in record { planned = all.0; size_value = all.1 }
 
 pub get_u64_le-requires : goal.get_u64_le-requires
 get_u64_le-requires c =
-    let call = c in
-    omega (arith, (head call.args.body.now _ call.head_fault-short.ensures).long c.if-short-ne0.false)
+    omega (arith, (head c.args.body.now _ c.head_fault-short.ensures).long c.if-short-ne0.false)
 
 pub returns : goal.returns
 returns c =
-    let got = c in
-    let part = c in
-    let call = c in let all = (behind call.args.body.now _ _ refl _ call.head_fault-short.ensures _ part.if-short-ne0.false got.get_u64_le.ensures).plans _ _
-    (part-passed _ _ _ _ part.part_fault-fault.ensures _ got.if-fault-ne0.false c.total_less.ensures) c.set_total.ensures in record { planned = all.0; size_value = all.1 }
+    let all = (behind c.args.body.now _ _ refl _ c.head_fault-short.ensures _ c.if-short-ne0.false c.get_u64_le.ensures).plans _ _
+    (part-passed _ _ _ _ c.part_fault-fault.ensures _ c.if-fault-ne0.false c.total_less.ensures) c.set_total.ensures in record { planned = all.0; size_value = all.1 }

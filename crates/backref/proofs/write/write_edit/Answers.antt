@@ -7,13 +7,11 @@ use Rattle.backref.proofs.write.write_edit.Goals as goal
 
 pub returns-then-out-n : goal.returns-then-out-n
 returns-then-out-n c =
-    let s = c in
-    edit-no-room s.args.plan s.args.body.now s.requires s.args.out.now _ c.plan_length-n.ensures c.if-out-n.true
+    edit-no-room c.args.plan c.args.body.now c.requires c.args.out.now _ c.plan_length-n.ensures c.if-out-n.true
 
 pub returns-then-n-gt-MOST_DATA : goal.returns-then-n-gt-MOST_DATA
 returns-then-n-gt-MOST_DATA c =
-    let s = c in
-    edit-too-long s.args.plan s.args.body.now s.requires s.args.out.now _ c.plan_length-n.ensures c.if-out-n.false c.if-n-gt-MOST_DATA.true
+    edit-too-long c.args.plan c.args.body.now c.requires c.args.out.now _ c.plan_length-n.ensures c.if-out-n.false c.if-n-gt-MOST_DATA.true
 
 pub slice_bounds-put_edit-end : goal.slice_bounds-put_edit-end
 slice_bounds-put_edit-end c =
@@ -24,14 +22,10 @@ slice_bounds-put_edit-end c =
 
 pub put_edit-end-requires : goal.put_edit-end-requires
 put_edit-end-requires c =
-    let room = c in
-    let s = c in let all = put-asks s.args.plan s.args.body.now s.requires 0 (length s.args.out.now) (omega (arith, room.plan_length-n.ensures, room.if-out-n.false)) in record { le_from = all.0; to_in_bounds = all.1 }
+    let all = put-asks c.args.plan c.args.body.now c.requires 0 (length c.args.out.now) (omega (arith, c.plan_length-n.ensures, c.if-out-n.false)) in record { le_from = all.0; to_in_bounds = all.1 }
 
 pub returns : goal.returns
 returns c =
-    let put = c in
-    let test = c in
-    let s = c in
-    let e = test.plan_length-n.ensures in
-    let w = put-edited s.args.plan s.args.body.now s.requires s.args.out.now _ 0 _ put.put_edit-end.ensures in
-    edit-written s.args.plan s.args.body.now s.requires s.args.out.now _ (w.0 ∙ zero-add _) _ (omega (arith, w.0, e, test.if-out-n.false)) (omega (arith, w.0, e, test.if-n-gt-MOST_DATA.false)) w.1
+    let e = c.plan_length-n.ensures in
+    let w = put-edited c.args.plan c.args.body.now c.requires c.args.out.now _ 0 _ c.put_edit-end.ensures in
+    edit-written c.args.plan c.args.body.now c.requires c.args.out.now _ (w.0 ∙ zero-add _) _ (omega (arith, w.0, e, c.if-out-n.false)) (omega (arith, w.0, e, c.if-n-gt-MOST_DATA.false)) w.1

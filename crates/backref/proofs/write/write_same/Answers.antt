@@ -5,37 +5,31 @@ use Rattle.backref.proofs.write.write_same.Goals as goal
 pub returns-then-out-body : goal.returns-then-out-body
 returns-then-out-body c =
     let told = c.in-Edit.is in
-    let s = c in
-    let p = s.args.plan in
-    let body = s.args.body.now in
-    let out = s.args.out.now in
-    wrote p body (length out) told (same-no-room p body (inside-edit p body told s.requires.plan_in) out s.requires.size_value c.if-out-body.true)
+    let p = c.args.plan in
+    let body = c.args.body.now in
+    let out = c.args.out.now in
+    wrote p body (length out) told (same-no-room p body (inside-edit p body told c.requires.plan_in) out c.requires.size_value c.if-out-body.true)
 
 pub put_same-requires : goal.put_same-requires
 put_same-requires c =
-    let s = c in record { edit_in = inside-edit s.args.plan s.args.body.now c.in-Edit.is s.requires.plan_in; size_value = (s.requires.size_value, c.if-out-body.false) }
+    record { edit_in = inside-edit c.args.plan c.args.body.now c.in-Edit.is c.requires.plan_in; size_value = (c.requires.size_value, c.if-out-body.false) }
 
 pub returns-else-out-body : goal.returns-else-out-body
 returns-else-out-body c =
-    let test = c in
-    let told = test.in-Edit.is in
-    let s = c in
-    let p = s.args.plan in
-    let body = s.args.body.now in
-    let out = s.args.out.now in
-    wrote p body (length out) told (same-written p body (inside-edit p body told s.requires.plan_in) out s.requires.size_value _ test.if-out-body.false c.put_same.ensures)
+    let told = c.in-Edit.is in
+    let p = c.args.plan in
+    let body = c.args.body.now in
+    let out = c.args.out.now in
+    wrote p body (length out) told (same-written p body (inside-edit p body told c.requires.plan_in) out c.requires.size_value _ c.if-out-body.false c.put_same.ensures)
 
 pub returns-in-Absent : goal.returns-in-Absent
 returns-in-Absent c =
-    let s = c in
-    wrote-absent s.args.plan s.args.body.now (length s.args.out.now) s.args.out.now c.in-Absent.is
+    wrote-absent c.args.plan c.args.body.now (length c.args.out.now) c.args.out.now c.in-Absent.is
 
 pub returns-in-Remove : goal.returns-in-Remove
 returns-in-Remove c =
-    let s = c in
-    wrote-remove s.args.plan s.args.body.now (length s.args.out.now) s.args.out.now c.in-Remove.is
+    wrote-remove c.args.plan c.args.body.now (length c.args.out.now) c.args.out.now c.in-Remove.is
 
 pub returns-in-Refused : goal.returns-in-Refused
 returns-in-Refused c =
-    let s = c in
-    wrote-refused s.args.plan s.args.body.now (length s.args.out.now) s.args.out.now _ c.in-Refused.is
+    wrote-refused c.args.plan c.args.body.now (length c.args.out.now) c.args.out.now _ c.in-Refused.is

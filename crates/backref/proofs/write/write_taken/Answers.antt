@@ -7,27 +7,23 @@ use Rattle.backref.proofs.write.write_taken.Goals as goal
 pub returns-in-Written : goal.returns-in-Written
 unfolding taken_from
 returns-in-Written c =
-    let write = c in
-    let a = write.args in
-    wrote-taken a.plan a.body.now (length a.out.now) _ _ _ _ write.write_plan.ensures (sym (ap (taken_from a.plan.count) c.in-Written.is))
+    let a = c.args in
+    wrote-taken a.plan a.body.now (length a.out.now) _ _ _ _ c.write_plan.ensures (sym (ap (taken_from a.plan.count) c.in-Written.is))
 
 pub returns-in-Absent : goal.returns-in-Absent
 unfolding taken_from
 returns-in-Absent c =
-    let write = c in
-    let a = write.args in
-    wrote-taken a.plan a.body.now (length a.out.now) _ _ _ _ write.write_plan.ensures (sym (ap (taken_from a.plan.count) c.in-Absent.is))
+    let a = c.args in
+    wrote-taken a.plan a.body.now (length a.out.now) _ _ _ _ c.write_plan.ensures (sym (ap (taken_from a.plan.count) c.in-Absent.is))
 
 pub returns-in-Remove : goal.returns-in-Remove
 unfolding taken_from
 returns-in-Remove c =
-    let write = c in
-    let a = write.args in
-    wrote-taken a.plan a.body.now (length a.out.now) _ _ _ _ write.write_plan.ensures (sym (ap (taken_from a.plan.count) c.in-Remove.is))
+    let a = c.args in
+    wrote-taken a.plan a.body.now (length a.out.now) _ _ _ _ c.write_plan.ensures (sym (ap (taken_from a.plan.count) c.in-Remove.is))
 
 pub returns-in-Refused : goal.returns-in-Refused
 unfolding taken_from
 returns-in-Refused c =
-    let write = c in
-    let a = write.args in
-    wrote-taken a.plan a.body.now (length a.out.now) _ _ _ _ write.write_plan.ensures (sym (ap (taken_from a.plan.count) c.in-Refused.is))
+    let a = c.args in
+    wrote-taken a.plan a.body.now (length a.out.now) _ _ _ _ c.write_plan.ensures (sym (ap (taken_from a.plan.count) c.in-Refused.is))

@@ -5,8 +5,7 @@ use Rattle.balance.proofs.naming.take_name.Goals as goal
 
 pub returns-then-weight-eq0 : goal.returns-then-weight-eq0
 returns-then-weight-eq0 c =
-    let s = c in
-    name-light s.args.s.now s.args.g s.args.at s.args.next s.args.key s.requires.t.0 _ _ _ s.requires.named_by _ c.unfair.ensures c.if-weight-eq0.true
+    name-light c.args.s.now c.args.g c.args.at c.args.next c.args.key c.requires.t.0 _ _ _ c.requires.named_by _ c.unfair.ensures c.if-weight-eq0.true
 
 pub slice_bounds-body-count : goal.slice_bounds-body-count
 slice_bounds-body-count c = let p = c.requires.t.1 in omega (arith, (p.1.body p.0).order)
@@ -19,35 +18,30 @@ slice_bounds-body-end c = let p = c.requires.t.1 in omega (arith, (p.1.body p.0)
 
 pub span_for-span-requires : goal.span_for-span-requires
 span_for-span-requires c =
-    let s = c in
-    let p = s.requires.t in
-    let b = p.1.1.body p.1.0 in record { rows_value = s.requires.rows_value; readable = (b.reads, b.begins); t = (ref-known _ p.0, (ref-owner _ p.0, b.sorted)); spanned = span-known _ _ _ _ p.0 b.spans }
+    let p = c.requires.t in
+    let b = p.1.1.body p.1.0 in record { rows_value = c.requires.rows_value; readable = (b.reads, b.begins); t = (ref-known _ p.0, (ref-owner _ p.0, b.sorted)); spanned = span-known _ _ _ _ p.0 b.spans }
 
 pub stride-size-requires : goal.stride-size-requires
-stride-size-requires c = let s = c in record { rows_value = s.requires.rows_value; t = ref-known _ s.requires.t.0 }
+stride-size-requires c = record { rows_value = c.requires.rows_value; t = ref-known _ c.requires.t.0 }
 
 pub first_below-first-requires : goal.first_below-first-requires
 first_below-first-requires c = let sp = c.span_for-span.ensures in (stride-is _ _ _ c.stride-size.ensures sp.1, sp.0.falling)
 
 pub stands-requires : goal.stands-requires
 stands-requires c =
-    let s = c in
-    let sp = c.span_for-span.ensures in record { size_value = (stride-is _ _ _ c.stride-size.ensures sp.1, sp.0.falling); rank_value = (s.requires.named_by.rank_is, c.first_below-first.ensures) }
+    let sp = c.span_for-span.ensures in record { size_value = (stride-is _ _ _ c.stride-size.ensures sp.1, sp.0.falling); rank_value = (c.requires.named_by.rank_is, c.first_below-first.ensures) }
 
 pub returns-then-stands : goal.returns-then-stands
 returns-then-stands c =
-    let s = c in
     let sp = c.span_for-span.ensures in
-    name-twice s.args.s.now s.args.g s.args.at s.args.next s.args.key s.requires.t.0 _ _ _ s.requires.named_by s.requires.t.1.0 _ sp.0 sp.1 _ c.unfair-then-stands.ensures (not-true _ _ c.stands.ensures c.if-stands.true)
+    name-twice c.args.s.now c.args.g c.args.at c.args.next c.args.key c.requires.t.0 _ _ _ c.requires.named_by c.requires.t.1.0 _ sp.0 sp.1 _ c.unfair-then-stands.ensures (not-true _ _ c.stands.ensures c.if-stands.true)
 
 pub overflow_add-result : goal.overflow_add-result
 overflow_add-result c =
-    let s = c in
-    omega (arith, s.requires.t.1.1.light, s.requires.item_head_bound.0, s.requires.item_head_bound.1)
+    omega (arith, c.requires.t.1.1.light, c.requires.item_head_bound.0, c.requires.item_head_bound.1)
 
 pub returns : goal.returns
 returns c =
-    let s = c in
     let sp = c.span_for-span.ensures in
-    name-good s.args.s.now s.args.g s.args.at s.args.next s.args.key s.requires.t.0 _ _ _ s.requires.named_by s.requires.t.1.0 _ sp.0 sp.1 s.requires.t.1.1 s.requires.item_head_bound.0 (omega arith)
+    name-good c.args.s.now c.args.g c.args.at c.args.next c.args.key c.requires.t.0 _ _ _ c.requires.named_by c.requires.t.1.0 _ sp.0 sp.1 c.requires.t.1.1 c.requires.item_head_bound.0 (omega arith)
     c.first_below-first.result c.if-weight-eq0.false (not-false _ _ c.stands.ensures c.if-stands.false)

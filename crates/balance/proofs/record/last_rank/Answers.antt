@@ -3,15 +3,14 @@ use Rattle.balance.proofs.Admits.{rank-computed, rank-open}
 use Rattle.balance.proofs.record.last_rank.Goals as goal
 
 pub returns-then-run : goal.returns-then-run
-returns-then-run c = let s = c in rank-computed s.args.body.now s.args.run c.if-run.true
+returns-then-run c = rank-computed c.args.body.now c.args.run c.if-run.true
 
 pub overflow_add-run : goal.overflow_add-run
-overflow_add-run c = let s = c in omega (arith, s.requires.1 c.if-run.false)
+overflow_add-run c = omega (arith, c.requires.1 c.if-run.false)
 
 pub rank_at-requires : goal.rank_at-requires
-rank_at-requires c = let s = c in (s.requires.0, s.requires.1 c.if-run.false)
+rank_at-requires c = (c.requires.0, c.requires.1 c.if-run.false)
 
 pub returns : goal.returns
 returns c =
-    let s = c in
-    rank-open s.args.body.now s.args.run _ c.if-run.false c.rank_at.ensures
+    rank-open c.args.body.now c.args.run _ c.if-run.false c.rank_at.ensures

@@ -10,26 +10,22 @@ loop-kind-init c = (weigh-start c.args.body.now c.args.start _, (none_passed c.a
 
 pub admit-requires : goal.admit-requires
 admit-requires c =
-    let step = c in
-    let w = seen step.args.body.now step.loop-kind.at _ (sym c.in-Ref.is ∙ step.step.ensures) in record { t = (w.kind_known, omega (arith, w.start, w.further, w.within, w.long), w.count_at); start_value = (w.start, c.loop-kind.invariant.1.0); body_len_bound = c.requires.body_len_bound.0 }
+    let w = seen c.args.body.now c.loop-kind.at _ (sym c.in-Ref.is ∙ c.step.ensures) in record { t = (w.kind_known, omega (arith, w.start, w.further, w.within, w.long), w.count_at); start_value = (w.start, c.loop-kind.invariant.1.0); body_len_bound = c.requires.body_len_bound.0 }
 
 pub overflow_add-sum : goal.overflow_add-sum
 overflow_add-sum c =
-    let step = c in
-    let w = seen step.args.body.now step.loop-kind.at _ (sym c.in-Ref.is ∙ step.step.ensures) in
+    let w = seen c.args.body.now c.loop-kind.at _ (sym c.in-Ref.is ∙ c.step.ensures) in
     let i = c.loop-kind.invariant in
     omega (arith, i.1.1.0, w.inside, c.requires.body_len_bound.0)
 
 pub loop-kind-smaller : goal.loop-kind-smaller
 loop-kind-smaller c =
-    let step = c in
-    let w = seen step.args.body.now step.loop-kind.at _ (sym c.in-Ref.is ∙ step.step.ensures) in
+    let w = seen c.args.body.now c.loop-kind.at _ (sym c.in-Ref.is ∙ c.step.ensures) in
     omega (arith, w.inside, w.further, w.within)
 
 pub loop-kind-preserved : goal.loop-kind-preserved
 loop-kind-preserved c =
-    let step = c in
-    let w = seen step.args.body.now step.loop-kind.at _ (sym c.in-Ref.is ∙ step.step.ensures) in
+    let w = seen c.args.body.now c.loop-kind.at _ (sym c.in-Ref.is ∙ c.step.ensures) in
     let i = c.loop-kind.invariant in
     let a = admitted-yes _ _ _ _ _ _ _ c.in-Yes.is c.admit.ensures in (
       weigh-step _ _ _ _ _ _ _ w _ _ _ _ a.0 a.1.0 a.1.1.0 ∙ i.0,
@@ -38,19 +34,16 @@ loop-kind-preserved c =
 
 pub returns-in-No : goal.returns-in-No
 returns-in-No c =
-    let step = c in
-    let w = seen step.args.body.now step.loop-kind.at _ (sym c.in-Ref.is ∙ step.step.ensures) in
+    let w = seen c.args.body.now c.loop-kind.at _ (sym c.in-Ref.is ∙ c.step.ensures) in
     let i = c.loop-kind.invariant in
     (weigh-no _ _ _ _ _ _ _ w _ _ (admitted-no _ _ _ _ _ c.in-No.is c.admit.ensures) ∙ i.0, tt)
 
 pub returns-in-End : goal.returns-in-End
 returns-in-End c =
-    let step = c in
-    let w = seen step.args.body.now step.loop-kind.at _ (sym c.in-End.is ∙ step.step.ensures) in
-    (weigh-end _ _ _ w ∙ step.loop-kind.invariant.0, omega (arith, step.loop-kind.invariant.1.1.0, step.loop-kind.invariant.1.1.1))
+    let w = seen c.args.body.now c.loop-kind.at _ (sym c.in-End.is ∙ c.step.ensures) in
+    (weigh-end _ _ _ w ∙ c.loop-kind.invariant.0, omega (arith, c.loop-kind.invariant.1.1.0, c.loop-kind.invariant.1.1.1))
 
 pub returns-in-Refused : goal.returns-in-Refused
 returns-in-Refused c =
-    let step = c in
-    let w = seen step.args.body.now step.loop-kind.at _ (sym c.in-Refused.is ∙ step.step.ensures) in
-    (weigh-fault _ _ _ _ w ∙ step.loop-kind.invariant.0, tt)
+    let w = seen c.args.body.now c.loop-kind.at _ (sym c.in-Refused.is ∙ c.step.ensures) in
+    (weigh-fault _ _ _ _ w ∙ c.loop-kind.invariant.0, tt)

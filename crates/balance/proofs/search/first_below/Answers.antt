@@ -18,13 +18,11 @@ loop-bounds-init c = (halving-start _ _ _, λ h. (omega arith, (c.begins_at-mid.
 
 -- the reference looked at is inside
 inside : (c : InLoopBounds)
-    → let s = c in
-    s.args.span.from + c.loop-bounds.mid * s.args.size + s.args.size ≤ length s.args.body.now
+    → c.args.span.from + c.loop-bounds.mid * c.args.size + c.args.size ≤ length c.args.body.now
 inside c =
     let loop = c.loop-bounds in
-    let s = c in
-    let m : loop.mid < s.args.span.n = omega (arith, (loop.invariant.1 c.loop-bounds-test.true).1.0, loop.invariant.0.few) in
-    room s.args.body.now s.args.span s.args.size s.requires.0 s.requires.1 loop.mid m
+    let m : loop.mid < c.args.span.n = omega (arith, (loop.invariant.1 c.loop-bounds-test.true).1.0, loop.invariant.0.few) in
+    room c.args.body.now c.args.span c.args.size c.requires.0 c.requires.1 loop.mid m
 
 pub overflow_mul-mid : goal.overflow_mul-mid
 overflow_mul-mid c = omega (arith, inside c.before)
@@ -36,21 +34,19 @@ pub overflow_add-span-in-loop-bounds : goal.overflow_add-span-in-loop-bounds
 overflow_add-span-in-loop-bounds c = omega (arith, inside c.before.before, c.requires.0)
 
 pub rank_at-middle-requires : goal.rank_at-middle-requires
-rank_at-middle-requires c = let s = c in (s.requires.1.kind_known, omega (arith, inside c.before.before, s.requires.0))
+rank_at-middle-requires c = (c.requires.1.kind_known, omega (arith, inside c.before.before, c.requires.0))
 
 pub narrow-bounds-requires : goal.narrow-bounds-requires
 narrow-bounds-requires c = let a = c.loop-bounds.invariant.1 c.loop-bounds-test.true in (omega (arith, a.1.0), a.0)
 
 narrowed : (c : AfterNarrowBounds)
-    → let s = c in
-    let loop = c.loop-bounds in
-    Halving s.args.body.now s.args.span s.args.rank c.narrow-bounds.result × (c.narrow-bounds.result.high - c.narrow-bounds.result.low < loop.bounds.high - loop.bounds.low)
+    → let loop = c.loop-bounds in
+    Halving c.args.body.now c.args.span c.args.rank c.narrow-bounds.result × (c.narrow-bounds.result.high - c.narrow-bounds.result.low < loop.bounds.high - loop.bounds.low)
 narrowed c =
-    let s = c in
     let loop = c.loop-bounds in
     let a = loop.invariant.1 c.loop-bounds-test.true in
-    halving-next s.args.body.now s.args.span s.args.rank loop.bounds loop.invariant.0 s.requires.1 loop.mid c.rank_at-middle.result a.0 a.1.0
-    (rank_is s.args.body.now s.args.span s.args.size loop.mid c.rank_at-middle.result s.requires.0 c.rank_at-middle.ensures) _ c.narrow-bounds.ensures
+    halving-next c.args.body.now c.args.span c.args.rank loop.bounds loop.invariant.0 c.requires.1 loop.mid c.rank_at-middle.result a.0 a.1.0
+    (rank_is c.args.body.now c.args.span c.args.size loop.mid c.rank_at-middle.result c.requires.0 c.rank_at-middle.ensures) _ c.narrow-bounds.ensures
 
 pub middle_of-mid-requires : goal.middle_of-mid-requires
 middle_of-mid-requires c = ((narrowed c.before).0.order, (c.loop-bounds.invariant.1 c.loop-bounds-test.true).1.1)
@@ -64,7 +60,7 @@ loop-bounds-preserved c =
     ((narrowed c.before.before.before).0, λ h. (omega (arith, m.1.0, m.0), (m.1.1 h, omega (arith, m.1.1 h))))
 
 pub returns : goal.returns
-returns c = let s = c in halving-end s.args.body.now s.args.span s.args.rank _ c.loop-bounds.invariant.0 c.loop-bounds-test.false
+returns c = halving-end c.args.body.now c.args.span c.args.rank _ c.loop-bounds.invariant.0 c.loop-bounds-test.false
 
 pub overflow_sub-step : goal.overflow_sub-step
 overflow_sub-step c = c.middle_of-mid.ensures.0

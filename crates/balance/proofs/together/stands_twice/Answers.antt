@@ -5,8 +5,7 @@ use Rattle.balance.proofs.together.stands_twice.Goals as goal
 
 pub returns-then-n-known : goal.returns-then-n-known
 returns-then-n-known c =
-    let s = c in
-    ap not (sym (clear-by s.args.body.now s.args.from s.args.n s.args.known s.requires.distinct.0 c.if-n-known.true s.args.at s.requires.n_value.0))
+    ap not (sym (clear-by c.args.body.now c.args.from c.args.n c.args.known c.requires.distinct.0 c.if-n-known.true c.args.at c.requires.n_value.0))
 
 pub returns : goal.returns
 returns c =

@@ -18,9 +18,8 @@ AfterSizeAfterSize = lts.After-size_after tie.the-claims reads.Pre reads.Post go
 
 pub loop-at-init : goal.loop-at-init
 loop-at-init c =
-    let s = c in
-    let bytes = are_bytes-in s.args.sheet.now (λ i. (c.shared_slice_known-1.given i).fits) in
-    (past_first _ (list-some _ s.requires), record { items = _; rest = rest_all _ s.requires; so = pass_all _ _ bytes s.requires c.begin-g.ensures }, empty-kept _ _ _ _ c.begin-g.ensures)
+    let bytes = are_bytes-in c.args.sheet.now (λ i. (c.shared_slice_known-1.given i).fits) in
+    (past_first _ (list-some _ c.requires), record { items = _; rest = rest_all _ c.requires; so = pass_all _ _ bytes c.requires c.begin-g.ensures }, empty-kept _ _ _ _ c.begin-g.ensures)
 
 pub size_after-size-requires : goal.size_after-size-requires
 size_after-size-requires c = let b = c.loop-at.invariant.0 in (b.inside, b.low, b.high)
@@ -36,9 +35,8 @@ overflow_add-next c = let w = (more c.before).whole in search rules
 
 pub turn-g-requires : goal.turn-g-requires
 turn-g-requires c =
-    let s = c in
-    let bytes = are_bytes-in s.args.sheet.now (λ i. (c.shared_slice_known-1.given i).fits) in
-    let w = (more c.before.before).whole in record { rows_value = c.rows-rows.ensures; item_head_bound = (omega arith, (w.within, (omega arith, omega (arith, sheet-short _ bytes s.requires)))); at_value = (item-whole _ _ _ w, c.loop-at.invariant.2) }
+    let bytes = are_bytes-in c.args.sheet.now (λ i. (c.shared_slice_known-1.given i).fits) in
+    let w = (more c.before.before).whole in record { rows_value = c.rows-rows.ensures; item_head_bound = (omega arith, (w.within, (omega arith, omega (arith, sheet-short _ bytes c.requires)))); at_value = (item-whole _ _ _ w, c.loop-at.invariant.2) }
 
 pub loop-at-smaller : goal.loop-at-smaller
 loop-at-smaller c = let w = (more c.before.before.before.before.before).whole in omega arith

@@ -13,11 +13,5 @@ in-part register e words = e ∙ ap (crc_run crc32c register) words
 
 pub returns : goal.returns
 returns c =
-    let fourth = c in
-    let third = fourth in
-    let second = third in
-    let first = second in
-    let known = first in
-    let start = known in
     in-part _ c.words_in.ensures
-    (words-part start.args.bytes.now (λ i. (known.shared_slice_known-1.given i).fits) start.args.at start.requires.1 first.get_u32_le-a.ensures second.get_u32_le-b.ensures third.get_u32_le-c.ensures fourth.get_u32_le-d.ensures)
+    (words-part c.args.bytes.now (λ i. (c.shared_slice_known-1.given i).fits) c.args.at c.requires.1 c.get_u32_le-a.ensures c.get_u32_le-b.ensures c.get_u32_le-c.ensures c.get_u32_le-d.ensures)

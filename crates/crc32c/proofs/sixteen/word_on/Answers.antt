@@ -15,11 +15,10 @@ use Rattle.crc32c.proofs.sixteen.word_on.Goals as goal
 
 pub returns : goal.returns
 returns c =
-    let start = c in
-    let row = start.args.row in
-    let word = start.args.word in
-    let rows = start.requires.0 in
-    let room : row + 4 ≤ 16 = start.requires.1 in
+    let row = c.args.row in
+    let word = c.args.word in
+    let rows = c.requires.0 in
+    let room : row + 4 ≤ 16 = c.requires.1 in
     let first : row < 16 = omega arith in
     let second : row + 1 < 16 = omega arith in
     let third : row + 2 < 16 = omega arith in

@@ -10,9 +10,6 @@ use Rattle.crc32c.proofs.sixteen.words_in.Goals as goal
 
 pub returns : goal.returns
 returns c =
-    let fourth = c in
-    let third = fourth in
-    let second = third in
-    let a = second.args in
-    ap₂ bit_xor (ap₂ bit_xor (ap₂ bit_xor second.word_on.ensures third.word_on-2.ensures) fourth.word_on-3.ensures) c.word_on-4.ensures
+    let a = c.args in
+    ap₂ bit_xor (ap₂ bit_xor (ap₂ bit_xor c.word_on.ensures c.word_on-2.ensures) c.word_on-3.ensures) c.word_on-4.ensures
     ∙ four-words crc32c a.register a.a a.b a.c a.d (search rules) (search rules) (search rules) (search rules)

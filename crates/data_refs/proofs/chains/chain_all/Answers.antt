@@ -40,15 +40,14 @@ returns-then-walk-ne0 c =
 
 pub loop-i-preserved : goal.loop-i-preserved
 loop-i-preserved c =
-    let s = c in
     let loop = c.loop-i in
     let inv = loop.invariant in
     let more = c.loop-i-test.true in
     let is = c.triple_of-t.ensures in
     let chain = c.chain_of-chain in
-    let own = chain.ensures.0 ∙ ap (chain_of s.args.seed (length s.args.heads.now)) is in
+    let own = chain.ensures.0 ∙ ap (chain_of c.args.seed (length c.args.heads.now)) is in
     let room : chain.result < length loop.heads = omega (arith, chain.ensures.1, inv.0.1.0) in
-    let place : loop.i < length loop.links = omega (arith, s.requires.in_bounds.1.1, inv.0.1.1, more) in (
+    let place : loop.i < length loop.links = omega (arith, c.requires.in_bounds.1.1, inv.0.1.1, more) in (
       (omega (arith, more), (simp length-set inv.0.1.0, simp length-set inv.0.1.1)),
       (
         one_more _ _ _ _ is _ c.walk.ensures c.if-walk-ne0.false inv.1.0,
@@ -58,6 +57,5 @@ loop-i-preserved c =
 
 pub returns : goal.returns
 returns c =
-    let s = c in
     let loop = c.loop-i in
-    let e : loop.i ≡ s.args.n = omega (arith, c.loop-i-test.false, loop.invariant.0.0) in record { upper_bound = (omega arith, (subst (Distinct s.args.body.now s.args.from) e loop.invariant.1.0, λ l. absurd (omega (arith, l)))); chained = λ m. subst (Chained (chain_of s.args.seed (length s.args.heads.now)) s.args.body.now s.args.from loop.heads loop.links) e loop.invariant.1.1 }
+    let e : loop.i ≡ c.args.n = omega (arith, c.loop-i-test.false, loop.invariant.0.0) in record { upper_bound = (omega arith, (subst (Distinct c.args.body.now c.args.from) e loop.invariant.1.0, λ l. absurd (omega (arith, l)))); chained = λ m. subst (Chained (chain_of c.args.seed (length c.args.heads.now)) c.args.body.now c.args.from loop.heads loop.links) e loop.invariant.1.1 }

@@ -14,8 +14,7 @@ returns-then-number_among-ne0 c =
 
 pub loop-i-preserved : goal.loop-i-preserved
 loop-i-preserved c =
-    let in-loop = c in
-    (omega (arith, in-loop.loop-i-test.true), one_more _ _ _ _ c.triple_of.ensures _ c.number_among.ensures c.if-number_among-ne0.false in-loop.loop-i.invariant.1)
+    (omega (arith, c.loop-i-test.true), one_more _ _ _ _ c.triple_of.ensures _ c.number_among.ensures c.if-number_among-ne0.false c.loop-i.invariant.1)
 
 pub returns : goal.returns
 returns c =

@@ -14,8 +14,7 @@ returns-then-is_at c = finds _ _ _ _ _ c.loop-i-test.true (sym c.is_at.ensures �
 
 pub loop-i-preserved : goal.loop-i-preserved
 loop-i-preserved c =
-    let in-loop = c in
-    (omega (arith, in-loop.loop-i-test.true), misses _ _ _ _ in-loop.loop-i.invariant.1 (sym c.is_at.ensures ∙ c.if-is_at.false))
+    (omega (arith, c.loop-i-test.true), misses _ _ _ _ c.loop-i.invariant.1 (sym c.is_at.ensures ∙ c.if-is_at.false))
 
 pub returns : goal.returns
 returns c =

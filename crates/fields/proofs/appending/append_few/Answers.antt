@@ -9,32 +9,22 @@ use Rattle.fields.proofs.appending.append_few.Goals as goal
 
 pub returns-then-n-ge8 : goal.returns-then-n-ge8
 returns-then-n-ge8 c =
-    let second = c in
-    let first = second in
-    let start = first in
-    let a = start.args in
-    copied-ends a.at 8 a.src.now a.dst.now _ _ (omega arith) (omega arith) start.requires.1 first.copy_8.ensures second.copy_8-then-n-ge8.ensures
+    let a = c.args in
+    copied-ends a.at 8 a.src.now a.dst.now _ _ (omega arith) (omega arith) c.requires.1 c.copy_8.ensures c.copy_8-then-n-ge8.ensures
 
 pub returns-then-n-ge4 : goal.returns-then-n-ge4
 returns-then-n-ge4 c =
-    let second = c in
-    let first = second in
-    let start = first in
-    let a = start.args in
-    copied-ends a.at 4 a.src.now a.dst.now _ _ (omega arith) (omega arith) start.requires.1 first.copy_4.ensures second.copy_4-then-n-ge4.ensures
+    let a = c.args in
+    copied-ends a.at 4 a.src.now a.dst.now _ _ (omega arith) (omega arith) c.requires.1 c.copy_4.ensures c.copy_4-then-n-ge4.ensures
 
 pub returns-then-n-ge2 : goal.returns-then-n-ge2
 returns-then-n-ge2 c =
-    let second = c in
-    let first = second in
-    let start = first in
-    let a = start.args in
-    copied-ends a.at 2 a.src.now a.dst.now _ _ (omega arith) (omega arith) start.requires.1 first.copy_2.ensures second.copy_2-then-n-ge2.ensures
+    let a = c.args in
+    copied-ends a.at 2 a.src.now a.dst.now _ _ (omega arith) (omega arith) c.requires.1 c.copy_2.ensures c.copy_2-then-n-ge2.ensures
 
 pub returns-then-n-eq1 : goal.returns-then-n-eq1
 returns-then-n-eq1 c =
-    let start = c in
-    let a = start.args in
+    let a = c.args in
     let src : List ℕ = a.src.now in
     let one : length src ≡ 1 = omega arith in
     let h : 0 + 1 ≤ length src = omega arith in
@@ -44,8 +34,7 @@ returns-then-n-eq1 c =
 
 pub returns-else-n-eq1 : goal.returns-else-n-eq1
 returns-else-n-eq1 c =
-    let start = c in
-    let a = start.args in
+    let a = c.args in
     let src : List ℕ = a.src.now in
     let none : length src ≡ 0 = omega arith in
     copied_none a.at src a.dst.now ∙ ap (λ (l : List ℕ). written a.at l a.dst.now) (part-all 0 src none)

@@ -16,10 +16,8 @@ loop-i-init c =
 
 pub loop-i-preserved : goal.loop-i-preserved
 loop-i-preserved c =
-    let copy = c in
-    let at-loop = copy in
-    let loop = at-loop.loop-i in
-    let a = at-loop.args in
+    let loop = c.loop-i in
+    let a = c.args in
     let src : List ℕ = a.src.now in
     let low : loop.i ≤ done loop.i = omega arith in
     let high : done loop.i ≤ loop.i + 64 = omega arith in
@@ -27,23 +25,19 @@ loop-i-preserved c =
     let e : loop.i + 64 ≡ done (loop.i + 64) = omega arith in (
       omega arith,
       omega arith,
-      λ old room h. copied-over a.at (done loop.i) loop.i 64 src old _ _ low high end room (loop.invariant.2 old room h) copy.copy_64-in-loop-i.ensures
+      λ old room h. copied-over a.at (done loop.i) loop.i 64 src old _ _ low high end room (loop.invariant.2 old room h) c.copy_64-in-loop-i.ensures
           ∙ ap (λ (k : ℕ). written a.at (part 0 k src) old) e,
     )
 
 pub returns : goal.returns
 returns c =
-    let last = c in
-    let at-loop = last in
-    let loop = at-loop.loop-i in
-    let first = at-loop in
-    let start = first in
-    let a = start.args in
+    let loop = c.loop-i in
+    let a = c.args in
     let src : List ℕ = a.src.now in
     let low : length src - 64 ≤ done loop.i = omega arith in
     let high : done loop.i ≤ length src = omega arith in
     let end : length src - 64 + 64 ≡ length src = omega arith in
-    let room = start.requires.1 in
+    let room = c.requires.1 in
     copied-last a.at (done loop.i) (length src - 64) 64 src a.dst.now _ _ low high end room
-    (loop.invariant.2 a.dst.now room first.copy_64.ensures)
-    last.copy_64-2.ensures
+    (loop.invariant.2 a.dst.now room c.copy_64.ensures)
+    c.copy_64-2.ensures

@@ -3,8 +3,5 @@ use Rattle.fields.proofs.appending.copy_4.Goals as goal
 
 pub returns : goal.returns
 returns c =
-    let put = c in
-    let known = put in
-    let start = known in
-    let a = start.args in
-    copied-number 4 a.at a.from _ a.src.now a.dst.now _ start.requires.0 (λ i. (known.shared_slice_known-1.given i).fits) put.get_u32_le.ensures put.put_u32_le.ensures
+    let a = c.args in
+    copied-number 4 a.at a.from _ a.src.now a.dst.now _ c.requires.0 (λ i. (c.shared_slice_known-1.given i).fits) c.get_u32_le.ensures c.put_u32_le.ensures

@@ -13,9 +13,8 @@ loop-i-init c = (omega arith, paste-zero c.args.dst.now c.args.at (drop c.args.f
 
 pub loop-i-preserved : goal.loop-i-preserved
 loop-i-preserved c =
-    let at_test = c in
-    let loop = at_test.loop-i in
-    let a = at_test.args in
+    let loop = c.loop-i in
+    let a = c.args in
     let room : a.at + loop.i < length a.dst.now = omega arith in
     let more : loop.i < length (drop a.from a.src.now) = simp length-drop (omega arith) in (
       omega arith,
@@ -26,8 +25,7 @@ loop-i-preserved c =
 pub returns : goal.returns
 returns c =
     let loop = c.loop-i in
-    let start = c in
-    let a = start.args in
+    let a = c.args in
     let done : loop.i ≡ a.n = omega arith in
-    let size : length (part a.from a.n a.src.now) ≡ a.n = length_part a.n a.from a.src.now start.requires.0 in
+    let size : length (part a.from a.n a.src.now) ≡ a.n = length_part a.n a.from a.src.now c.requires.0 in
     rw size (rw (← done) loop.invariant.1)

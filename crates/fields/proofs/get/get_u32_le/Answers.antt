@@ -5,5 +5,4 @@ use Rattle.fields.proofs.get.get_u32_le.Goals as goal
 
 pub returns : goal.returns
 returns c =
-    let start = c in
-    c.join_bytes.ensures ∙ ap le (sym (part-is 4 start.args.at start.args.s.now start.requires))
+    c.join_bytes.ensures ∙ ap le (sym (part-is 4 c.args.at c.args.s.now c.requires))

@@ -3,6 +3,5 @@ use Rattle.fields.proofs.put.put_u32_be.Goals as goal
 
 pub returns : goal.returns
 returns c =
-    let put = c in
-    let a = put.args in
-    written-swapped 4 a.at a.v _ a.out.now _ put.swapped_u32.ensures put.put_u32_le.ensures
+    let a = c.args in
+    written-swapped 4 a.at a.v _ a.out.now _ c.swapped_u32.ensures c.put_u32_le.ensures

@@ -13,62 +13,51 @@ step_among-requires c =
 
 pub is_named-requires : goal.is_named-requires
 is_named-requires c =
-    let step = c in
-    let w = seen step.args.body.now step.loop-kind.at _ (sym c.in-Ref.is ∙ step.step_among.ensures) in
-    rw (sym (c.if-kind-sought.true ∙ step.kind_of-sought.ensures)) (ends-within _ _ _ _ _ _ _ w)
+    let w = seen c.args.body.now c.loop-kind.at _ (sym c.in-Ref.is ∙ c.step_among.ensures) in
+    rw (sym (c.if-kind-sought.true ∙ c.kind_of-sought.ensures)) (ends-within _ _ _ _ _ _ _ w)
 
 pub weight_at-weight-requires : goal.weight_at-weight-requires
 weight_at-weight-requires c =
-    let step = c in
-    let w = seen step.args.body.now step.loop-kind.at _ (sym c.in-Ref.is ∙ step.step_among.ensures) in
+    let w = seen c.args.body.now c.loop-kind.at _ (sym c.in-Ref.is ∙ c.step_among.ensures) in
     (w.kind_known, ends-within _ _ _ _ _ _ _ w, w.count_at)
 
 pub returns-then-is_named : goal.returns-then-is_named
 returns-then-is_named c =
-    let test = c in
-    let step = c in
-    let w = seen step.args.body.now step.loop-kind.at _ (sym test.in-Ref.is ∙ step.step_among.ensures) in
-    let named = of-kind _ _ _ _ (test.if-kind-sought.true ∙ step.kind_of-sought.ensures) c.is_named.ensures in
-    c.first_at.ensures ∙ drop-first _ _ _ _ _ _ _ _ w _ named _ c.if-is_named.true c.weight_at-weight.ensures ∙ step.loop-kind.invariant
+    let w = seen c.args.body.now c.loop-kind.at _ (sym c.in-Ref.is ∙ c.step_among.ensures) in
+    let named = of-kind _ _ _ _ (c.if-kind-sought.true ∙ c.kind_of-sought.ensures) c.is_named.ensures in
+    c.first_at.ensures ∙ drop-first _ _ _ _ _ _ _ _ w _ named _ c.if-is_named.true c.weight_at-weight.ensures ∙ c.loop-kind.invariant
 
 pub loop-kind-smaller-else-is_named : goal.loop-kind-smaller-else-is_named
 loop-kind-smaller-else-is_named c =
-    let step = c in
-    let w = seen step.args.body.now step.loop-kind.at _ (sym c.in-Ref.is ∙ step.step_among.ensures) in
+    let w = seen c.args.body.now c.loop-kind.at _ (sym c.in-Ref.is ∙ c.step_among.ensures) in
     omega (arith, w.inside, w.further, w.within)
 
 pub loop-kind-preserved-else-is_named : goal.loop-kind-preserved-else-is_named
 loop-kind-preserved-else-is_named c =
-    let test = c in
-    let step = c in
-    let w = seen step.args.body.now step.loop-kind.at _ (sym test.in-Ref.is ∙ step.step_among.ensures) in
-    let named = of-kind _ _ _ _ (test.if-kind-sought.true ∙ step.kind_of-sought.ensures) c.is_named.ensures in
-    drop-other _ _ _ _ _ _ _ _ w _ named c.if-is_named.false ∙ step.loop-kind.invariant
+    let w = seen c.args.body.now c.loop-kind.at _ (sym c.in-Ref.is ∙ c.step_among.ensures) in
+    let named = of-kind _ _ _ _ (c.if-kind-sought.true ∙ c.kind_of-sought.ensures) c.is_named.ensures in
+    drop-other _ _ _ _ _ _ _ _ w _ named c.if-is_named.false ∙ c.loop-kind.invariant
 
 pub loop-kind-smaller : goal.loop-kind-smaller
 loop-kind-smaller c =
-    let step = c in
-    let w = seen step.args.body.now step.loop-kind.at _ (sym c.in-Ref.is ∙ step.step_among.ensures) in
+    let w = seen c.args.body.now c.loop-kind.at _ (sym c.in-Ref.is ∙ c.step_among.ensures) in
     omega (arith, w.inside, w.further, w.within)
 
 pub loop-kind-preserved : goal.loop-kind-preserved
 loop-kind-preserved c =
-    let step = c in
-    let w = seen step.args.body.now step.loop-kind.at _ (sym c.in-Ref.is ∙ step.step_among.ensures) in
-    let named = named_other _ _ _ (λ e. c.if-kind-sought.false (sym (step.kind_of-sought.ensures ∙ e))) in
-    drop-other _ _ _ _ _ _ _ _ w _ named refl ∙ step.loop-kind.invariant
+    let w = seen c.args.body.now c.loop-kind.at _ (sym c.in-Ref.is ∙ c.step_among.ensures) in
+    let named = named_other _ _ _ (λ e. c.if-kind-sought.false (sym (c.kind_of-sought.ensures ∙ e))) in
+    drop-other _ _ _ _ _ _ _ _ w _ named refl ∙ c.loop-kind.invariant
 
 pub returns-in-End : goal.returns-in-End
 returns-in-End c =
-    let step = c in
-    let w = seen step.args.body.now step.loop-kind.at _ (sym c.in-End.is ∙ step.step_among.ensures) in
-    drop-end _ _ _ w ∙ step.loop-kind.invariant
+    let w = seen c.args.body.now c.loop-kind.at _ (sym c.in-End.is ∙ c.step_among.ensures) in
+    drop-end _ _ _ w ∙ c.loop-kind.invariant
 
 pub returns-in-Refused : goal.returns-in-Refused
 returns-in-Refused c =
-    let step = c in
-    let w = seen step.args.body.now step.loop-kind.at _ (sym c.in-Refused.is ∙ step.step_among.ensures) in
-    drop-fault _ _ _ _ w ∙ step.loop-kind.invariant
+    let w = seen c.args.body.now c.loop-kind.at _ (sym c.in-Refused.is ∙ c.step_among.ensures) in
+    drop-fault _ _ _ _ w ∙ c.loop-kind.invariant
 
 pub loop-kind-init : goal.loop-kind-init
 loop-kind-init c = refl

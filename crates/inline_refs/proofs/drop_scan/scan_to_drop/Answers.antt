@@ -5,13 +5,11 @@ use Rattle.inline_refs.proofs.drop_scan.scan_to_drop.Goals as goal
 
 pub drop_from-requires : goal.drop_from-requires
 drop_from-requires c =
-    let call = c in
-    (c.rows-rows.ensures, (opens _ _ _ (sym c.in-From.is ∙ call.open_body.ensures)).fits)
+    (c.rows-rows.ensures, (opens _ _ _ (sym c.in-From.is ∙ c.open_body.ensures)).fits)
 
 pub returns-in-From : goal.returns-in-From
 returns-in-From c =
-    let call = c in
-    drop-opened _ _ _ _ (sym c.in-From.is ∙ call.open_body.ensures) c.drop_from.ensures
+    drop-opened _ _ _ _ (sym c.in-From.is ∙ c.open_body.ensures) c.drop_from.ensures
 
 pub returns-in-Refused : goal.returns-in-Refused
 returns-in-Refused c = drop-shut _ _ _ _ (sym c.in-Refused.is ∙ c.open_body.ensures)

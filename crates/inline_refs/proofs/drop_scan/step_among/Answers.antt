@@ -9,12 +9,8 @@ returns-then-body-at c = simp (le-ltb _ _ c.if-body-at.true)
 
 pub returns-then-body-start : goal.returns-then-body-start
 returns-then-body-start c =
-    let test = c in
-    let s = c in
-    step_cut s.args.body.now s.args.at _ _ _ test.if-body-at.false test.if-body-at-2.true s.requires.1 s.requires.2 s.requires.3 c.if-body-start.true
+    step_cut c.args.body.now c.args.at _ _ _ c.if-body-at.false c.if-body-at-2.true c.requires.1 c.requires.2 c.requires.3 c.if-body-start.true
 
 pub returns-then-body-at-2 : goal.returns-then-body-at-2
 returns-then-body-at-2 c =
-    let test = c in
-    let s = c in
-    step-whole s.args.body.now s.args.at _ _ _ test.if-body-at.false test.if-body-at-2.true s.requires.1 s.requires.2 s.requires.3 c.if-body-start.false
+    step-whole c.args.body.now c.args.at _ _ _ c.if-body-at.false c.if-body-at-2.true c.requires.1 c.requires.2 c.requires.3 c.if-body-start.false

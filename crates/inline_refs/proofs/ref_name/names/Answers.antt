@@ -8,40 +8,35 @@ pub returns-then-kind_of-kind : goal.returns-then-kind_of-kind
 returns-then-kind_of-kind c = named_other _ _ _ (λ e. c.if-kind_of-kind.true (c.kind_of.ensures ∙ e))
 
 pub get_u64_le-requires : goal.get_u64_le-requires
-get_u64_le-requires c = let s = c in omega (arith, payload-eight _ s.requires.0, s.requires.1)
+get_u64_le-requires c = omega (arith, payload-eight _ c.requires.0, c.requires.1)
 
 pub names_triple-requires : goal.names_triple-requires
 unfolding kind_of
 names_triple-requires c =
-    let test = c in
-    omega (arith, payload-178 _ (sym (sym test.kind_of.ensures ∙ test.if-kind_of-kind.false) ∙ ap kind_of c.in-Data.is), test.requires.1)
+    omega (arith, payload-178 _ (sym (sym c.kind_of.ensures ∙ c.if-kind_of-kind.false) ∙ ap kind_of c.in-Data.is), c.requires.1)
 
 pub get_u64_le-requires-in-SharedBlock : goal.get_u64_le-requires-in-SharedBlock
-get_u64_le-requires-in-SharedBlock c = let s = c in omega (arith, payload-eight _ s.requires.0, s.requires.1)
+get_u64_le-requires-in-SharedBlock c = omega (arith, payload-eight _ c.requires.0, c.requires.1)
 
 pub get_u64_le-requires-in-SharedData : goal.get_u64_le-requires-in-SharedData
-get_u64_le-requires-in-SharedData c = let s = c in omega (arith, payload-eight _ s.requires.0, s.requires.1)
+get_u64_le-requires-in-SharedData c = omega (arith, payload-eight _ c.requires.0, c.requires.1)
 
 pub returns-in-Block : goal.returns-in-Block
 unfolding fields_of
 returns-in-Block c =
-    let test = c in
-    named-one _ _ _ _ _ (sym test.kind_of.ensures ∙ test.if-kind_of-kind.false) (ap fields_of c.in-Block.is) c.get_u64_le.ensures
+    named-one _ _ _ _ _ (sym c.kind_of.ensures ∙ c.if-kind_of-kind.false) (ap fields_of c.in-Block.is) c.get_u64_le.ensures
 
 pub returns-in-Data : goal.returns-in-Data
 unfolding fields_of
 returns-in-Data c =
-    let test = c in
-    c.names_triple.ensures ∙ sym (named-is _ _ _ (sym test.kind_of.ensures ∙ test.if-kind_of-kind.false) ∙ rw c.in-Data.is)
+    c.names_triple.ensures ∙ sym (named-is _ _ _ (sym c.kind_of.ensures ∙ c.if-kind_of-kind.false) ∙ rw c.in-Data.is)
 
 pub returns-in-SharedBlock : goal.returns-in-SharedBlock
 unfolding fields_of
 returns-in-SharedBlock c =
-    let test = c in
-    named-one _ _ _ _ _ (sym test.kind_of.ensures ∙ test.if-kind_of-kind.false) (ap fields_of c.in-SharedBlock.is) c.get_u64_le-in-SharedBlock.ensures
+    named-one _ _ _ _ _ (sym c.kind_of.ensures ∙ c.if-kind_of-kind.false) (ap fields_of c.in-SharedBlock.is) c.get_u64_le-in-SharedBlock.ensures
 
 pub returns-in-SharedData : goal.returns-in-SharedData
 unfolding fields_of
 returns-in-SharedData c =
-    let test = c in
-    named-one _ _ _ _ _ (sym test.kind_of.ensures ∙ test.if-kind_of-kind.false) (ap fields_of c.in-SharedData.is) c.get_u64_le-in-SharedData.ensures
+    named-one _ _ _ _ _ (sym c.kind_of.ensures ∙ c.if-kind_of-kind.false) (ap fields_of c.in-SharedData.is) c.get_u64_le-in-SharedData.ensures

@@ -8,6 +8,5 @@ returns-then-get_u64_le-name c =
 
 pub returns : goal.returns
 returns c =
-    let test = c in
-    let a = test.args in
-    rest-third a.start a.body.now a.name.objectid a.name.offset _ test.get_u64_le.ensures _ c.get_u64_le-2.ensures test.if-get_u64_le-name.false
+    let a = c.args in
+    rest-third a.start a.body.now a.name.objectid a.name.offset _ c.get_u64_le.ensures _ c.get_u64_le-2.ensures c.if-get_u64_le-name.false

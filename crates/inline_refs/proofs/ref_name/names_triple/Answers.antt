@@ -12,7 +12,6 @@ returns-then-get_u64_le-name c =
 
 pub returns : goal.returns
 returns c =
-    let test = c in
-    let a = test.args in
+    let a = c.args in
     c.names_rest.ensures
-    ∙ first-agrees (drop a.start a.body.now) _ test.get_u64_le.ensures (triple a.name) (omega arith) test.if-get_u64_le-name.false
+    ∙ first-agrees (drop a.start a.body.now) _ c.get_u64_le.ensures (triple a.name) (omega arith) c.if-get_u64_le-name.false

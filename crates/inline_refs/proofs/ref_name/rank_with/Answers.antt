@@ -12,11 +12,10 @@ returns-in-Block c = rw c.in-Block.is
 pub returns-in-Data : goal.returns-in-Data
 unfolding rank_of kind_of fields_of tree_of
 returns-in-Data c =
-    let known = c in
-    let name = known.in-Data.name in
-    rw known.in-Data.is
+    let name = c.in-Data.name in
+    rw c.in-Data.is
     (c.hash_with.ensures
-    ∙ ap (λ (tree : ℕ). data_ref_hash tree name.objectid name.offset) (known.requires.0 ∙ ap tree_of known.in-Data.is))
+    ∙ ap (λ (tree : ℕ). data_ref_hash tree name.objectid name.offset) (c.requires.0 ∙ ap tree_of c.in-Data.is))
 
 pub returns-in-SharedBlock : goal.returns-in-SharedBlock
 unfolding rank_of kind_of fields_of

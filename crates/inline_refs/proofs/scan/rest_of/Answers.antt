@@ -6,24 +6,20 @@ use Rattle.inline_refs.proofs.scan.rest_of.Goals as goal
 
 pub loop-next-smaller : goal.loop-next-smaller
 loop-next-smaller c =
-    let step = c in
-    let w = seen step.args.body.now step.loop-next.at _ (sym c.in-Ref.is ∙ step.step.ensures) in
+    let w = seen c.args.body.now c.loop-next.at _ (sym c.in-Ref.is ∙ c.step.ensures) in
     omega (arith, w.inside, w.further, w.within)
 
 pub loop-next-preserved : goal.loop-next-preserved
 loop-next-preserved c =
-    let step = c in
-    let w = seen step.args.body.now step.loop-next.at _ (sym c.in-Ref.is ∙ step.step.ensures) in
-    rest-step _ _ _ _ _ _ _ w ∙ step.loop-next.invariant
+    let w = seen c.args.body.now c.loop-next.at _ (sym c.in-Ref.is ∙ c.step.ensures) in
+    rest-step _ _ _ _ _ _ _ w ∙ c.loop-next.invariant
 
 pub returns-in-End : goal.returns-in-End
 returns-in-End c =
-    let step = c in
-    let w = seen step.args.body.now step.loop-next.at _ (sym c.in-End.is ∙ step.step.ensures) in
-    rest_end _ w ∙ step.loop-next.invariant
+    let w = seen c.args.body.now c.loop-next.at _ (sym c.in-End.is ∙ c.step.ensures) in
+    rest_end _ w ∙ c.loop-next.invariant
 
 pub returns-in-Refused : goal.returns-in-Refused
 returns-in-Refused c =
-    let step = c in
-    let w = seen step.args.body.now step.loop-next.at _ (sym c.in-Refused.is ∙ step.step.ensures) in
-    rest-fault _ _ w ∙ step.loop-next.invariant
+    let w = seen c.args.body.now c.loop-next.at _ (sym c.in-Refused.is ∙ c.step.ensures) in
+    rest-fault _ _ w ∙ c.loop-next.invariant

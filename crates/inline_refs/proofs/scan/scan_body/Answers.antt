@@ -4,8 +4,7 @@ use Rattle.inline_refs.proofs.scan.scan_body.Goals as goal
 
 pub returns-in-From : goal.returns-in-From
 returns-in-From c =
-    let call = c in
-    scan-opened _ _ _ _ _ (sym c.in-From.is ∙ call.open_body.ensures)
+    scan-opened _ _ _ _ _ (sym c.in-From.is ∙ c.open_body.ensures)
     c.scan_from.ensures
 
 pub returns-in-Refused : goal.returns-in-Refused

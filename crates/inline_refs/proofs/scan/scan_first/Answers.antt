@@ -11,17 +11,14 @@ names-requires c =
 
 pub weight_at-weight-requires : goal.weight_at-weight-requires
 weight_at-weight-requires c =
-    let step = c in
-    let w = seen _ _ _ (sym c.in-Ref.is ∙ step.step.ensures) in
+    let w = seen _ _ _ (sym c.in-Ref.is ∙ c.step.ensures) in
     (w.kind_known, ends-within _ _ _ _ _ _ _ w, w.count_at)
 
 pub returns-else-not-names : goal.returns-else-not-names
 returns-else-not-names c =
-    let test = c in
-    let step = test in
-    let w = seen _ _ _ (sym test.in-Ref.is ∙ step.step.ensures) in
+    let w = seen _ _ _ (sym c.in-Ref.is ∙ c.step.ensures) in
     c.scan_hit.ensures _ _
-    ∙ scan_step _ _ _ _ _ _ _ _ _ _ _ w (note-hit _ _ _ _ _ _ _ test.names.ensures _ (not-false _ test.if-not-names.false-raw) c.weight_at-weight.ensures)
+    ∙ scan_step _ _ _ _ _ _ _ _ _ _ _ w (note-hit _ _ _ _ _ _ _ c.names.ensures _ (not-false _ c.if-not-names.false-raw) c.weight_at-weight.ensures)
 
 pub returns-in-End : goal.returns-in-End
 returns-in-End c =

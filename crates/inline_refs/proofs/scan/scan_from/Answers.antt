@@ -8,70 +8,56 @@ use Rattle.inline_refs.proofs.scan.scan_from.Goals as goal
 
 pub names-requires : goal.names-requires
 names-requires c =
-    let step = c in
-    let w = seen step.args.body.now step.loop-kind.at _ (sym c.in-Ref.is ∙ step.step.ensures) in
+    let w = seen c.args.body.now c.loop-kind.at _ (sym c.in-Ref.is ∙ c.step.ensures) in
     (w.kind_known, ends-within _ _ _ _ _ _ _ w)
 
 pub weight_at-weight-requires : goal.weight_at-weight-requires
 weight_at-weight-requires c =
-    let step = c in
-    let w = seen step.args.body.now step.loop-kind.at _ (sym c.in-Ref.is ∙ step.step.ensures) in
+    let w = seen c.args.body.now c.loop-kind.at _ (sym c.in-Ref.is ∙ c.step.ensures) in
     (w.kind_known, ends-within _ _ _ _ _ _ _ w, w.count_at)
 
 pub returns-then-names : goal.returns-then-names
 returns-then-names c =
-    let test = c in
-    let step = test in
-    let w = seen step.args.body.now step.loop-kind.at _ (sym test.in-Ref.is ∙ step.step.ensures) in
+    let w = seen c.args.body.now c.loop-kind.at _ (sym c.in-Ref.is ∙ c.step.ensures) in
     c.scan_hit.ensures _ _
-    ∙ scan_step _ _ _ _ _ _ _ _ _ _ _ w (note-hit _ _ _ _ _ _ _ test.names.ensures _ test.if-names.true c.weight_at-weight.ensures)
-    ∙ step.loop-kind.invariant
+    ∙ scan_step _ _ _ _ _ _ _ _ _ _ _ w (note-hit _ _ _ _ _ _ _ c.names.ensures _ c.if-names.true c.weight_at-weight.ensures)
+    ∙ c.loop-kind.invariant
 
 pub stops_at-requires : goal.stops_at-requires
 stops_at-requires c =
-    let step = c in
-    let w = seen step.args.body.now step.loop-kind.at _ (sym c.in-Ref.is ∙ step.step.ensures) in
-    (w.kind_known, ends-within _ _ _ _ _ _ _ w, step.requires.1)
+    let w = seen c.args.body.now c.loop-kind.at _ (sym c.in-Ref.is ∙ c.step.ensures) in
+    (w.kind_known, ends-within _ _ _ _ _ _ _ w, c.requires.1)
 
 pub returns-then-stops_at : goal.returns-then-stops_at
 unfolding ref_at kind_of
 returns-then-stops_at c =
-    let stop = c in
-    let test = stop in
-    let step = test in
-    let w = seen step.args.body.now step.loop-kind.at _ (sym test.in-Ref.is ∙ step.step.ensures) in
+    let w = seen c.args.body.now c.loop-kind.at _ (sym c.in-Ref.is ∙ c.step.ensures) in
     c.scan_gap.ensures _
     ∙ scan_step _ _ _ _ _ _ _ _ _ _ _ w
-    (note-gap _ _ _ _ _ _ _ test.names.ensures test.if-names.false _ _ stop.any_of_kind-others.ensures
-    (rw step.kind_of-sought.ensures at stop.stops_at.ensures) c.if-stops_at.true)
-    ∙ step.loop-kind.invariant
+    (note-gap _ _ _ _ _ _ _ c.names.ensures c.if-names.false _ _ c.any_of_kind-others.ensures
+    (rw c.kind_of-sought.ensures at c.stops_at.ensures) c.if-stops_at.true)
+    ∙ c.loop-kind.invariant
 
 pub loop-kind-smaller : goal.loop-kind-smaller
 loop-kind-smaller c =
-    let step = c in
-    let w = seen step.args.body.now step.loop-kind.at _ (sym c.in-Ref.is ∙ step.step.ensures) in
+    let w = seen c.args.body.now c.loop-kind.at _ (sym c.in-Ref.is ∙ c.step.ensures) in
     omega (arith, w.inside, w.further, w.within)
 
 pub loop-kind-preserved : goal.loop-kind-preserved
 unfolding ref_at kind_of
 loop-kind-preserved c =
-    let stop = c in
-    let test = stop in
-    let step = test in
-    let w = seen step.args.body.now step.loop-kind.at _ (sym test.in-Ref.is ∙ step.step.ensures) in
+    let w = seen c.args.body.now c.loop-kind.at _ (sym c.in-Ref.is ∙ c.step.ensures) in
     scan_step _ _ _ _ _ _ _ _ _ _ _ w
-    (note-open _ _ _ _ _ _ _ test.names.ensures test.if-names.false _ _ stop.any_of_kind-others.ensures
-    (rw step.kind_of-sought.ensures at stop.stops_at.ensures) c.if-stops_at.false)
-    ∙ step.loop-kind.invariant
+    (note-open _ _ _ _ _ _ _ c.names.ensures c.if-names.false _ _ c.any_of_kind-others.ensures
+    (rw c.kind_of-sought.ensures at c.stops_at.ensures) c.if-stops_at.false)
+    ∙ c.loop-kind.invariant
 
 pub returns-in-End : goal.returns-in-End
 returns-in-End c =
-    let step = c in
-    let w = seen step.args.body.now step.loop-kind.at _ (sym c.in-End.is ∙ step.step.ensures) in
-    scan-end _ _ _ _ _ w ∙ step.loop-kind.invariant
+    let w = seen c.args.body.now c.loop-kind.at _ (sym c.in-End.is ∙ c.step.ensures) in
+    scan-end _ _ _ _ _ w ∙ c.loop-kind.invariant
 
 pub returns-in-Refused : goal.returns-in-Refused
 returns-in-Refused c =
-    let step = c in
-    let w = seen step.args.body.now step.loop-kind.at _ (sym c.in-Refused.is ∙ step.step.ensures) in
-    scan-fault _ _ _ _ _ _ w ∙ step.loop-kind.invariant
+    let w = seen c.args.body.now c.loop-kind.at _ (sym c.in-Refused.is ∙ c.step.ensures) in
+    scan-fault _ _ _ _ _ _ w ∙ c.loop-kind.invariant

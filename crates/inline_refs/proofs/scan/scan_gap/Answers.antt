@@ -8,50 +8,41 @@ use Rattle.inline_refs.proofs.scan.scan_gap.Goals as goal
 
 pub names-requires : goal.names-requires
 names-requires c =
-    let step = c in
-    let w = seen step.args.body.now step.loop-kind.at _ (sym c.in-Ref.is ∙ step.step.ensures) in
+    let w = seen c.args.body.now c.loop-kind.at _ (sym c.in-Ref.is ∙ c.step.ensures) in
     (w.kind_known, ends-within _ _ _ _ _ _ _ w)
 
 pub weight_at-weight-requires : goal.weight_at-weight-requires
 weight_at-weight-requires c =
-    let step = c in
-    let w = seen step.args.body.now step.loop-kind.at _ (sym c.in-Ref.is ∙ step.step.ensures) in
+    let w = seen c.args.body.now c.loop-kind.at _ (sym c.in-Ref.is ∙ c.step.ensures) in
     (w.kind_known, ends-within _ _ _ _ _ _ _ w, w.count_at)
 
 pub returns-then-names : goal.returns-then-names
 returns-then-names c =
-    let test = c in
-    let step = test in
-    let w = seen step.args.body.now step.loop-kind.at _ (sym test.in-Ref.is ∙ step.step.ensures) in
+    let w = seen c.args.body.now c.loop-kind.at _ (sym c.in-Ref.is ∙ c.step.ensures) in
     λ rank.
     c.scan_late.ensures _ rank
-    ∙ scan_step _ rank _ _ _ _ _ _ _ _ _ w (note-late _ _ _ _ _ _ _ test.names.ensures _ _ test.if-names.true c.weight_at-weight.ensures)
-    ∙ step.loop-kind.invariant rank
+    ∙ scan_step _ rank _ _ _ _ _ _ _ _ _ w (note-late _ _ _ _ _ _ _ c.names.ensures _ _ c.if-names.true c.weight_at-weight.ensures)
+    ∙ c.loop-kind.invariant rank
 
 pub loop-kind-smaller : goal.loop-kind-smaller
 loop-kind-smaller c =
-    let step = c in
-    let w = seen step.args.body.now step.loop-kind.at _ (sym c.in-Ref.is ∙ step.step.ensures) in
+    let w = seen c.args.body.now c.loop-kind.at _ (sym c.in-Ref.is ∙ c.step.ensures) in
     omega (arith, w.inside, w.further, w.within)
 
 pub loop-kind-preserved : goal.loop-kind-preserved
 unfolding ref_at kind_of
 loop-kind-preserved c =
-    let test = c in
-    let step = test in
-    let w = seen step.args.body.now step.loop-kind.at _ (sym test.in-Ref.is ∙ step.step.ensures) in
+    let w = seen c.args.body.now c.loop-kind.at _ (sym c.in-Ref.is ∙ c.step.ensures) in
     λ rank.
-    scan_step _ rank _ _ _ _ _ _ _ _ _ w (note-still _ _ _ _ _ _ _ test.names.ensures _ _ test.if-names.false c.any_of_kind-others.ensures)
-    ∙ step.loop-kind.invariant rank
+    scan_step _ rank _ _ _ _ _ _ _ _ _ w (note-still _ _ _ _ _ _ _ c.names.ensures _ _ c.if-names.false c.any_of_kind-others.ensures)
+    ∙ c.loop-kind.invariant rank
 
 pub returns-in-End : goal.returns-in-End
 returns-in-End c =
-    let step = c in
-    let w = seen step.args.body.now step.loop-kind.at _ (sym c.in-End.is ∙ step.step.ensures) in
-    λ rank. scan-end _ rank _ _ _ w ∙ step.loop-kind.invariant rank
+    let w = seen c.args.body.now c.loop-kind.at _ (sym c.in-End.is ∙ c.step.ensures) in
+    λ rank. scan-end _ rank _ _ _ w ∙ c.loop-kind.invariant rank
 
 pub returns-in-Refused : goal.returns-in-Refused
 returns-in-Refused c =
-    let step = c in
-    let w = seen step.args.body.now step.loop-kind.at _ (sym c.in-Refused.is ∙ step.step.ensures) in
-    λ rank. scan-fault _ rank _ _ _ _ w ∙ step.loop-kind.invariant rank
+    let w = seen c.args.body.now c.loop-kind.at _ (sym c.in-Refused.is ∙ c.step.ensures) in
+    λ rank. scan-fault _ rank _ _ _ _ w ∙ c.loop-kind.invariant rank

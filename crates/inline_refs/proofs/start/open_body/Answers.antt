@@ -8,7 +8,7 @@ pub returns-then-body-lt-BODY_HEAD : goal.returns-then-body-lt-BODY_HEAD
 returns-then-body-lt-BODY_HEAD c = open-short _ _ c.if-body-gt-MOST_DATA.false c.if-body-lt-BODY_HEAD.true
 
 pub returns-then-body-start : goal.returns-then-body-start
-returns-then-body-start c = let start = c in open-cut _ _ start.if-body-gt-MOST_DATA.false start.if-body-lt-BODY_HEAD.false _ start.refs_start-start.ensures c.if-body-start.true
+returns-then-body-start c = open-cut _ _ c.if-body-gt-MOST_DATA.false c.if-body-lt-BODY_HEAD.false _ c.refs_start-start.ensures c.if-body-start.true
 
 pub returns : goal.returns
-returns c = let start = c in open-from _ _ start.if-body-gt-MOST_DATA.false start.if-body-lt-BODY_HEAD.false _ start.refs_start-start.ensures c.if-body-start.false
+returns c = open-from _ _ c.if-body-gt-MOST_DATA.false c.if-body-lt-BODY_HEAD.false _ c.refs_start-start.ensures c.if-body-start.false

@@ -26,14 +26,13 @@ loop-n-preserved c =
     let loop = c.loop-n in
     let a = c.args in
     let pre = c.requires in
-    let here = c in
-    let more : loop.n < count_in a.image.now = omega (arith, here.loop-n-test.true, pre.0) in (
+    let more : loop.n < count_in a.image.now = omega (arith, c.loop-n-test.true, pre.0) in (
       omega arith,
       omega arith,
       omega arith,
       loop.invariant.3
-          ∙ behind-next a.image.now loop.n loop.end loop.ordered loop.last loop.at more here.position_at-position.result c.size_at.result
-          c.key_at-key.result c.follows-ordered.result here.position_at-position.ensures c.size_at.ensures c.key_at-key.ensures c.follows-ordered.ensures
+          ∙ behind-next a.image.now loop.n loop.end loop.ordered loop.last loop.at more c.position_at-position.result c.size_at.result
+          c.key_at-key.result c.follows-ordered.result c.position_at-position.ensures c.size_at.ensures c.key_at-key.ensures c.follows-ordered.ensures
           c.if-position-size_at.false loop.invariant.2,
     )
 

@@ -17,27 +17,24 @@ abbrev InLoopN : Type 0
 InLoopN = lts.In-loop tie.the-claims reads.Pre reads.Post goal.the-invariant-loop-n goal.the-decreases-loop-n
 
 pub put_u8-requires : goal.put_u8-requires
-put_u8-requires c = let entry = c in omega (arith, entry.requires.3, length-sheet_bytes (listed_in entry.args.image.now))
+put_u8-requires c = omega (arith, c.requires.3, length-sheet_bytes (listed_in c.args.image.now))
 
 pub loop-n-init : goal.loop-n-init
 loop-n-init c =
-    let entry = c in
-    let room : length (sheet_bytes (listed_in entry.args.image.now)) ≤ length c.put_u8.new.out = omega (arith, entry.requires.3, c.put_u8.auto.out) in
-    (omega arith, omega arith, refl, left-first entry.args.image.now _ entry.requires.1 room)
+    let room : length (sheet_bytes (listed_in c.args.image.now)) ≤ length c.put_u8.new.out = omega (arith, c.requires.3, c.put_u8.auto.out) in
+    (omega arith, omega arith, refl, left-first c.args.image.now _ c.requires.1 room)
 
 -- an item is left
 more : (c : InLoopN) → c.loop-n.n < count_in c.args.image.now
 more c =
-    let entry = c in
-    omega (arith, c.loop-n-test.true, packed-count entry.args.image.now entry.args.count entry.requires.1 entry.requires.2)
+    omega (arith, c.loop-n-test.true, packed-count c.args.image.now c.args.count c.requires.1 c.requires.2)
 
 pub put_item-to-requires : goal.put_item-to-requires
 put_item-to-requires c =
     let turn = c.before.before in
     let loop = turn.loop-n in
-    let entry = c in
     let m = more c.before.before in
-    (fits-header loop.invariant.3 m loop.invariant.0, fits-image loop.invariant.3 m, entry.requires.0, fits_out loop.invariant.3 m)
+    (fits-header loop.invariant.3 m loop.invariant.0, fits-image loop.invariant.3 m, c.requires.0, fits_out loop.invariant.3 m)
 
 pub overflow_add-at : goal.overflow_add-at
 overflow_add-at c =
@@ -63,7 +60,6 @@ shape_of-out c = c.loop-n.invariant.2 ∙ c.put_u8.auto.out
 pub returns : goal.returns
 returns c =
     let loop = c.loop-n in
-    let entry = c in
-    let a = entry.args in
-    left_end loop.invariant.3 (omega (arith, c.loop-n-test.false, packed-count a.image.now a.count entry.requires.1 entry.requires.2))
-    ∙ sheet-puts (listed_in a.image.now) a.out.now _ entry.requires.3 c.put_u8.ensures
+    let a = c.args in
+    left_end loop.invariant.3 (omega (arith, c.loop-n-test.false, packed-count a.image.now a.count c.requires.1 c.requires.2))
+    ∙ sheet-puts (listed_in a.image.now) a.out.now _ c.requires.3 c.put_u8.ensures

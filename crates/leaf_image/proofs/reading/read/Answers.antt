@@ -87,9 +87,8 @@ returns-in-Refused c =
 
 pub returns-else-out-size : goal.returns-else-out-size
 returns-else-out-size c =
-    let room = c in
     let known = c.before.before.before.before.before.before in
     let second = c.before.before.before.before.before.before.before.before in
     let first = c.before.before.before.before.before.before.before.before.before.before in
     let a = first.args in
-    read-written a.nodesize a.image.now a.out.now (fits c.before.before.before.before.before.before.before.before.before.before) (leaf c.before.before.before.before.before.before.before.before) (bytes c.before.before.before.before.before.before.before.before.before.before) _ _ (listed c.before.before.before.before.before.before) _ room.if-out-size.false c.put_sheet.ensures
+    read-written a.nodesize a.image.now a.out.now (fits c.before.before.before.before.before.before.before.before.before.before) (leaf c.before.before.before.before.before.before.before.before) (bytes c.before.before.before.before.before.before.before.before.before.before) _ _ (listed c.before.before.before.before.before.before) _ c.if-out-size.false c.put_sheet.ensures

@@ -16,7 +16,7 @@ use Rattle.ledger.proofs.posting.change_at.Goals as goal
 pub add-requires : goal.add-requires
 unfolding kind_of
 add-requires c =
-    let s = c in record { stands_for = entered-as s.args.change c.in-AddBlock.is s.requires.stands_for; t = s.requires.t; amount_value = λ h. refl }
+    record { stands_for = entered-as c.args.change c.in-AddBlock.is c.requires.stands_for; t = c.requires.t; amount_value = λ h. refl }
 
 pub returns-in-AddBlock : goal.returns-in-AddBlock
 unfolding add_change
@@ -27,7 +27,7 @@ returns-in-AddBlock c =
 pub add-requires-in-AddData : goal.add-requires-in-AddData
 unfolding kind_of
 add-requires-in-AddData c =
-    let s = c in record { stands_for = entered-as s.args.change c.in-AddData.is s.requires.stands_for; t = s.requires.t; amount_value = λ h. absurd (let z : ◌≡◌ {A = ℕ} 178 176 = h in omega arith) }
+    record { stands_for = entered-as c.args.change c.in-AddData.is c.requires.stands_for; t = c.requires.t; amount_value = λ h. absurd (let z : ◌≡◌ {A = ℕ} 178 176 = h in omega arith) }
 
 pub returns-in-AddData : goal.returns-in-AddData
 unfolding add_change
@@ -41,8 +41,7 @@ shared_name-wanted-requires c =
 
 pub add-requires-in-AddShared : goal.add-requires-in-AddShared
 add-requires-in-AddShared c =
-    let s = c in
-    let e = c.in-AddShared.is in record { stands_for = entered-as s.args.change e s.requires.stands_for; t = s.requires.t; amount_value = not-block _ c.shared_name-wanted.result c.shared_name-wanted.ensures }
+    let e = c.in-AddShared.is in record { stands_for = entered-as c.args.change e c.requires.stands_for; t = c.requires.t; amount_value = not-block _ c.shared_name-wanted.result c.shared_name-wanted.ensures }
 
 pub returns-in-AddShared : goal.returns-in-AddShared
 returns-in-AddShared c =
@@ -52,25 +51,23 @@ returns-in-AddShared c =
 
 pub drop_ref-requires : goal.drop_ref-requires
 drop_ref-requires c =
-    let s = c in record { stands_at = (entered-as s.args.change c.in-DropBlock.is s.requires.stands_for).stands; one_off = refl; shared_in_form = tt }
+    record { stands_at = (entered-as c.args.change c.in-DropBlock.is c.requires.stands_for).stands; one_off = refl; shared_in_form = tt }
 
 pub returns-in-DropBlock : goal.returns-in-DropBlock
 returns-in-DropBlock c =
-    let s = c in
-    let a = s.args in
+    let a = c.args in
     as-drop a.nodesize (length a.out.now) (list_items a.sheet.now) a.change _ _ c.in-DropBlock.is (drop_block a.nodesize _ (list_items a.sheet.now) _)
-    (drop-answered (entered-as a.change c.in-DropBlock.is s.requires.stands_for) (drop_ref (Block _) 1 (list_items a.sheet.now)) (length a.out.now) _ a.out.now _ c.drop_ref.ensures)
+    (drop-answered (entered-as a.change c.in-DropBlock.is c.requires.stands_for) (drop_ref (Block _) 1 (list_items a.sheet.now)) (length a.out.now) _ a.out.now _ c.drop_ref.ensures)
 
 pub drop_ref-requires-in-DropData : goal.drop_ref-requires-in-DropData
 drop_ref-requires-in-DropData c =
-    let s = c in record { stands_at = (entered-as s.args.change c.in-DropData.is s.requires.stands_for).stands; one_off = refl; shared_in_form = tt }
+    record { stands_at = (entered-as c.args.change c.in-DropData.is c.requires.stands_for).stands; one_off = refl; shared_in_form = tt }
 
 pub returns-in-DropData : goal.returns-in-DropData
 returns-in-DropData c =
-    let s = c in
-    let a = s.args in
+    let a = c.args in
     as-drop a.nodesize (length a.out.now) (list_items a.sheet.now) a.change _ _ c.in-DropData.is (drop-data a.nodesize _ (list_items a.sheet.now) _)
-    (drop-answered (entered-as a.change c.in-DropData.is s.requires.stands_for) (drop_ref (Data _) 1 (list_items a.sheet.now)) (length a.out.now) _ a.out.now _ c.drop_ref-in-DropData.ensures)
+    (drop-answered (entered-as a.change c.in-DropData.is c.requires.stands_for) (drop_ref (Data _) 1 (list_items a.sheet.now)) (length a.out.now) _ a.out.now _ c.drop_ref-in-DropData.ensures)
 
 pub shared_name-wanted-requires-in-DropShared : goal.shared_name-wanted-requires-in-DropShared
 shared_name-wanted-requires-in-DropShared c =
@@ -78,12 +75,11 @@ shared_name-wanted-requires-in-DropShared c =
 
 pub drop_ref-requires-in-DropShared : goal.drop_ref-requires-in-DropShared
 drop_ref-requires-in-DropShared c =
-    let s = c in record { stands_at = (entered-as s.args.change c.in-DropShared.is s.requires.stands_for).stands; one_off = shared-off _ c.shared_name-wanted-in-DropShared.result _ c.shared_name-wanted-in-DropShared.ensures; shared_in_form = in-form c.shared_name-wanted-in-DropShared.result _ (balanced-out _ s.requires.t).goods }
+    record { stands_at = (entered-as c.args.change c.in-DropShared.is c.requires.stands_for).stands; one_off = shared-off _ c.shared_name-wanted-in-DropShared.result _ c.shared_name-wanted-in-DropShared.ensures; shared_in_form = in-form c.shared_name-wanted-in-DropShared.result _ (balanced-out _ c.requires.t).goods }
 
 pub returns-in-DropShared : goal.returns-in-DropShared
 returns-in-DropShared c =
-    let s = c in
-    let a = s.args in
+    let a = c.args in
     let w = c.shared_name-wanted-in-DropShared.result in
     as-drop a.nodesize (length a.out.now) (list_items a.sheet.now) a.change _ _ c.in-DropShared.is (drop-shared a.nodesize _ (list_items a.sheet.now) _ w c.shared_name-wanted-in-DropShared.ensures _)
-    (drop-answered (entered-as a.change c.in-DropShared.is s.requires.stands_for) (drop_ref w _ (list_items a.sheet.now)) (length a.out.now) _ a.out.now _ c.drop_ref-in-DropShared.ensures)
+    (drop-answered (entered-as a.change c.in-DropShared.is c.requires.stands_for) (drop_ref w _ (list_items a.sheet.now)) (length a.out.now) _ a.out.now _ c.drop_ref-in-DropShared.ensures)

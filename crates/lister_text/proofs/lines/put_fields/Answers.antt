@@ -7,8 +7,7 @@ use Rattle.lister_text.proofs.lines.put_fields.Goals as goal
 
 pub loop-left-init : goal.loop-left-init
 loop-left-init c =
-    let s = c in
-    (makes-all _ _ _, s.requires.1, s.requires.0, refl)
+    (makes-all _ _ _, c.requires.1, c.requires.0, refl)
 
 pub get_u64_le-requires : goal.get_u64_le-requires
 get_u64_le-requires c = omega (arith, c.loop-left.invariant.2)
@@ -18,15 +17,13 @@ put_field-next-requires c = omega (arith, c.loop-left.invariant.1)
 
 pub loop-left-preserved : goal.loop-left-preserved
 loop-left-preserved c =
-    let call = c in
-    let get = c in
-    let loop = get.loop-left in
-    let body = get.args.body.now in
+    let loop = c.loop-left in
+    let body = c.args.body.now in
     let some : 0 < loop.left = omega arith in (
-      makes-field _ loop.field body _ some get.get_u64_le.ensures call.put_field-next.ensures.0 loop.invariant.0,
-      omega (arith, call.put_field-next.ensures.1, loop.invariant.1),
+      makes-field _ loop.field body _ some c.get_u64_le.ensures c.put_field-next.ensures.0 loop.invariant.0,
+      omega (arith, c.put_field-next.ensures.1, loop.invariant.1),
       omega (arith, loop.invariant.2),
-      call.put_field-next.auto.out ∙ loop.invariant.3,
+      c.put_field-next.auto.out ∙ loop.invariant.3,
     )
 
 pub shape_of-out : goal.shape_of-out

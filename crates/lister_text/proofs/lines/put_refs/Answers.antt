@@ -12,42 +12,32 @@ use Rattle.lister_text.proofs.lines.put_refs.Goals as goal
 
 pub loop-kind-init : goal.loop-kind-init
 loop-kind-init c =
-    let s = c in
-    let w = count-reads (read_from s.args.body.now s.args.start) s.args.count s.requires.body_len_bound.1 in
-    (makes-all _ _ _, readable _ w.refs w.is, omega arith, s.requires.body_len_bound.2, refl)
+    let w = count-reads (read_from c.args.body.now c.args.start) c.args.count c.requires.body_len_bound.1 in
+    (makes-all _ _ _, readable _ w.refs w.is, omega arith, c.requires.body_len_bound.2, refl)
 
 pub put_ref-next-requires : goal.put_ref-next-requires
 put_ref-next-requires c =
-    let kind = c in
-    let step = c in
-    let s = c in
-    let loop = step.loop-kind in
-    let said = step.step_from-stepped.ensures in
-    let w = stands-behind s.args.body.now loop.cursor _ said.0 _ _ _ _ _ kind.in-Ref.is _ said.1 in
-    (w.kind_known, omega (arith, w.start, w.further, w.within), w.long, w.count_at, s.requires.body_len_bound.0, omega (arith, loop.invariant.2, loop.invariant.3, s.requires.body_len_bound.0))
+    let loop = c.loop-kind in
+    let said = c.step_from-stepped.ensures in
+    let w = stands-behind c.args.body.now loop.cursor _ said.0 _ _ _ _ _ c.in-Ref.is _ said.1 in
+    (w.kind_known, omega (arith, w.start, w.further, w.within), w.long, w.count_at, c.requires.body_len_bound.0, omega (arith, loop.invariant.2, loop.invariant.3, c.requires.body_len_bound.0))
 
 pub loop-kind-smaller : goal.loop-kind-smaller
 loop-kind-smaller c =
-    let kind = c in
-    let step = c in
-    let said = step.step_from-stepped.ensures in
-    let w = stands-behind step.args.body.now step.loop-kind.cursor _ said.0 _ _ _ _ _ kind.in-Ref.is _ said.1 in
+    let said = c.step_from-stepped.ensures in
+    let w = stands-behind c.args.body.now c.loop-kind.cursor _ said.0 _ _ _ _ _ c.in-Ref.is _ said.1 in
     omega (arith, w.inside, w.further, w.within)
 
 pub loop-kind-preserved : goal.loop-kind-preserved
 loop-kind-preserved c =
-    let put = c in
-    let kind = c in
-    let step = c in
-    let s = c in
-    let loop = step.loop-kind in
-    let said = step.step_from-stepped.ensures in
-    let w = stands-behind s.args.body.now loop.cursor _ said.0 _ _ _ _ _ kind.in-Ref.is _ said.1 in (
-      makes-next put.put_ref-next.ensures (makes-is (lines_next _ _ _ _ _ _ _ w loop.invariant.1) loop.invariant.0),
+    let loop = c.loop-kind in
+    let said = c.step_from-stepped.ensures in
+    let w = stands-behind c.args.body.now loop.cursor _ said.0 _ _ _ _ _ c.in-Ref.is _ said.1 in (
+      makes-next c.put_ref-next.ensures (makes-is (lines_next _ _ _ _ _ _ _ w loop.invariant.1) loop.invariant.0),
       readable-next _ _ _ _ _ _ _ w loop.invariant.1,
-      omega (arith, put.put_ref-next.ensures.further, ref-short kind.in-Ref.kind (drop kind.in-Ref.payload s.args.body.now) w.kind_known, w.long, w.further, loop.invariant.2),
+      omega (arith, c.put_ref-next.ensures.further, ref-short c.in-Ref.kind (drop c.in-Ref.payload c.args.body.now) w.kind_known, w.long, w.further, loop.invariant.2),
       w.within,
-      put.put_ref-next.auto.out ∙ loop.invariant.4,
+      c.put_ref-next.auto.out ∙ loop.invariant.4,
     )
 
 pub shape_of-out-in-End : goal.shape_of-out-in-End
@@ -55,10 +45,8 @@ shape_of-out-in-End c = c.loop-kind.invariant.4
 
 pub returns-in-End : goal.returns-in-End
 returns-in-End c =
-    let step = c in
-    let s = c in
-    let loop = step.loop-kind in
-    let w = seen s.args.body.now loop.cursor _ (sym c.in-End.is ∙ step.step_from-stepped.ensures.0) in
+    let loop = c.loop-kind in
+    let w = seen c.args.body.now loop.cursor _ (sym c.in-End.is ∙ c.step_from-stepped.ensures.0) in
     (makes-done (lines_end _ w) loop.invariant.0, omega (arith, loop.invariant.2, loop.invariant.3))
 
 pub shape_of-out-in-Refused : goal.shape_of-out-in-Refused
@@ -66,8 +54,6 @@ shape_of-out-in-Refused c = c.loop-kind.invariant.4
 
 pub returns-in-Refused : goal.returns-in-Refused
 returns-in-Refused c =
-    let step = c in
-    let s = c in
-    let loop = step.loop-kind in
-    let w = seen s.args.body.now loop.cursor _ (sym c.in-Refused.is ∙ step.step_from-stepped.ensures.0) in
+    let loop = c.loop-kind in
+    let w = seen c.args.body.now loop.cursor _ (sym c.in-Refused.is ∙ c.step_from-stepped.ensures.0) in
     refused-not (sym w ∙ loop.invariant.1)

@@ -12,10 +12,8 @@ slice_bounds-put_edit-end c =
 
 pub put_edit-requires : goal.put_edit-requires
 put_edit-requires c =
-    let s = c in let all = put-asks s.args.plan s.args.body.now s.requires.edit_in s.args.at (length s.args.out.now) s.requires.body_in_bounds in record { le_from = all.0; to_in_bounds = all.1 }
+    let all = put-asks c.args.plan c.args.body.now c.requires.edit_in c.args.at (length c.args.out.now) c.requires.body_in_bounds in record { le_from = all.0; to_in_bounds = all.1 }
 
 pub returns : goal.returns
 returns c =
-    let put = c in
-    let s = c in
-    put-edited s.args.plan s.args.body.now s.requires.edit_in s.args.out.now _ s.args.at _ put.put_edit.ensures
+    put-edited c.args.plan c.args.body.now c.requires.edit_in c.args.out.now _ c.args.at _ c.put_edit.ensures

@@ -8,6 +8,5 @@ use Rattle.transaction.proofs.drop_edits.put_count.Goals as goal
 
 pub returns : goal.returns
 returns c =
-    let s = c in
-    let e = ap (λ (l : List ℕ). held_plan (length s.args.out.now) s.args.target.item_count s.args.sheet.now s.args.target s.args.plan (record { from = s.args.to - 4; to = s.args.to; new = l; size = 4 })) c.count_bytes.ensures in
-    rw (← e) (put-held s.args.sheet.now s.args.target s.args.plan (record { from = s.args.to - 4; to = s.args.to; new = c.count_bytes.result; size = 4 }) (length s.args.out.now) s.args.target.item_count _ s.args.out.now _ s.requires.plan_in c.edit_record.ensures)
+    let e = ap (λ (l : List ℕ). held_plan (length c.args.out.now) c.args.target.item_count c.args.sheet.now c.args.target c.args.plan (record { from = c.args.to - 4; to = c.args.to; new = l; size = 4 })) c.count_bytes.ensures in
+    rw (← e) (put-held c.args.sheet.now c.args.target c.args.plan (record { from = c.args.to - 4; to = c.args.to; new = c.count_bytes.result; size = 4 }) (length c.args.out.now) c.args.target.item_count _ c.args.out.now _ c.requires.plan_in c.edit_record.ensures)

@@ -7,6 +7,5 @@ use Rattle.transaction.proofs.drop_edits.put_without.Goals as goal
 
 pub returns : goal.returns
 returns c =
-    let s = c in
-    let e = ap (λ (k : ℕ). held_plan (length s.args.out.now) k s.args.sheet.now s.args.target s.args.plan (gone s.args.from s.args.to)) c.one_less-count.ensures in
-    rw (← e) (put-held s.args.sheet.now s.args.target s.args.plan (gone s.args.from s.args.to) (length s.args.out.now) c.one_less-count.result _ s.args.out.now _ s.requires.plan_in c.edit_record.ensures)
+    let e = ap (λ (k : ℕ). held_plan (length c.args.out.now) k c.args.sheet.now c.args.target c.args.plan (gone c.args.from c.args.to)) c.one_less-count.ensures in
+    rw (← e) (put-held c.args.sheet.now c.args.target c.args.plan (gone c.args.from c.args.to) (length c.args.out.now) c.one_less-count.result _ c.args.out.now _ c.requires.plan_in c.edit_record.ensures)

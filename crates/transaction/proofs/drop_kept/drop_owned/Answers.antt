@@ -12,30 +12,22 @@ drop_ref-edited-requires c = record { stands_at = c.requires; one_off = refl; sh
 
 pub returns-in-Absent : goal.returns-in-Absent
 returns-in-Absent c =
-    let call = c in
-    let s = c in
-    let o = key-owned (are_bytes-in s.args.sheet.now (λ i. (call.shared_slice_known-1.given i).fits)) s.requires s.args.name (length s.args.out.now) in
-    own-absent _ _ s.args.out.now _ c.in-Absent.is o call.drop_ref-edited.ensures
+    let o = key-owned (are_bytes-in c.args.sheet.now (λ i. (c.shared_slice_known-1.given i).fits)) c.requires c.args.name (length c.args.out.now) in
+    own-absent _ _ c.args.out.now _ c.in-Absent.is o c.drop_ref-edited.ensures
 
 pub returns-in-Remove : goal.returns-in-Remove
 returns-in-Remove c =
-    let call = c in
-    let s = c in
-    let o = key-owned (are_bytes-in s.args.sheet.now (λ i. (call.shared_slice_known-1.given i).fits)) s.requires s.args.name (length s.args.out.now) in
-    own-remove _ _ s.args.out.now _ c.in-Remove.is o call.drop_ref-edited.ensures
+    let o = key-owned (are_bytes-in c.args.sheet.now (λ i. (c.shared_slice_known-1.given i).fits)) c.requires c.args.name (length c.args.out.now) in
+    own-remove _ _ c.args.out.now _ c.in-Remove.is o c.drop_ref-edited.ensures
 
 pub returns-in-Refused : goal.returns-in-Refused
 returns-in-Refused c =
-    let call = c in
-    let s = c in
-    let o = key-owned (are_bytes-in s.args.sheet.now (λ i. (call.shared_slice_known-1.given i).fits)) s.requires s.args.name (length s.args.out.now) in
-    own-refused _ _ _ s.args.out.now _ c.in-Refused.is o call.drop_ref-edited.ensures
+    let o = key-owned (are_bytes-in c.args.sheet.now (λ i. (c.shared_slice_known-1.given i).fits)) c.requires c.args.name (length c.args.out.now) in
+    own-refused _ _ _ c.args.out.now _ c.in-Refused.is o c.drop_ref-edited.ensures
 
 pub overflow_add-target : goal.overflow_add-target
 overflow_add-target c =
-    let call = c in
-    let s = c in
-    let d = stands (are_bytes-in s.args.sheet.now (λ i. (call.shared_slice_known-1.given i).fits)) s.requires in
+    let d = stands (are_bytes-in c.args.sheet.now (λ i. (c.shared_slice_known-1.given i).fits)) c.requires in
     let p = d.ordered in
     let q = d.within in
     let m = d.small in
@@ -43,14 +35,10 @@ overflow_add-target c =
 
 pub set_own-requires : goal.set_own-requires
 set_own-requires c =
-    let call = c in
-    let s = c in
-    let o = key-owned (are_bytes-in s.args.sheet.now (λ i. (call.shared_slice_known-1.given i).fits)) s.requires s.args.name (length s.args.out.now) in
-    own-fits _ _ _ s.args.out.now _ c.in-Written.is o call.drop_ref-edited.ensures
+    let o = key-owned (are_bytes-in c.args.sheet.now (λ i. (c.shared_slice_known-1.given i).fits)) c.requires c.args.name (length c.args.out.now) in
+    own-fits _ _ _ c.args.out.now _ c.in-Written.is o c.drop_ref-edited.ensures
 
 pub returns-in-Written : goal.returns-in-Written
 returns-in-Written c =
-    let call = c in
-    let s = c in
-    let o = key-owned (are_bytes-in s.args.sheet.now (λ i. (call.shared_slice_known-1.given i).fits)) s.requires s.args.name (length s.args.out.now) in
-    own-written _ _ _ s.args.out.now _ _ c.in-Written.is o call.drop_ref-edited.ensures c.set_own.ensures
+    let o = key-owned (are_bytes-in c.args.sheet.now (λ i. (c.shared_slice_known-1.given i).fits)) c.requires c.args.name (length c.args.out.now) in
+    own-written _ _ _ c.args.out.now _ _ c.in-Written.is o c.drop_ref-edited.ensures c.set_own.ensures

@@ -22,8 +22,7 @@ returns-in-SharedBlock c =
 
 pub returns-in-SharedData : goal.returns-in-SharedData
 returns-in-SharedData c =
-    let s = c in
-    let a = s.args in
+    let a = c.args in
     at-shared-data a.name a.amount a.sheet.now a.target a.from a.to (length a.out.now) _ a.out.now _ _ _
-    c.in-SharedData.is s.requires.count_fits s.requires.item_head_bound.2 s.requires.item_head_bound.3 c.get_u32_le-standing.ensures
+    c.in-SharedData.is c.requires.count_fits c.requires.item_head_bound.2 c.requires.item_head_bound.3 c.get_u32_le-standing.ensures
     c.drop_part-in-SharedData.ensures

@@ -8,31 +8,23 @@ returns-then-get_u64_le-offsets c = held-total _ _ _ _ _ _ (λ e. c.if-get_u64_l
 
 pub returns-then-get_u64_le-ne1 : goal.returns-then-get_u64_le-ne1
 returns-then-get_u64_le-ne1 c =
-    let one = c in
-    held-flags _ _ _ _ _ _ (sym (at-total _ _ one.get_u64_le.ensures) ∙ one.if-get_u64_le-offsets.false)
+    held-flags _ _ _ _ _ _ (sym (at-total _ _ c.get_u64_le.ensures) ∙ c.if-get_u64_le-offsets.false)
     (λ e. c.if-get_u64_le-ne1.true (at-flags _ _ c.get_u64_le-2.ensures ∙ e))
 
 pub held_refs-requires : goal.held_refs-requires
 unfolding FileRefsTold
 held_refs-requires c =
-    let file = c in
-    let s = c in
-    let a = s.args in record { side_by_side = subst (FileRefsTold a.root a.ino a.body.now a.start) c.in-All.is file.file_refs.ensures; body_len_bound = (s.requires.in_bounds.1, s.requires.start_in_bounds.1) }
+    let a = c.args in record { side_by_side = subst (FileRefsTold a.root a.ino a.body.now a.start) c.in-All.is c.file_refs.ensures; body_len_bound = (c.requires.in_bounds.1, c.requires.start_in_bounds.1) }
 
 pub returns-in-All : goal.returns-in-All
 returns-in-All c =
-    let two = c in
-    let one = c in
-    held-agrees _ _ _ _ _ _ (sym (at-total _ _ one.get_u64_le.ensures) ∙ one.if-get_u64_le-offsets.false)
-    (sym (at-flags _ _ two.get_u64_le-2.ensures) ∙ two.if-get_u64_le-ne1.false) _ c.held_refs.ensures
+    held-agrees _ _ _ _ _ _ (sym (at-total _ _ c.get_u64_le.ensures) ∙ c.if-get_u64_le-offsets.false)
+    (sym (at-flags _ _ c.get_u64_le-2.ensures) ∙ c.if-get_u64_le-ne1.false) _ c.held_refs.ensures
 
 pub returns-in-NotAll : goal.returns-in-NotAll
 unfolding FileRefsTold
 returns-in-NotAll c =
-    let file = c in
-    let two = c in
-    let one = c in
-    let a = one.args in
-    held-not _ _ _ _ _ _ (sym (at-total _ _ one.get_u64_le.ensures) ∙ one.if-get_u64_le-offsets.false)
-    (sym (at-flags _ _ two.get_u64_le-2.ensures) ∙ two.if-get_u64_le-ne1.false)
-    (subst (FileRefsTold a.root a.ino a.body.now a.start) c.in-NotAll.is file.file_refs.ensures)
+    let a = c.args in
+    held-not _ _ _ _ _ _ (sym (at-total _ _ c.get_u64_le.ensures) ∙ c.if-get_u64_le-offsets.false)
+    (sym (at-flags _ _ c.get_u64_le-2.ensures) ∙ c.if-get_u64_le-ne1.false)
+    (subst (FileRefsTold a.root a.ino a.body.now a.start) c.in-NotAll.is c.file_refs.ensures)

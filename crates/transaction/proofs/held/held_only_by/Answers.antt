@@ -11,20 +11,17 @@ returns-then-offsets-gt-MOST_OFFSETS c = only-many _ _ _ _ c.if-body-gt-MOST_DAT
 
 pub held_from-requires : goal.held_from-requires
 held_from-requires c =
-    let first = c in
-    let a = first.args in
-    let w = opens 168 a.body.now _ (sym c.in-From.is ∙ first.open_body.ensures) in record { in_bounds = (w.long, w.fits); start_in_bounds = (w.inside, first.if-offsets-gt-MOST_OFFSETS.false) }
+    let a = c.args in
+    let w = opens 168 a.body.now _ (sym c.in-From.is ∙ c.open_body.ensures) in record { in_bounds = (w.long, w.fits); start_in_bounds = (w.inside, c.if-offsets-gt-MOST_OFFSETS.false) }
 
 pub returns-in-From : goal.returns-in-From
 returns-in-From c =
-    let first = c in
-    let a = first.args in
-    let w = opens 168 a.body.now _ (sym c.in-From.is ∙ first.open_body.ensures) in
-    only-held _ _ _ _ first.if-body-gt-MOST_DATA.false first.if-offsets-gt-MOST_OFFSETS.false _ _ w c.held_from.ensures
+    let a = c.args in
+    let w = opens 168 a.body.now _ (sym c.in-From.is ∙ c.open_body.ensures) in
+    only-held _ _ _ _ c.if-body-gt-MOST_DATA.false c.if-offsets-gt-MOST_OFFSETS.false _ _ w c.held_from.ensures
 
 pub returns-in-Refused : goal.returns-in-Refused
 returns-in-Refused c =
-    let first = c in
-    let a = first.args in
-    let w = opens 168 a.body.now _ (sym c.in-Refused.is ∙ first.open_body.ensures) in
-    only-shut _ _ _ _ first.if-body-gt-MOST_DATA.false first.if-offsets-gt-MOST_OFFSETS.false _ w
+    let a = c.args in
+    let w = opens 168 a.body.now _ (sym c.in-Refused.is ∙ c.open_body.ensures) in
+    only-shut _ _ _ _ c.if-body-gt-MOST_DATA.false c.if-offsets-gt-MOST_OFFSETS.false _ w

@@ -12,9 +12,8 @@ returns-then-offsets-at c =
 
 pub loop-at-preserved : goal.loop-at-preserved
 loop-at-preserved c =
-    let test = c in
-    let inv = test.loop-at.invariant in
-    (omega arith, omega arith, equal-more _ _ _ _ inv.0 test.loop-at-test.true c.if-offsets-at.false inv.2)
+    let inv = c.loop-at.invariant in
+    (omega arith, omega arith, equal-more _ _ _ _ inv.0 c.loop-at-test.true c.if-offsets-at.false inv.2)
 
 pub returns : goal.returns
 returns c =

@@ -17,13 +17,9 @@ chained-all seed chains body from heads links i n e l h = rw (l, ← e) h
 
 pub returns-then-chain_all-n : goal.returns-then-chain_all-n
 returns-then-chain_all-n c =
-    let call = c in
-    let s = c in
-    held-twice _ _ _ _ _ s.requires.side_by_side _ _ c.if-chain_all-n.true (call.chain_all.ensures.upper_bound.1.1 c.if-chain_all-n.true)
+    held-twice _ _ _ _ _ c.requires.side_by_side _ _ c.if-chain_all-n.true (c.chain_all.ensures.upper_bound.1.1 c.if-chain_all-n.true)
 
 pub held_by_counts-requires : goal.held_by_counts-requires
 held_by_counts-requires c =
-    let call = c in
-    let s = c in
-    let a = s.args in
-    let e : call.chain_all.result ≡ a.n = omega (arith, call.chain_all.ensures.upper_bound.0, c.if-chain_all-n.false) in record { side_by_side = (s.requires.side_by_side, subst (Distinct a.body.now a.from) e call.chain_all.ensures.upper_bound.1.0); body_len_bound = s.requires.body_len_bound; in_bounds = search rules; chained = (λ more. chained-all _ _ _ _ _ _ _ _ e (search rules) (call.chain_all.ensures.chained more)); n_in_bounds = s.requires.cleared.1 }
+    let a = c.args in
+    let e : c.chain_all.result ≡ a.n = omega (arith, c.chain_all.ensures.upper_bound.0, c.if-chain_all-n.false) in record { side_by_side = (c.requires.side_by_side, subst (Distinct a.body.now a.from) e c.chain_all.ensures.upper_bound.1.0); body_len_bound = c.requires.body_len_bound; in_bounds = search rules; chained = (λ more. chained-all _ _ _ _ _ _ _ _ e (search rules) (c.chain_all.ensures.chained more)); n_in_bounds = c.requires.cleared.1 }

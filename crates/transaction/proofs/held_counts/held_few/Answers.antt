@@ -5,5 +5,4 @@ use Rattle.transaction.proofs.held_counts.held_few.Goals as goal
 
 pub held_by_chains-requires : goal.held_by_chains-requires
 held_by_chains-requires c =
-    let s = c in
-    let few : s.args.n ≤ 64 = s.requires.side_by_side.1 in record { side_by_side = s.requires.side_by_side.0; body_len_bound = s.requires.body_len_bound; in_bounds = (omega arith, (omega arith, few)); cleared = (cleared-none 64, (few, cleared-none 64)) }
+    let few : c.args.n ≤ 64 = c.requires.side_by_side.1 in record { side_by_side = c.requires.side_by_side.0; body_len_bound = c.requires.body_len_bound; in_bounds = (omega arith, (omega arith, few)); cleared = (cleared-none 64, (few, cleared-none 64)) }

@@ -3,16 +3,13 @@ use Rattle.transaction.proofs.held_counts.held_one.Goals as goal
 
 pub returns-then-end-offsets : goal.returns-then-end-offsets
 returns-then-end-offsets c =
-    let name = c in
-    let a = name.args in
-    let here = first-offset a.body.now a.from _ name.triple_at-name.ensures in
+    let a = c.args in
+    let here = first-offset a.body.now a.from _ c.triple_at-name.ensures in
     λ root ino side. one-nowhere _ _ _ _ side _ _ _ here c.equal_end-end.ensures c.if-end-offsets.true
 
 pub returns : goal.returns
 returns c =
-    let equal = c in
-    let name = c in
-    let a = name.args in
-    let here = first-offset a.body.now a.from _ name.triple_at-name.ensures in
+    let a = c.args in
+    let here = first-offset a.body.now a.from _ c.triple_at-name.ensures in
     λ root ino side. c.all_weigh.ensures root ino a.offsets.now side (one-distinct _ _)
-    (one-tallied _ _ _ _ side _ _ _ here equal.equal_end-end.ensures c.if-end-offsets.false)
+    (one-tallied _ _ _ _ side _ _ _ here c.equal_end-end.ensures c.if-end-offsets.false)

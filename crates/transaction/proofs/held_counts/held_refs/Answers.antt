@@ -4,6 +4,5 @@ use Rattle.transaction.proofs.held_counts.held_refs.Goals as goal
 
 pub returns-then-n-eq1 : goal.returns-then-n-eq1
 returns-then-n-eq1 c =
-    let s = c in
-    let a = s.args in
-    c.held_one.ensures _ _ (subst (SideBySide a.root a.ino a.body.now a.from) c.if-n-eq1.true s.requires.side_by_side)
+    let a = c.args in
+    c.held_one.ensures _ _ (subst (SideBySide a.root a.ino a.body.now a.from) c.if-n-eq1.true c.requires.side_by_side)

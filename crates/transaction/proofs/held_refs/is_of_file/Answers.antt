@@ -11,16 +11,13 @@ get_u64_le-requires c = omega (arith, payload-178 _ c.if-kind-ne-EXTENT_DATA_REF
 
 pub returns-then-get_u64_le-root : goal.returns-then-get_u64_le-root
 returns-then-get_u64_le-root c =
-    let first = c in
-    let a = first.args in
-    of-other-root _ _ _ a.start a.body.now first.if-kind-ne-EXTENT_DATA_REF.false _ c.get_u64_le.ensures c.if-get_u64_le-root.true
+    let a = c.args in
+    of-other-root _ _ _ a.start a.body.now c.if-kind-ne-EXTENT_DATA_REF.false _ c.get_u64_le.ensures c.if-get_u64_le-root.true
 
 pub get_u64_le-requires-2 : goal.get_u64_le-requires-2
 get_u64_le-requires-2 c = omega (arith, payload-178 _ c.if-kind-ne-EXTENT_DATA_REF.false)
 
 pub returns : goal.returns
 returns c =
-    let test = c in
-    let first = c in
-    let a = first.args in
-    of-file _ _ _ a.start a.body.now first.if-kind-ne-EXTENT_DATA_REF.false _ test.get_u64_le.ensures _ c.get_u64_le-2.ensures test.if-get_u64_le-root.false
+    let a = c.args in
+    of-file _ _ _ a.start a.body.now c.if-kind-ne-EXTENT_DATA_REF.false _ c.get_u64_le.ensures _ c.get_u64_le-2.ensures c.if-get_u64_le-root.false

@@ -9,19 +9,18 @@ use Rattle.transaction.specs.Held.{file_ref}
 use Rattle.transaction.proofs.held_refs.weight_of.Goals as goal
 
 pub overflow_mul-start : goal.overflow_mul-start
-overflow_mul-start c = let s = c in omega (arith, times s.args.k c.data_size.ensures)
+overflow_mul-start c = omega (arith, times c.args.k c.data_size.ensures)
 
 pub overflow_add-start : goal.overflow_add-start
-overflow_add-start c = let s = c in omega (arith, times s.args.k c.data_size.ensures)
+overflow_add-start c = omega (arith, times c.args.k c.data_size.ensures)
 
 pub overflow_add-start-2 : goal.overflow_add-start-2
-overflow_add-start-2 c = let s = c in omega (arith, times s.args.k c.data_size.ensures)
+overflow_add-start-2 c = omega (arith, times c.args.k c.data_size.ensures)
 
 pub weight_at-requires : goal.weight_at-requires
 unfolding known payload_length row_in
 weight_at-requires c =
-    let s = c in
-    (tt, omega (arith, times s.args.k c.data_size.ensures), c.lengths_of-count.ensures.1)
+    (tt, omega (arith, times c.args.k c.data_size.ensures), c.lengths_of-count.ensures.1)
 
 pub returns : goal.returns
 unfolding file_ref

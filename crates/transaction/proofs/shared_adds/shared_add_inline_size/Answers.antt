@@ -11,6 +11,4 @@ row_of-row-requires c = sym c.shared_kind.ensures ∙ not-false _ c.if-not-share
 
 pub returns : goal.returns
 returns c =
-    let row = c in
-    let asked = c in
-    size_is _ (sym asked.shared_kind.ensures ∙ not-false _ asked.if-not-shared_kind.false-raw) _ row.row_of-row.ensures.0
+    size_is _ (sym c.shared_kind.ensures ∙ not-false _ c.if-not-shared_kind.false-raw) _ c.row_of-row.ensures.0

@@ -12,19 +12,10 @@ row_of-row-requires c = sym c.shared_kind.ensures ∙ not-false _ c.if-not-share
 
 pub returns-then-row-eq0 : goal.returns-then-row-eq0
 returns-then-row-eq0 c =
-    let put = c in
-    let test = c in
-    let row = c in
-    let asked = c in
-    item-block _ (sym asked.shared_kind.ensures ∙ not-false _ asked.if-not-shared_kind.false-raw) _ _ row.row_of-row.ensures.1 _
-    test.if-row-eq0.true put.put_body.ensures
+    item-block _ (sym c.shared_kind.ensures ∙ not-false _ c.if-not-shared_kind.false-raw) _ _ c.row_of-row.ensures.1 _
+    c.if-row-eq0.true c.put_body.ensures
 
 pub returns : goal.returns
 returns c =
-    let put = c in
-    let count = c in
-    let test = c in
-    let row = c in
-    let asked = c in
-    item-data _ (sym asked.shared_kind.ensures ∙ not-false _ asked.if-not-shared_kind.false-raw) _ _ row.row_of-row.ensures.1 _
-    test.if-row-eq0.false count.put_u32_le.ensures put.put_body-2.ensures
+    item-data _ (sym c.shared_kind.ensures ∙ not-false _ c.if-not-shared_kind.false-raw) _ _ c.row_of-row.ensures.1 _
+    c.if-row-eq0.false c.put_u32_le.ensures c.put_body-2.ensures

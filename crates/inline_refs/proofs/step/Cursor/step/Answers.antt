@@ -10,17 +10,14 @@ returns-then-body-at c = simp (le-ltb _ _ c.if-body-at.true)
 pub returns-then-body-start : goal.returns-then-body-start
 unfolding ref_step_at step_row
 returns-then-body-start c =
-    let call = c in
-    simp (lt-ltb _ _ call.if-body-at.false, sym call.row_of.ensures ∙ c.in-Known.is, lt-ltb _ _ c.if-body-start.true)
+    simp (lt-ltb _ _ c.if-body-at.false, sym c.row_of.ensures ∙ c.in-Known.is, lt-ltb _ _ c.if-body-start.true)
 
 pub returns-else-body-start : goal.returns-else-body-start
 unfolding ref_step_at step_row
 returns-else-body-start c =
-    let call = c in
-    simp (lt-ltb _ _ call.if-body-at.false, sym call.row_of.ensures ∙ c.in-Known.is, le-ltb _ _ c.if-body-start.false)
+    simp (lt-ltb _ _ c.if-body-at.false, sym c.row_of.ensures ∙ c.in-Known.is, le-ltb _ _ c.if-body-start.false)
 
 pub returns-in-Unknown : goal.returns-in-Unknown
 unfolding ref_step_at step_row
 returns-in-Unknown c =
-    let call = c in
-    simp (lt-ltb _ _ call.if-body-at.false, sym call.row_of.ensures ∙ c.in-Unknown.is)
+    simp (lt-ltb _ _ c.if-body-at.false, sym c.row_of.ensures ∙ c.in-Unknown.is)
