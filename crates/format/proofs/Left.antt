@@ -4,6 +4,7 @@ use mathlib.Core.Path.{◌≡◌, refl, ap, ◌∙◌, subst}
 use mathlib.Core.Logic.{◌⊎◌, inl, inr}
 use mathlib.Core.Bool.{Bool, true, false, not, cond}
 use mathlib.Core.List.{List, [], ◌∷◌, ◌++◌}
+use Rattle.std.specs.Prelude.{Result}
 use mathlib.Core.Option.{none, some}
 use Prim.Native.Nat.{ℕ, ◌+◌, ◌-◌, ◌≤◌, ◌<◌}
 use native.Mathlib.Omega.{arith}
@@ -18,6 +19,7 @@ use Rattle.fields.proofs.Lists.{cond_yes, lt-or, sum-append, all-mid, all-put, a
 use Rattle.fields.proofs.Numbers.{length-le_bytes, le-le_bytes}
 use Rattle.fields.proofs.Parts.{part-written}
 use Rattle.format.specs.declared.Dropped.{Dropped}
+use Rattle.format.specs.declared.Refusal.{Refusal}
 use Rattle.format.specs.Questions.{Answer, refused, absent, remove, accepted, result_or, dropped_of, AnsweredDropped}
 use Rattle.format.specs.References.{Ref, Body, body_with, read_body, body_bytes}
 use Rattle.format.specs.Bodies.{named, weighed, less, keyed_count}
@@ -119,6 +121,6 @@ dropped-by l m absent f = refl
 dropped-by l m remove f = refl
 dropped-by l m (accepted result) f = ap (λ (n : ℕ). dropped_of n (accepted result)) (f result refl)
 
-pub answered-left : {a : Answer (List ℕ)} {l m : ℕ} {r : Dropped} {old new : List ℕ} → AnsweredDropped a l r old new
+pub answered-left : {a : Answer (List ℕ)} {l m : ℕ} {r : Result Dropped Refusal} {old new : List ℕ} → AnsweredDropped a l r old new
     → ((result : List ℕ) → a ≡ accepted result → l ≡ m) → AnsweredDropped a m r old new
 answered-left {a} {l} {m} w f = record { result = w.result ∙ dropped-by l m a f; output = w.output }

@@ -1,23 +1,13 @@
 -- Document 01, "Questions at the door": what a call answers, in which order its questions are put, and what a lent output
 -- holds afterwards. Assumes nothing.
-use Rattle.std.specs.Prelude.{◌≡◌, Bool, true, false, ◌&&◌, cond, List, [], ◌++◌, ℕ, leb, ltb, length, drop}
-use Rattle.std.proofs.Math.Option.{Option, none, some}
+use Rattle.std.specs.Prelude.{◌≡◌, Bool, true, false, ◌&&◌, cond, List, [], ◌++◌, ℕ, leb, ltb, length, drop, Result, Ok, Err, Option, Some, None}
+use Rattle.std.proofs.Math.Option.{Option as Maybe, none, some}
+use Rattle.format.specs.declared.Refusal.{Refusal}
 use Rattle.format.specs.declared.Edited.{Edited}
-use Rattle.format.specs.declared.Edited.TheVariants.{Written, Absent, Remove, Refused}
+use Rattle.format.specs.declared.Edited.TheVariants.{Written, Absent, Remove}
 use Rattle.format.specs.declared.Dropped.{Dropped}
-use Rattle.format.specs.declared.Dropped.TheVariants.{Written as Less, Absent as Unfound, Remove as Last, Refused as Undropped}
+use Rattle.format.specs.declared.Dropped.TheVariants.{Written as Less, Absent as Unfound, Remove as Last}
 use Rattle.format.specs.declared.Taken.{Taken}
-use Rattle.format.specs.declared.Taken.TheVariants.{Written as Out, Absent as NoMatch, Refused as Denied}
-use Rattle.format.specs.declared.Told.{Told}
-use Rattle.format.specs.declared.Told.TheVariants.{Value, Refused as Untold}
-use Rattle.format.specs.declared.Key.{Key}
-use Rattle.format.specs.declared.Filed.{Filed}
-use Rattle.format.specs.declared.Filed.TheVariants.{Under, Refused as Unfiled}
-use Rattle.format.specs.declared.Judged.{Judged}
-use Rattle.format.specs.declared.Judged.TheVariants.{Says, Refused as Unjudged}
-use Rattle.format.specs.declared.InlineRef.{InlineRef}
-use Rattle.format.specs.declared.Picked.{Picked}
-use Rattle.format.specs.declared.Picked.TheVariants.{Ref, Refused as Unpicked}
 
 -- ---- answers
 
@@ -59,12 +49,12 @@ bind remove next = remove
 bind (accepted result) next = next result
 
 -- question 5 and its like: what is not there is that refusal
-unfoldable pub needed : {A : Type 0} → ℕ → Option A → Answer A
+unfoldable pub needed : {A : Type 0} → ℕ → Maybe A → Answer A
 needed number none = refused number
 needed number (some it) = accepted it
 
 -- "An inline search that finds no match says absent"
-unfoldable pub found : {A : Type 0} → Option A → Answer A
+unfoldable pub found : {A : Type 0} → Maybe A → Answer A
 found none = absent
 found (some it) = accepted it
 
@@ -121,24 +111,28 @@ lent_number answer = result_or 0 (λ result. result) answer
 unfoldable pub lent_part : Answer (List ℕ) → List ℕ
 lent_part answer = result_or [] (λ result. result) answer
 
--- ---- the answers as numbers and as the declared enums
+-- ---- the answers as numbers and as calls hand them back
 
 -- 0 for a result
 unfoldable pub code_of : {A : Type 0} → Answer A → ℕ
 code_of answer = result_or_code (λ code. code) (λ result. 0) answer
 
-unfoldable pub edited_of : Answer (List ℕ) → Edited
-edited_of (refused number) = Refused number
-edited_of absent = Absent
-edited_of remove = Remove
-edited_of (accepted result) = Written (length result)
+-- a refusal by its number, as a call hands it back
+abbrev pub denied : {A : Type 0} → ℕ → Result A Refusal
+denied number = Err (record { number = number })
+
+unfoldable pub edited_of : Answer (List ℕ) → Result Edited Refusal
+edited_of (refused number) = denied number
+edited_of absent = Ok Absent
+edited_of remove = Ok Remove
+edited_of (accepted result) = Ok (Written (length result))
 
 -- the same with a number that only a result has: how many are left under the name that a drop touched (Left)
-unfoldable pub dropped_of : ℕ → Answer (List ℕ) → Dropped
-dropped_of left (refused number) = Undropped number
-dropped_of left absent = Unfound
-dropped_of left remove = Last
-dropped_of left (accepted result) = Less (length result) left
+unfoldable pub dropped_of : ℕ → Answer (List ℕ) → Result Dropped Refusal
+dropped_of left (refused number) = denied number
+dropped_of left absent = Ok Unfound
+dropped_of left remove = Ok Last
+dropped_of left (accepted result) = Ok (Less (length result) left)
 
 -- a body with the count of the reference that was taken out of it
 pub record TakenOut : Type 0 where
@@ -149,37 +143,28 @@ abbrev pub bytes_of : Answer TakenOut → Answer (List ℕ)
 bytes_of answer = bind answer (λ out. accepted out.bytes)
 
 -- a reference that is taken out is never answered by remove (`take-keeps` in proofs/Decisions), so 101 does not come
-unfoldable pub taken_of : Answer TakenOut → Taken
-taken_of (refused number) = Denied number
-taken_of absent = NoMatch
-taken_of remove = Denied 101
-taken_of (accepted out) = Out (length out.bytes) out.count
+unfoldable pub taken_of : Answer TakenOut → Result (Option Taken) Refusal
+taken_of (refused number) = denied number
+taken_of absent = Ok None
+taken_of remove = denied 101
+taken_of (accepted out) = Ok (Some (record { size = length out.bytes; count = out.count }))
 
 -- a number, a judgement, a key or a reference: the calls that answer so decide (proofs/Decisions has the law of each), so 100 and
 -- 101 do not come
-unfoldable pub told_of : Answer ℕ → Told
-told_of answer = result_or_code Untold Value answer
-
-unfoldable pub filed_of : Answer Key → Filed
-filed_of answer = result_or_code Unfiled Under answer
-
-unfoldable pub judged_of : Answer Bool → Judged
-judged_of answer = result_or_code Unjudged Says answer
-
-unfoldable pub picked_of : Answer InlineRef → Picked
-picked_of answer = result_or_code Unpicked Ref answer
+unfoldable pub told_of : {A : Type 0} → Answer A → Result A Refusal
+told_of answer = result_or_code denied Ok answer
 
 -- ---- the contract of a call with a lent output: its answer, and what the output held before and holds after
 
-pub record Answered (a : Answer (List ℕ)) (r : Edited) (old new : List ℕ) : Type 0 where
+pub record Answered (a : Answer (List ℕ)) (r : Result Edited Refusal) (old new : List ℕ) : Type 0 where
   pub result : r ≡ edited_of a
   pub output : new ≡ lent a old
 
 -- the same where the result comes with how many are left
-pub record AnsweredDropped (a : Answer (List ℕ)) (left : ℕ) (r : Dropped) (old new : List ℕ) : Type 0 where
+pub record AnsweredDropped (a : Answer (List ℕ)) (left : ℕ) (r : Result Dropped Refusal) (old new : List ℕ) : Type 0 where
   pub result : r ≡ dropped_of left a
   pub output : new ≡ lent a old
 
-pub record AnsweredTaken (a : Answer TakenOut) (r : Taken) (old new : List ℕ) : Type 0 where
+pub record AnsweredTaken (a : Answer TakenOut) (r : Result (Option Taken) Refusal) (old new : List ℕ) : Type 0 where
   pub result : r ≡ taken_of a
   pub output : new ≡ lent (bytes_of a) old

@@ -122,13 +122,84 @@ pub enum Change {
     },
 }
 
-// What a call that writes to a lent output answers: the result's length, or why there is none.
+// Why a call refuses: the number of the first question that is answered "no", as documents 01 and 02 number them. Questions are put
+// in the order of their numbers, so of two refusals the lower one comes first.
+#[derive(Clone, Copy, PartialEq, Eq, PartialOrd, Ord, Debug)]
+pub struct Refusal {
+    pub number: u32,
+}
+
+impl Refusal {
+    // The bytes are no item list: length, version, number of items, or an item that is not whole.
+    pub const NO_LIST: Refusal = Refusal { number: 1 };
+
+    // The keys of a list do not rise.
+    pub const KEYS: Refusal = Refusal { number: 2 };
+
+    // A nodesize, a shared kind, or the length of a body or an offset list is out of range.
+    pub const RANGE: Refusal = Refusal { number: 3 };
+
+    pub const UNBALANCED: Refusal = Refusal { number: 4 };
+
+    // The record, key, item number or reference that the call needs is not there.
+    pub const MISSING: Refusal = Refusal { number: 5 };
+
+    // A body that is too short for its head.
+    pub const SHORT: Refusal = Refusal { number: 6 };
+
+    // An inline type that is not known.
+    pub const KIND: Refusal = Refusal { number: 7 };
+
+    // An inline reference that is cut off.
+    pub const CUT: Refusal = Refusal { number: 8 };
+
+    // What is to be added stands already.
+    pub const STANDS: Refusal = Refusal { number: 9 };
+
+    // An amount or a reference that may not be added or taken.
+    pub const AMOUNT: Refusal = Refusal { number: 10 };
+
+    // The count or the total would wrap.
+    pub const COUNT_FULL: Refusal = Refusal { number: 11 };
+
+    pub const TOTAL_FULL: Refusal = Refusal { number: 12 };
+
+    // The total is below 2 and one is to go off, or below the amount that is to go off.
+    pub const LAST_ONE: Refusal = Refusal { number: 13 };
+
+    pub const TOTAL_LOW: Refusal = Refusal { number: 14 };
+
+    // A data reference's item in another form or of another name, or with count 0.
+    pub const OTHER_NAME: Refusal = Refusal { number: 15 };
+
+    pub const COUNT_ZERO: Refusal = Refusal { number: 16 };
+
+    // The body is above the inline limit.
+    pub const INLINE_LIMIT: Refusal = Refusal { number: 17 };
+
+    // Items that do not fit a leaf; or too few to divide.
+    pub const NO_FIT: Refusal = Refusal { number: 18 };
+
+    pub const TOO_FEW: Refusal = Refusal { number: 19 };
+
+    // The lent output or a limit does not hold the result.
+    pub const NO_ROOM: Refusal = Refusal { number: 21 };
+
+    // More is to be taken than stands.
+    pub const TOO_MUCH: Refusal = Refusal { number: 22 };
+
+    // An image that is no leaf, or whose items are not packed.
+    pub const NO_LEAF: Refusal = Refusal { number: 23 };
+
+    pub const PACKING: Refusal = Refusal { number: 24 };
+}
+
+// What a call that writes to a lent output answers where it does not refuse: the result's length, or that there is none.
 #[derive(Clone, Copy)]
 pub enum Edited {
     Written(usize),
     Absent,
     Remove,
-    Refused(u32),
 }
 
 // The same with how many are left under the name that a drop touched (document 02's ticket 5); an added reference leaves 0. The
@@ -138,41 +209,11 @@ pub enum Dropped {
     Written { size: usize, left: u64 },
     Absent,
     Remove,
-    Refused(u32),
 }
 
-// The same where the call hands back the count of the reference that it took out.
+// What a call that takes a reference out writes, and the count of the reference.
 #[derive(Clone, Copy)]
-pub enum Taken {
-    Written { size: usize, count: u32 },
-    Absent,
-    Refused(u32),
-}
-
-// What a call that hands back a number answers.
-#[derive(Clone, Copy)]
-pub enum Told {
-    Value(u64),
-    Refused(u32),
-}
-
-// What a call that hands back the key of an item answers.
-#[derive(Clone, Copy)]
-pub enum Filed {
-    Under(Key),
-    Refused(u32),
-}
-
-// What a call that says yes or no answers.
-#[derive(Clone, Copy)]
-pub enum Judged {
-    Says(bool),
-    Refused(u32),
-}
-
-// What a call that hands back a reference answers.
-#[derive(Clone, Copy)]
-pub enum Picked {
-    Ref(InlineRef),
-    Refused(u32),
+pub struct Taken {
+    pub size: usize,
+    pub count: u32,
 }
