@@ -12,11 +12,9 @@ ghost use Rattle.format.specs.Bodies.{held_body, data_extent_body, tree_block_bo
 ghost use Rattle.extent_write.specs.Runs.{RunFits};
 
 use format::{
-    EXTENT_DATA_REF, FLAG_DATA, FLAG_TREE_BLOCK, METADATA_ITEM, MOST_DATA, TREE_BLOCK_REF,
+    EXTENT_DATA_REF, Edited, FLAG_DATA, FLAG_TREE_BLOCK, METADATA_ITEM, MOST_DATA, Refusal,
+    TREE_BLOCK_REF,
 };
-
-// The refusal of a body that the lent output or the limit does not hold.
-const NO_ROOM: u32 = 21;
 
 // The first register times 2 ^ 31, xor the second.
 fn joined(one: u32, two: u32) -> u64
@@ -93,18 +91,15 @@ pub fn hash_below(tree: u64, objectid: u64, offset: u64, own: TreeRun, rank: u64
 }
 
 // Bytes that are at hand go to the front of a lent output, or are refused.
-pub fn put_body(bytes: &[u8], out: &mut [u8]) -> format::Edited
+pub fn put_body(bytes: &[u8], out: &mut [u8]) -> Result<Edited, Refusal>
     ensures { Answered (held_body (length out.old) (accepted bytes.now)) result out.old out.new }
 {
     let n = bytes.len();
-    if out.len() < n {
-        return format::Edited::Refused(NO_ROOM);
-    }
-    if MOST_DATA < n {
-        return format::Edited::Refused(NO_ROOM);
+    if out.len() < n || MOST_DATA < n {
+        return Err(Refusal::NO_ROOM);
     }
     fields::copy_at(bytes, 0, n, out, 0);
-    format::Edited::Written(n)
+    Ok(Edited::Written(n))
 }
 
 // What both bodies begin with: total 1, generation, flags, and an inline reference's kind and first field.
@@ -141,7 +136,7 @@ impl TreeBlockAllocation {
     }
 
     // The item's body, 33 bytes.
-    pub fn body(self, out: &mut [u8]) -> format::Edited
+    pub fn body(self, out: &mut [u8]) -> Result<Edited, Refusal>
         ensures { Answered (held_body (length out.old) (accepted (tree_block_body self.generation (record { tree = self.owner })))) result out.old out.new }
     {
         let mut b = [0u8; 33];
@@ -163,7 +158,7 @@ pub fn data_extent_body(
     ino: u64,
     offset: u64,
     out: &mut [u8],
-) -> format::Edited
+) -> Result<Edited, Refusal>
     ensures { Answered (held_body (length out.old) (accepted (data_extent_body generation (record { tree = root; objectid = ino; offset = offset })))) result out.old out.new }
 {
     let mut b = [0u8; 53];
