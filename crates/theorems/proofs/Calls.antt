@@ -9,7 +9,9 @@ use lib.Seq.{take-append_seam}
 use mir.Facts.{yes_and}
 use Rattle.fields.specs.Lists.{all}
 use Rattle.fields.specs.Numbers.{are_bytes}
+use Rattle.std.specs.Prelude.{Result}
 use Rattle.format.specs.declared.Edited.{Edited}
+use Rattle.format.specs.declared.Refusal.{Refusal}
 use Rattle.format.specs.Questions.{Answer, refused, absent, remove, accepted, edited_of, lent, Answered}
 use Rattle.format.specs.History.{Posting, Seen, answer_to, sheet_after, is_accepted, run, all_seen, balanced_sheet}
 use Rattle.theorems.specs.Demand.{Wides, Decided, no, yes, Correct, AllCorrect, Demand3}
@@ -17,20 +19,20 @@ use Rattle.theorems.proofs.Demand.{demand-3}
 use Rattle.theorems.specs.Calls.{Call, CallsKept, was_written, was_decided, next_sheet, last_sheet, seen_by, posting_of, postings_of, CallsCorrect, CallsDemand3}
 
 -- what an answer says, the caller sees
-told : (a : Answer (List ℕ)) {r : Edited} {old new : List ℕ} → Answered a r old new → was_written r ≡ is_accepted a
+told : (a : Answer (List ℕ)) {r : Result Edited Refusal} {old new : List ℕ} → Answered a r old new → was_written r ≡ is_accepted a
 unfolding edited_of
 told (refused k) w = ap was_written w.result
 told absent w = ap was_written w.result
 told remove w = ap was_written w.result
 told (accepted result) w = ap was_written w.result
 
-wrote : (sheet : List ℕ) (a : Answer (List ℕ)) {r : Edited} {old new : List ℕ} → Answered a r old new → next_sheet sheet r new ≡ sheet_after sheet a
+wrote : (sheet : List ℕ) (a : Answer (List ℕ)) {r : Result Edited Refusal} {old new : List ℕ} → Answered a r old new → next_sheet sheet r new ≡ sheet_after sheet a
 unfolding edited_of lent
-wrote sheet (refused k) {new = new} w = ap (λ (r : Edited). next_sheet sheet r new) w.result
-wrote sheet absent {new = new} w = ap (λ (r : Edited). next_sheet sheet r new) w.result
-wrote sheet remove {new = new} w = ap (λ (r : Edited). next_sheet sheet r new) w.result
+wrote sheet (refused k) {new = new} w = ap (λ (r : Result Edited Refusal). next_sheet sheet r new) w.result
+wrote sheet absent {new = new} w = ap (λ (r : Result Edited Refusal). next_sheet sheet r new) w.result
+wrote sheet remove {new = new} w = ap (λ (r : Result Edited Refusal). next_sheet sheet r new) w.result
 wrote sheet (accepted result) {old = old} {new = new} w =
-    ap (λ (r : Edited). next_sheet sheet r new) w.result ∙ ap (take (length result)) w.output
+    ap (λ (r : Result Edited Refusal). next_sheet sheet r new) w.result ∙ ap (take (length result)) w.output
     ∙ take-append_seam result (drop (length result) old)
 
 pub same-run : (sheet : List ℕ) (calls : List Call) → CallsKept sheet calls → last_sheet sheet calls ≡ run sheet (postings_of calls)
@@ -49,10 +51,10 @@ same_seen sheet (c ∷ calls) (k, ks) =
     ∙ ap (λ (s : List ℕ). all_seen s (postings_of calls)) (wrote sheet (answer_to sheet (posting_of c)) k))
 
 -- no call says absent or remove
-decided-so : (a : Answer (List ℕ)) {r : Edited} {old new : List ℕ} → Decided a → Answered a r old new → T (was_decided r)
+decided-so : (a : Answer (List ℕ)) {r : Result Edited Refusal} {old new : List ℕ} → Decided a → Answered a r old new → T (was_decided r)
 unfolding edited_of
-decided-so a {r} (no k n e) w = subst (λ (x : Edited). T (was_decided x)) (sym (w.result ∙ ap edited_of e)) n
-decided-so a {r} (yes s e) w = subst (λ (x : Edited). T (was_decided x)) (sym (w.result ∙ ap edited_of e)) tt
+decided-so a {r} (no k n e) w = subst (λ (x : Result Edited Refusal). T (was_decided x)) (sym (w.result ∙ ap edited_of e)) n
+decided-so a {r} (yes s e) w = subst (λ (x : Result Edited Refusal). T (was_decided x)) (sym (w.result ∙ ap edited_of e)) tt
 
 all-decided : ((s : List ℕ) (p : Posting) → Decided (answer_to s p)) → (sheet : List ℕ) (calls : List Call) → CallsKept sheet calls
     → T (all (λ (c : Call). was_decided c.result) calls)

@@ -8,14 +8,14 @@ use native.Mathlib.Omega.{arith}
 use lib.Dec.{T, leb}
 use lib.ListN.{length, take, drop}
 use lib.Seq.{take-append_seam}
+use Rattle.std.specs.Prelude.{Result, Ok, Err, Option, Some, None}
 use Rattle.fields.specs.Lists.{all, Cut, first_cut}
 use Rattle.fields.specs.Numbers.{are_bytes}
 use Rattle.fields.proofs.Lists.{all_rest, cut-some}
 use Rattle.format.specs.declared.SharedRef.{SharedRef}
-use Rattle.format.specs.declared.Dropped.{Dropped}
-use Rattle.format.specs.declared.Dropped.TheVariants.{Written, Absent, Remove, Refused}
+use Rattle.format.specs.declared.Dropped.TheVariants.{Written}
 use Rattle.format.specs.declared.Taken.{Taken}
-use Rattle.format.specs.declared.Taken.TheVariants.{Written as Out, Absent as NoMatch, Refused as Denied}
+use Rattle.format.specs.declared.Refusal.{Refusal}
 use Rattle.format.specs.Questions.{Answer, refused, absent, remove, accepted, ask, bind, found, held, result_or, dropped_of, taken_of, TakenOut, bytes_of, lent, AnsweredDropped, AnsweredTaken}
 use Rattle.format.specs.References.{Ref, Body, body_with, read_body, body_bytes}
 use Rattle.format.specs.Bodies.{body_fits, held_body, held_taken, shared_kind, on_body, named, one, triple, lowered_by_one, less, drop_inline, drop_inline_tree_ref, drop_inline_data_ref, take_inline_shared, drop_keyed_data_ref}
@@ -29,24 +29,18 @@ use Rattle.theorems.specs.Left.{ReadsOff, LeftInBody, TreeRefLeft, DataRefLeft, 
 
 -- ---- what an accepted call wrote and reported
 
-abbrev is_written : Dropped → Bool
-is_written (Written size left) = true
-is_written Absent = false
-is_written Remove = false
-is_written (Refused number) = false
-
 pub record Wrote (a : Answer (List ℕ)) (left : ℕ) (new : List ℕ) (size n : ℕ) : Type 0 where
   pub result : List ℕ
   pub answers : a ≡ accepted result
   pub writes : take size new ≡ result
   pub reports : n ≡ left
 
-pub wrote-out : (a : Answer (List ℕ)) (left : ℕ) (old new : List ℕ) (size n : ℕ) → AnsweredDropped a left (Written size n) old new
+pub wrote-out : (a : Answer (List ℕ)) (left : ℕ) (old new : List ℕ) (size n : ℕ) → AnsweredDropped a left (Ok (Written size n)) old new
     → Wrote a left new size n
 unfolding dropped_of lent
-wrote-out (refused k) left old new size n w = absurd (subst (λ (r : Dropped). T (is_written r)) w.result tt)
-wrote-out absent left old new size n w = absurd (subst (λ (r : Dropped). T (is_written r)) w.result tt)
-wrote-out remove left old new size n w = absurd (subst (λ (r : Dropped). T (is_written r)) w.result tt)
+wrote-out (refused k) left old new size n w = let e = w.result in absurd cc
+wrote-out absent left old new size n w = let e = w.result in absurd cc
+wrote-out remove left old new size n w = let e = w.result in absurd cc
 wrote-out (accepted result) left old new size n w =
     record { result = result; answers = refl; writes = rw (sizes, w.output) (take-append_seam result (drop (length result) old)); reports = counts }
   where
@@ -136,7 +130,7 @@ take-made type d s t result e =
 -- by what their answer is made of
 body-left : (type kind : ℕ) (fields : List ℕ) (a : Answer (List ℕ)) → ((result : List ℕ) → a ≡ accepted result → Made type result)
     → (room : ℕ) (old new : List ℕ) (size n : ℕ)
-    → AnsweredDropped (held_body room a) (result_or 0 (left_in type kind fields) a) (Written size n) old new
+    → AnsweredDropped (held_body room a) (result_or 0 (left_in type kind fields) a) (Ok (Written size n)) old new
     → LeftInBody type kind fields (take size new) n
 unfolding held_body
 body-left type kind fields a makes room old new size n w =
@@ -156,20 +150,21 @@ unfolding drop_inline_data_ref_left drop_inline_data_ref
 data-ref-left type body d room old new size n t w =
     body-left type 178 (triple d) (drop_inline_data_ref type body d) (drop-made type body 178 (triple d) t) room old new size n w
 
-abbrev is_out : Taken → Bool
-is_out (Out size count) = true
-is_out NoMatch = false
-is_out (Denied number) = false
+-- how many bytes a call that took a reference out wrote
+abbrev out_size : Result (Option Taken) Refusal → ℕ
+out_size (Ok (Some out)) = out.size
+out_size (Ok None) = 0
+out_size (Err refusal) = 0
 
 -- a reference that is taken out goes as a drop that writes the same bytes
-as_dropped : (a : Answer TakenOut) (left : ℕ) (old new : List ℕ) (size taken : ℕ) → AnsweredTaken a (Out size taken) old new
-    → AnsweredDropped (bytes_of a) left (Written size left) old new
+as_dropped : (a : Answer TakenOut) (left : ℕ) (old new : List ℕ) (size taken : ℕ) → AnsweredTaken a (Ok (Some (record { size = size; count = taken }))) old new
+    → AnsweredDropped (bytes_of a) left (Ok (Written size left)) old new
 unfolding taken_of dropped_of bind
-as_dropped (refused k) left old new size taken w = absurd (subst (λ (r : Taken). T (is_out r)) w.result tt)
-as_dropped absent left old new size taken w = absurd (subst (λ (r : Taken). T (is_out r)) w.result tt)
-as_dropped remove left old new size taken w = absurd (subst (λ (r : Taken). T (is_out r)) w.result tt)
+as_dropped (refused k) left old new size taken w = let e = w.result in absurd cc
+as_dropped absent left old new size taken w = let e = w.result in absurd cc
+as_dropped remove left old new size taken w = let e = w.result in absurd cc
 as_dropped (accepted out) left old new size taken w =
-    record { result = (let e = w.result in cc); output = w.output }
+    record { result = ap (λ (k : ℕ). Ok (Written k left)) (ap out_size w.result); output = w.output }
 
 held_bytes : (room : ℕ) (a : Answer TakenOut) → bytes_of (held_taken room a) ≡ held_body room (bytes_of a)
 unfolding held_taken held_body held bind ask
@@ -189,5 +184,5 @@ shared-left type body s room old new size taken t w =
     let fields : List ℕ = one s.parent in
     let left : ℕ = take_inline_shared_left type body s in
     body-left type s.kind fields (bytes_of a) (take-made type body s t) room old new size left
-    (subst (λ (x : Answer (List ℕ)). AnsweredDropped x left (Written size left) old new) (held_bytes room a)
+    (subst (λ (x : Answer (List ℕ)). AnsweredDropped x left (Ok (Written size left)) old new) (held_bytes room a)
     (as_dropped (held_taken room a) left old new size taken w))

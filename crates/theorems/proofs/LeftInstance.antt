@@ -6,12 +6,12 @@ use mathlib.Core.List.{List, [], ◌∷◌, ◌++◌}
 use Prim.Native.Nat.{ℕ, ◌≤◌}
 use native.Mathlib.Omega.{arith}
 use lib.ListN.{length, replicate, drop}
+use Rattle.std.specs.Prelude.{Ok, Some}
 use Rattle.fields.specs.Lists.{sum}
 use Rattle.fields.specs.Numbers.{le_bytes}
 use Rattle.format.specs.declared.DataRef.{DataRef}
 use Rattle.format.specs.declared.Change.TheVariants.{AddShared, DropShared}
 use Rattle.format.specs.declared.Dropped.TheVariants.{Written}
-use Rattle.format.specs.declared.Taken.TheVariants.{Written as Out}
 use Rattle.format.specs.Questions.{dropped_of, taken_of, lent, AnsweredDropped, AnsweredTaken}
 use Rattle.format.specs.References.{Ref, make_ref, Body}
 use Rattle.format.specs.Bodies.{held_body, held_taken, named, triple, drop_inline_tree_ref, drop_inline_data_ref, take_inline_shared, keyed_count, keyed_data_ref_body, drop_keyed_data_ref}
@@ -56,7 +56,7 @@ shared count = make_ref 184 (9 ∷ []) count
 
 -- a tree that stands three times: two are left
 tree-drops : AnsweredDropped (held_body 50 (drop_inline_tree_ref 169 (block_body 3 (root 5 ∷ root 5 ∷ root 5 ∷ [])) (tree 5)))
-    (drop_inline_tree_ref_left 169 (block_body 3 (root 5 ∷ root 5 ∷ root 5 ∷ [])) (tree 5)) (Written 42 2) (zeros 50)
+    (drop_inline_tree_ref_left 169 (block_body 3 (root 5 ∷ root 5 ∷ root 5 ∷ [])) (tree 5)) (Ok (Written 42 2)) (zeros 50)
     (over 50 42 (block_body 2 (root 5 ∷ root 5 ∷ [])))
 unfolding reported held_body dropped_of lent
 tree-drops = record { result = refl; output = refl }
@@ -72,7 +72,7 @@ abbrev most : ℕ
 most = 4294967295
 
 data-drops : AnsweredDropped (held_body 90 (drop_inline_data_ref 168 (data_body 9 (of a 3 ∷ of a most ∷ [])) a))
-    (drop_inline_data_ref_left 168 (data_body 9 (of a 3 ∷ of a most ∷ [])) a) (Written 82 4294967297) (zeros 90)
+    (drop_inline_data_ref_left 168 (data_body 9 (of a 3 ∷ of a most ∷ [])) a) (Ok (Written 82 4294967297)) (zeros 90)
     (over 90 82 (data_body 8 (of a 2 ∷ of a most ∷ [])))
 unfolding reported held_body dropped_of lent
 data-drops = record { result = refl; output = refl }
@@ -85,7 +85,7 @@ data-instance =
 
 -- a parent that stands twice: the first, which counts 5, is taken out
 shared-takes : AnsweredTaken (held_taken 60 (take_inline_shared 168 (data_body 12 (shared 5 ∷ shared 7 ∷ [])) (parent 184 9)))
-    (Out 37 5) (zeros 60) (over 60 37 (data_body 12 (shared 7 ∷ [])))
+    (Ok (Some (record { size = 37; count = 5 }))) (zeros 60) (over 60 37 (data_body 12 (shared 7 ∷ [])))
 unfolding reported held_taken taken_of lent
 shared-takes = record { result = refl; output = refl }
 
@@ -97,7 +97,7 @@ shared-instance =
 
 -- an item
 keyed-drops : AnsweredDropped (held_body 30 (drop_keyed_data_ref (keyed_data_ref_body a 3) a)) (drop_keyed_data_ref_left (keyed_data_ref_body a 3) a)
-    (Written 28 2) (zeros 30) (over 30 28 (keyed_data_ref_body a 2))
+    (Ok (Written 28 2)) (zeros 30) (over 30 28 (keyed_data_ref_body a 2))
 unfolding reported held_body dropped_of lent
 keyed-drops = record { result = refl; output = refl }
 
@@ -111,7 +111,7 @@ abbrev shared_sheet : ℕ → List Ref → List ℕ
 shared_sheet total refs = sheet_bytes (data_record 12288 total refs ∷ [])
 
 shared-drops : AnsweredDropped (held_sheet 99 (apply_shared_drop_to (shared_sheet 9 (shared 5 ∷ shared 2 ∷ [])) 12288 (parent 184 9) 3 false))
-    (apply_shared_drop_left (shared_sheet 9 (shared 5 ∷ shared 2 ∷ [])) 12288 (parent 184 9) 3 false) (Written 59 2) (zeros 99)
+    (apply_shared_drop_left (shared_sheet 9 (shared 5 ∷ shared 2 ∷ [])) 12288 (parent 184 9) 3 false) (Ok (Written 59 2)) (zeros 99)
     (over 99 59 (shared_sheet 6 (shared 2 ∷ [])))
 unfolding reported dropped_of lent
 shared-drops = record { result = refl; output = refl }
@@ -123,7 +123,7 @@ shared-drop-instance =
     tt shared-drops
 
 item-drops : AnsweredDropped (held_sheet 99 (apply_shared_drop_to (shared_sheet 9 (shared 5 ∷ [])) 12288 (parent 184 9) 3 true))
-    (apply_shared_drop_left (shared_sheet 9 (shared 5 ∷ [])) 12288 (parent 184 9) 3 true) (Written 59 0) (zeros 99)
+    (apply_shared_drop_left (shared_sheet 9 (shared 5 ∷ [])) 12288 (parent 184 9) 3 true) (Ok (Written 59 0)) (zeros 99)
     (over 99 59 (shared_sheet 6 (shared 5 ∷ [])))
 unfolding reported dropped_of lent
 item-drops = record { result = refl; output = refl }
@@ -144,7 +144,7 @@ abbrev kept_after : List ℕ
 kept_after = block 258 2 (root 5 ∷ []) (item 8192 176 5 [] ∷ [])
 
 kept-drops : AnsweredDropped (held_sheet 99 (drop_kept_tree_ref_from kept_before 8192 0 (tree 5) true)) (drop_kept_tree_ref_left kept_before 8192 0 (tree 5) true)
-    (Written 76 1) (zeros 99) (over 99 76 kept_after)
+    (Ok (Written 76 1)) (zeros 99) (over 99 76 kept_after)
 unfolding reported dropped_of lent
 kept-drops = record { result = refl; output = refl }
 
@@ -159,7 +159,7 @@ abbrev apart_after : List ℕ
 apart_after = block 258 1 (root 7 ∷ []) []
 
 apart-drops : AnsweredDropped (held_sheet 99 (drop_kept_tree_ref_from apart_before 8192 0 (tree 5) true))
-    (drop_kept_tree_ref_left apart_before 8192 0 (tree 5) true) (Written 55 0) (zeros 99) (over 99 55 apart_after)
+    (drop_kept_tree_ref_left apart_before 8192 0 (tree 5) true) (Ok (Written 55 0)) (zeros 99) (over 99 55 apart_after)
 unfolding reported dropped_of lent
 apart-drops = record { result = refl; output = refl }
 
@@ -174,7 +174,7 @@ shared_item count = sheet_bytes (data_record 12288 count [] ∷ item 12288 184 9
 
 -- two of five, at an item: three are left
 drop-posts : AnsweredDropped (posted 4096 (shared_item 5) (DropShared 12288 (parent 184 9) 2) (length (zeros 99)))
-    (post_left 4096 (shared_item 5) (DropShared 12288 (parent 184 9) 2)) (Written 71 3) (zeros 99) (over 99 71 (shared_item 3))
+    (post_left 4096 (shared_item 5) (DropShared 12288 (parent 184 9) 2)) (Ok (Written 71 3)) (zeros 99) (over 99 71 (shared_item 3))
 unfolding reported dropped_of lent
 drop-posts = record { result = refl; output = refl }
 
@@ -185,7 +185,7 @@ drop-instance =
 
 -- two more, inline: an add reports 0
 add_posts : AnsweredDropped (posted 4096 (shared_sheet 5 (shared 5 ∷ [])) (AddShared 12288 (parent 184 9) 2) (length (zeros 99)))
-    (post_left 4096 (shared_sheet 5 (shared 5 ∷ [])) (AddShared 12288 (parent 184 9) 2)) (Written 59 0) (zeros 99)
+    (post_left 4096 (shared_sheet 5 (shared 5 ∷ [])) (AddShared 12288 (parent 184 9) 2)) (Ok (Written 59 0)) (zeros 99)
     (over 99 59 (shared_sheet 7 (shared 7 ∷ [])))
 unfolding reported dropped_of lent
 add_posts = record { result = refl; output = refl }

@@ -11,6 +11,7 @@ use lib.Bits.{bit_or}
 use lib.Dec.{T, leb, eqb, le→leb}
 use lib.ListN.{length, take, drop, length-append}
 use lib.Seq.{drop_at, length-take-le}
+use Rattle.std.specs.Prelude.{Ok}
 use Rattle.fields.specs.Lists.{all, Cut, first_cut}
 use Rattle.fields.specs.Numbers.{le_bytes, are_bytes}
 use Rattle.fields.specs.Parts.{written}
@@ -90,7 +91,7 @@ module _ (is_it : Item → Bool) (keyed : (i : Item) (d : List ℕ) → T (is_it
   sheet-left : (sheet : List ℕ) (three : Bool) (next : List Item → Answer (List Item)) → T (are_bytes sheet)
       → ((items after : List Item) → Listed items → next items ≡ accepted after → Again is_it after) → (room : ℕ) (old new : List ℕ) (size n : ℕ)
       → AnsweredDropped (held_sheet room (on_sheet sheet three next)) (result_or 0 (left_at is_it kind fields) (on_sheet sheet three next))
-      (Written size n) old new
+      (Ok (Written size n)) old new
       → LeftInSheet is_it kind fields (take size new) n
   unfolding on_sheet
   sheet-left sheet three next t makes room old new size n w =

@@ -1,10 +1,11 @@
 -- A list of calls of `post`, each on the sheet that the last accepted one wrote, as their contract tells them; and that it is the
 -- list of demand 3. Assumes nothing.
-use Rattle.std.specs.Prelude.{◌≡◌, Bool, true, false, not, List, [], ◌∷◌, ℕ, ◌+◌, T, length, take}
+use Rattle.std.specs.Prelude.{◌≡◌, Bool, true, false, not, List, [], ◌∷◌, ℕ, ◌+◌, T, length, take, Result, Ok, Err}
 use Rattle.fields.specs.Lists.{all}
 use Rattle.format.specs.declared.Change.{Change}
 use Rattle.format.specs.declared.Edited.{Edited}
-use Rattle.format.specs.declared.Edited.TheVariants.{Written, Absent, Remove, Refused}
+use Rattle.format.specs.declared.Edited.TheVariants.{Written, Absent, Remove}
+use Rattle.format.specs.declared.Refusal.{Refusal}
 use Rattle.format.specs.Questions.{is_refusal, Answered}
 use Rattle.format.specs.Names.{Name, count}
 use Rattle.format.specs.Ledger.{posted}
@@ -18,31 +19,31 @@ pub record Call : Type 0 where
   pub change : Change
   pub old : List ℕ
   pub new : List ℕ
-  pub result : Edited
+  pub result : Result Edited Refusal
 
 abbrev pub CallKept : List ℕ → Call → Type 0
 CallKept sheet c = Answered (posted c.nodesize sheet c.change (length c.old)) c.result c.old c.new
 
 -- "accepted", as the caller sees it
-abbrev pub was_written : Edited → Bool
-was_written (Written size) = true
-was_written Absent = false
-was_written Remove = false
-was_written (Refused number) = false
+abbrev pub was_written : Result Edited Refusal → Bool
+was_written (Ok (Written size)) = true
+was_written (Ok Absent) = false
+was_written (Ok Remove) = false
+was_written (Err refusal) = false
 
 -- accepted, or refused with a question's number
-abbrev pub was_decided : Edited → Bool
-was_decided (Written size) = true
-was_decided Absent = false
-was_decided Remove = false
-was_decided (Refused number) = is_refusal number
+abbrev pub was_decided : Result Edited Refusal → Bool
+was_decided (Ok (Written size)) = true
+was_decided (Ok Absent) = false
+was_decided (Ok Remove) = false
+was_decided (Err refusal) = is_refusal refusal.number
 
 -- the sheet for the next call: the front of the lent output where it was written, else the same sheet
-abbrev pub next_sheet : List ℕ → Edited → List ℕ → List ℕ
-next_sheet sheet (Written size) new = take size new
-next_sheet sheet Absent new = sheet
-next_sheet sheet Remove new = sheet
-next_sheet sheet (Refused number) new = sheet
+abbrev pub next_sheet : List ℕ → Result Edited Refusal → List ℕ → List ℕ
+next_sheet sheet (Ok (Written size)) new = take size new
+next_sheet sheet (Ok Absent) new = sheet
+next_sheet sheet (Ok Remove) new = sheet
+next_sheet sheet (Err refusal) new = sheet
 
 -- ---- a list of calls
 

@@ -1,7 +1,7 @@
 -- Document 02, ticket 5, "How many are left": the number that a drop reports is what a reading of the bytes that it wrote gives; in
 -- the books it is what the history leaves of the count before; and on a balanced sheet it is the count of one reference. To add is
 -- the documents' "give", to drop their "take". Assumes nothing.
-use Rattle.std.specs.Prelude.{◌≡◌, ◌≢◌, Bool, true, false, not, cond, List, ◌∷◌, ◌++◌, ℕ, ◌+◌, ◌≤◌, T, length, take}
+use Rattle.std.specs.Prelude.{◌≡◌, ◌≢◌, Bool, true, false, not, cond, List, ◌∷◌, ◌++◌, ℕ, ◌+◌, ◌≤◌, T, length, take, Ok, Some}
 use Rattle.std.proofs.Math.Option.{some}
 use Rattle.fields.specs.Lists.{sum, Cut, first_cut}
 use Rattle.fields.specs.Numbers.{are_bytes}
@@ -10,7 +10,6 @@ use Rattle.format.specs.declared.DataRef.{DataRef}
 use Rattle.format.specs.declared.SharedRef.{SharedRef}
 use Rattle.format.specs.declared.Change.{Change}
 use Rattle.format.specs.declared.Dropped.TheVariants.{Written}
-use Rattle.format.specs.declared.Taken.TheVariants.{Written as Out}
 use Rattle.format.specs.Questions.{Answer, accepted, result_or, AnsweredDropped, AnsweredTaken}
 use Rattle.format.specs.References.{Body, read_body}
 use Rattle.format.specs.Bodies.{held_body, held_taken, named, one, triple, drop_inline_tree_ref, drop_inline_data_ref, take_inline_shared, keyed_count, drop_keyed_data_ref}
@@ -27,7 +26,7 @@ use Rattle.format.specs.History.{enter, sheet_items}
 -- whatever is read off a body: a call that is accepted, with `size` bytes written, reports that of these bytes
 abbrev pub ReadsOff : Type 0
 ReadsOff = (left : List ℕ → ℕ) (a : Answer (List ℕ)) (room : ℕ) (old new : List ℕ) (size n : ℕ)
-    → AnsweredDropped (held_body room a) (result_or 0 left a) (Written size n) old new → n ≡ left (take size new)
+    → AnsweredDropped (held_body room a) (result_or 0 left a) (Ok (Written size n)) old new → n ≡ left (take size new)
 
 -- the bytes are a body that reads, and under the name it has that many
 pub record LeftInBody (type kind : ℕ) (fields bytes : List ℕ) (n : ℕ) : Type 0 where
@@ -37,23 +36,23 @@ pub record LeftInBody (type kind : ℕ) (fields bytes : List ℕ) (n : ℕ) : Ty
 
 abbrev pub TreeRefLeft : Type 0
 TreeRefLeft = (type : ℕ) (body : List ℕ) (block : BlockRef) (room : ℕ) (old new : List ℕ) (size n : ℕ) → T (are_bytes body)
-    → AnsweredDropped (held_body room (drop_inline_tree_ref type body block)) (drop_inline_tree_ref_left type body block) (Written size n) old new
+    → AnsweredDropped (held_body room (drop_inline_tree_ref type body block)) (drop_inline_tree_ref_left type body block) (Ok (Written size n)) old new
     → LeftInBody type 176 (one block.tree) (take size new) n
 
 abbrev pub DataRefLeft : Type 0
 DataRefLeft = (type : ℕ) (body : List ℕ) (d : DataRef) (room : ℕ) (old new : List ℕ) (size n : ℕ) → T (are_bytes body)
-    → AnsweredDropped (held_body room (drop_inline_data_ref type body d)) (drop_inline_data_ref_left type body d) (Written size n) old new
+    → AnsweredDropped (held_body room (drop_inline_data_ref type body d)) (drop_inline_data_ref_left type body d) (Ok (Written size n)) old new
     → LeftInBody type 178 (triple d) (take size new) n
 
 -- the number that is handed back, `taken`, is the count of the reference that went; the answer does not say what is left
 abbrev pub SharedLeft : Type 0
 SharedLeft = (type : ℕ) (body : List ℕ) (s : SharedRef) (room : ℕ) (old new : List ℕ) (size taken : ℕ) → T (are_bytes body)
-    → AnsweredTaken (held_taken room (take_inline_shared type body s)) (Out size taken) old new
+    → AnsweredTaken (held_taken room (take_inline_shared type body s)) (Ok (Some (record { size = size; count = taken }))) old new
     → LeftInBody type s.kind (one s.parent) (take size new) (take_inline_shared_left type body s)
 
 abbrev pub KeyedLeft : Type 0
 KeyedLeft = (item : List ℕ) (d : DataRef) (room : ℕ) (old new : List ℕ) (size n : ℕ)
-    → AnsweredDropped (held_body room (drop_keyed_data_ref item d)) (drop_keyed_data_ref_left item d) (Written size n) old new
+    → AnsweredDropped (held_body room (drop_keyed_data_ref item d)) (drop_keyed_data_ref_left item d) (Ok (Written size n)) old new
     → n ≡ keyed_count (take size new)
 
 -- ---- "sheet calls .. pass it up"
@@ -69,14 +68,14 @@ pub record LeftInSheet (is_it : Item → Bool) (kind : ℕ) (fields sheet : List
 abbrev pub SharedDropLeft : Type 0
 SharedDropLeft = (sheet : List ℕ) (extent : ℕ) (s : SharedRef) (count room : ℕ) (old new : List ℕ) (size n : ℕ) → T (are_bytes sheet)
     → AnsweredDropped (held_sheet room (apply_shared_drop_to sheet extent s count false)) (apply_shared_drop_left sheet extent s count false)
-    (Written size n) old new
+    (Ok (Written size n)) old new
     → LeftInSheet (record_of extent) s.kind (one s.parent) (take size new) n
 
 -- "calls with the item flag report 0"
 abbrev pub SharedDropAsItem : Type 0
 SharedDropAsItem = (sheet : List ℕ) (extent : ℕ) (s : SharedRef) (count room : ℕ) (old new : List ℕ) (size n : ℕ)
     → AnsweredDropped (held_sheet room (apply_shared_drop_to sheet extent s count true)) (apply_shared_drop_left sheet extent s count true)
-    (Written size n) old new
+    (Ok (Written size n)) old new
     → n ≡ 0
 
 -- over the body alone, also where the reference stood as an item of its own
@@ -84,7 +83,7 @@ abbrev pub KeptDropLeft : Type 0
 KeptDropLeft = (sheet : List ℕ) (bytenr level : ℕ) (block : BlockRef) (own : Bool) (room : ℕ) (old new : List ℕ) (size n : ℕ)
     → T (are_bytes sheet)
     → AnsweredDropped (held_sheet room (drop_kept_tree_ref_from sheet bytenr level block own)) (drop_kept_tree_ref_left sheet bytenr level block own)
-    (Written size n) old new
+    (Ok (Written size n)) old new
     → LeftInSheet (has_key (key_of bytenr 169 level)) 176 (one block.tree) (take size new) n
 
 -- ---- "and the books pass it up"
@@ -106,7 +105,7 @@ pub record LeftByPosting (sheet : List ℕ) (change : Change) (after : List ℕ)
 -- a sheet that is not balanced accepts nothing
 abbrev pub PostingLeft : Type 0
 PostingLeft = (nodesize : ℕ) (sheet : List ℕ) (change : Change) (old new : List ℕ) (size n : ℕ) → T (are_bytes sheet)
-    → AnsweredDropped (posted nodesize sheet change (length old)) (post_left nodesize sheet change) (Written size n) old new
+    → AnsweredDropped (posted nodesize sheet change (length old)) (post_left nodesize sheet change) (Ok (Written size n)) old new
     → LeftByPosting sheet change (take size new) n
 
 -- ---- in the record of a balanced list at most one reference has a name, so that the sum is its count
