@@ -1,32 +1,33 @@
 -- Where items stand in an item list (document 01's sheet): the first that passes a test, and the position of a key; and what the
 -- one pass answers: whether the bytes are an item list, and that first item. Assumes nothing.
-use Rattle.std.specs.Prelude.{Bool, ◌&&◌, not, cond, List, [], ◌∷◌, ℕ, zero, suc, ◌+◌, eqb, leb, length}
+use Rattle.std.specs.Prelude.{Bool, ◌&&◌, not, cond, List, [], ◌∷◌, ℕ, zero, suc, ◌+◌, eqb, leb, length, Option, Some, None, Result, Ok, Err}
 use Rattle.format.specs.declared.Key.{Key}
-use Rattle.format.specs.Questions.{Answer, result_or_code}
+use Rattle.format.specs.declared.Refusal.{Refusal}
+use Rattle.format.specs.Questions.{Answer, result_or_code, denied}
 use Rattle.format.specs.Constants.{most_items}
 use Rattle.format.specs.Items.{Item, key_below, above, rising}
 use Rattle.format.specs.Apply.{record_of}
-use Rattle.item_list.specs.declared.ItemPosition.{ItemPosition}
-use Rattle.item_list.specs.declared.ItemPosition.TheVariants.{At, Missing}
+use Rattle.item_list.specs.declared.ItemPlace.{ItemPlace}
 use Rattle.item_list.specs.declared.ItemQuery.{ItemQuery}
 use Rattle.item_list.specs.declared.ItemQuery.TheVariants.{Index, Record, AtOrPast}
 use Rattle.item_list.specs.declared.Sought.{Sought}
 use Rattle.item_list.specs.declared.Sought.TheVariants.{Present, Absent}
 use Rattle.item_list.specs.declared.Listing.{Listing}
-use Rattle.item_list.specs.declared.Listing.TheVariants.{Refused, Found, Missing as Without}
-use Rattle.item_list.specs.declared.Checked.{Checked}
-use Rattle.item_list.specs.declared.Checked.TheVariants.{Count, Refused as NoList}
 
 -- how many bytes an item takes
 unfoldable pub item_size_of : Item → ℕ
 item_size_of i = 21 + length i.bytes
 
+-- an item's number, where it starts and where it ends
+abbrev pub place_at : ℕ → ℕ → ℕ → ItemPlace
+place_at index start end = record { index = index; start = start; end = end }
+
 -- the first item that passes a test of its number and itself: its number, where it starts and where it ends. `number` and `at`
 -- are those of the first item at hand
-unfoldable pub position_in : (ℕ → Item → Bool) → ℕ → ℕ → List Item → ItemPosition
-position_in test index at [] = Missing
+unfoldable pub position_in : (ℕ → Item → Bool) → ℕ → ℕ → List Item → Option ItemPlace
+position_in test index at [] = None
 position_in test index at (i ∷ items) =
-    cond (test index i) (At index at (at + item_size_of i)) (position_in test (index + 1) (at + item_size_of i) items)
+    cond (test index i) (Some (place_at index at (at + item_size_of i))) (position_in test (index + 1) (at + item_size_of i) items)
 
 abbrev pub indexed : ℕ → ℕ → Item → Bool
 indexed query index i = eqb index query
@@ -52,13 +53,12 @@ seek_in key at (i ∷ items) =
 -- ---- the one pass
 
 -- a list of so many items, and a position in it
-unfoldable pub listed_at : ℕ → ItemPosition → Listing
-listed_at count Missing = Without count
-listed_at count (At index start end) = Found count index start end
+abbrev pub listed_at : ℕ → Option ItemPlace → Listing
+listed_at count place = record { count = count; place = place }
 
 -- the reader of an item list decides (format/proofs/Decisions, `sheet-decides`), so 100 and 101 do not come
-unfoldable pub listing_of : (ℕ → Item → Bool) → Answer (List Item) → Listing
-listing_of test answer = result_or_code Refused (λ items. listed_at (length items) (position_in test 0 1 items)) answer
+unfoldable pub listing_of : (ℕ → Item → Bool) → Answer (List Item) → Result Listing Refusal
+listing_of test answer = result_or_code denied (λ items. Ok (listed_at (length items) (position_in test 0 1 items))) answer
 
 -- ---- the pass, from any item on
 
@@ -68,14 +68,14 @@ rising_behind zero last items = rising items
 rising_behind (suc n) last items = above (record { key = last; bytes = [] }) items && rising items
 
 -- after all items: at most 4,096, and then question 2
-unfoldable pub verdict_of : ℕ → Bool → Checked
-verdict_of count ordered = cond (leb count most_items) (cond ordered (Count count) (NoList 2)) (NoList 1)
+unfoldable pub verdict_of : ℕ → Bool → Result ℕ Refusal
+verdict_of count ordered = cond (leb count most_items) (cond ordered (Ok count) (denied 2)) (denied 1)
 
 -- questions 1 and 2 where `n` items were read, in order or not, and those behind them read as given
-unfoldable pub checked_behind : ℕ → Bool → Key → Answer (List Item) → Checked
-checked_behind n ordered last answer = result_or_code NoList (λ items. verdict_of (n + length items) (ordered && rising_behind n last items)) answer
+unfoldable pub checked_behind : ℕ → Bool → Key → Answer (List Item) → Result ℕ Refusal
+checked_behind n ordered last answer = result_or_code denied (λ items. verdict_of (n + length items) (ordered && rising_behind n last items)) answer
 
 -- the same with a position
-unfoldable pub listed_with : Checked → ItemPosition → Listing
-listed_with (NoList refusal) position = Refused refusal
-listed_with (Count count) position = listed_at count position
+unfoldable pub listed_with : Result ℕ Refusal → Option ItemPlace → Result Listing Refusal
+listed_with (Err refusal) place = Err refusal
+listed_with (Ok count) place = Ok (listed_at count place)

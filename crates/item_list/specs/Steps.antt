@@ -1,11 +1,10 @@
 -- What stands at a position of an item list (document 01's sheet), and what the pass over its items answers. Assumes nothing.
-use Rattle.std.specs.Prelude.{◌≡◌, Bool, true, false, ◌&&◌, cond, List, [], ◌∷◌, ℕ, zero, suc, ◌+◌, eqb, leb, length, drop}
+use Rattle.std.specs.Prelude.{◌≡◌, Bool, true, false, ◌&&◌, cond, List, [], ◌∷◌, ℕ, zero, suc, ◌+◌, eqb, leb, length, drop, Result, Ok}
 use Rattle.format.specs.declared.Key.{Key}
-use Rattle.format.specs.Questions.{Answer, accepted, result_or_code}
+use Rattle.format.specs.declared.Refusal.{Refusal}
+use Rattle.format.specs.Questions.{Answer, accepted, result_or_code, denied}
 use Rattle.format.specs.Items.{Item, key_below, item_length, whole_item, first_item, read_items, read_sheet}
 unfoldable pub use Rattle.format.specs.History.{items_in}
-use Rattle.item_list.specs.declared.Checked.{Checked}
-use Rattle.item_list.specs.declared.Checked.TheVariants.{Count, Refused}
 
 -- ---- one step
 
@@ -30,8 +29,8 @@ following zero last key = true
 following (suc n) last key = key_below last key
 
 -- the number of items. The reader decides (format/proofs/Decisions, `sheet-decides`), so 100 and 101 do not come
-unfoldable pub checked_of : Answer (List Item) → Checked
-checked_of answer = result_or_code Refused (λ items. Count (length items)) answer
+unfoldable pub checked_of : Answer (List Item) → Result ℕ Refusal
+checked_of answer = result_or_code denied (λ items. Ok (length items)) answer
 
 -- the items of an accepted list
 abbrev pub list_items : List ℕ → List Item

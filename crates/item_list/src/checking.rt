@@ -5,20 +5,20 @@ ghost use Rattle.format.specs.Items.{read_items, read_sheet, nodesize_fits};
 ghost use Rattle.item_list.specs.Steps.{checked_of};
 ghost use Rattle.item_list.specs.Seeks.{verdict_of, checked_behind};
 
-use super::{Checked, finding, stepping};
-use format::{ITEM_HEAD, Key, MOST_ITEMS};
+use super::{finding, stepping};
+use format::{ITEM_HEAD, Key, MOST_ITEMS, Refusal};
 
 // The answer after all items: whether they are too many, then whether their keys rise.
-pub fn verdict(count: usize, ordered: bool) -> Checked
+pub fn verdict(count: usize, ordered: bool) -> Result<usize, Refusal>
     ensures { result ≡ verdict_of count ordered }
 {
     if MOST_ITEMS < count {
-        return Checked::Refused(1);
+        return Err(Refusal::NO_LIST);
     }
     if ordered {
-        return Checked::Count(count);
+        return Ok(count);
     }
-    Checked::Refused(2)
+    Err(Refusal::KEYS)
 }
 
 // The items from `from` on, behind `before` others. The last of those takes `last_size` bytes and has the key `last`, and
@@ -31,7 +31,7 @@ pub fn check_behind(
     last_size: usize,
     last: Key,
     ordered: bool,
-) -> Checked
+) -> Result<usize, Refusal>
     requires { (before ≤ from) × (from ≤ length s.now) × (item_head ≤ last_size) × (last_size ≤ 65556) }
     ensures { result ≡ checked_behind before ordered last (read_items (most_items - before) (drop from s.now)) }
 {
@@ -43,7 +43,7 @@ pub fn check_behind(
     while at < s.len() {
         size = stepping::size_after(s, at, size);
         if size == 0 {
-            return Checked::Refused(1);
+            return Err(Refusal::NO_LIST);
         }
         let here = stepping::key_at(s, at);
         rising = finding::follows(rising, n, key, here);
@@ -54,13 +54,13 @@ pub fn check_behind(
     verdict(n, rising)
 }
 
-pub fn check(sheet: &[u8]) -> Checked
+pub fn check(sheet: &[u8]) -> Result<usize, Refusal>
     ensures { result ≡ checked_of (read_sheet sheet.now) }
 {
     if finding::opens(sheet) {
         return check_behind(sheet, 1, 0, ITEM_HEAD, stepping::no_key(), true);
     }
-    Checked::Refused(1)
+    Err(Refusal::NO_LIST)
 }
 
 // Question 3 of a nodesize.

@@ -5,11 +5,10 @@ ghost use Rattle.format.specs.Questions.{bind, ask, accepted};
 ghost use Rattle.format.specs.Items.{read_items, read_sheet, rising};
 ghost use Rattle.format.specs.Apply.{record_of};
 ghost use Rattle.item_list.specs.Steps.{opens_list, following};
-ghost use Rattle.item_list.specs.declared.ItemPosition.TheVariants.{At, Missing};
-ghost use Rattle.item_list.specs.Seeks.{passing, verdict_of, listed_with, listing_of};
+ghost use Rattle.item_list.specs.Seeks.{passing, listing_of};
 
-use super::{Checked, ItemQuery, Listing, checking, stepping};
-use format::{EXTENT_ITEM, ITEM_HEAD, Key, METADATA_ITEM, MOST_ITEMS, MOST_SHEET};
+use super::{ItemPlace, ItemQuery, Listing, checking, stepping};
+use format::{EXTENT_ITEM, ITEM_HEAD, Key, METADATA_ITEM, MOST_SHEET, Refusal};
 
 // Whether keys still rise after item number `n` with its key.
 pub fn follows(ordered: bool, n: usize, last: Key, key: Key) -> bool
@@ -48,37 +47,8 @@ fn passes(query: ItemQuery, n: usize, key: Key) -> bool
     }
 }
 
-// What questions 1 and 2 are answered with, and where the wanted item stands.
-fn found(checked: Checked, index: usize, start: usize, end: usize) -> Listing
-    ensures { result ≡ listed_with checked (At index start end) }
-{
-    match checked {
-        Checked::Refused(refusal) => Listing::Refused(refusal),
-        Checked::Count(count) => Listing::Found {
-            count,
-            index,
-            start,
-            end,
-        },
-    }
-}
-
-// The answer after all items, none of which is wanted. It asks what `checking::verdict` asks: handed on from there, the loop before
-// it has no register for the query.
-fn missing(count: usize, ordered: bool) -> Listing
-    ensures { result ≡ listed_with (verdict_of count ordered) Missing }
-{
-    if MOST_ITEMS < count {
-        return Listing::Refused(1);
-    }
-    if ordered {
-        return Listing::Missing { count };
-    }
-    Listing::Refused(2)
-}
-
 // The items after the version byte, up to the wanted one; those behind it are only checked.
-fn walk(s: &[u8], query: ItemQuery) -> Listing
+fn walk(s: &[u8], query: ItemQuery) -> Result<Listing, Refusal>
     requires { 1 ≤ length s.now }
     ensures { result ≡ listing_of (passing query) (bind (read_items most_items (drop 1 s.now)) (λ items. ask (rising items) 2 (accepted items))) }
 {
@@ -90,20 +60,29 @@ fn walk(s: &[u8], query: ItemQuery) -> Listing
     while at < s.len() {
         size = stepping::size_after(s, at, size);
         if size == 0 {
-            return Listing::Refused(1);
+            return Err(Refusal::NO_LIST);
         }
         let here = stepping::key_at(s, at);
         ordered = follows(ordered, n, key, here);
         key = here;
         if passes(query, n, key) {
             let end = at + size;
-            let checked = checking::check_behind(s, end, n + 1, size, key, ordered);
-            return found(checked, n, at, end);
+            let count = checking::check_behind(s, end, n + 1, size, key, ordered)?;
+            let place = ItemPlace {
+                index: n,
+                start: at,
+                end,
+            };
+            return Ok(Listing {
+                count,
+                place: Some(place),
+            });
         }
         at += size;
         n += 1;
     }
-    missing(n, ordered)
+    let count = checking::verdict(n, ordered)?;
+    Ok(Listing { count, place: None })
 }
 
 // Question 1 before the items: version and length.
@@ -120,11 +99,11 @@ pub fn opens(sheet: &[u8]) -> bool
 }
 
 // Whether the bytes are an item list, and where the first wanted item stands.
-pub fn find(sheet: &[u8], query: ItemQuery) -> Listing
+pub fn find(sheet: &[u8], query: ItemQuery) -> Result<Listing, Refusal>
     ensures { result ≡ listing_of (passing query) (read_sheet sheet.now) }
 {
     if opens(sheet) {
         return walk(sheet, query);
     }
-    Listing::Refused(1)
+    Err(Refusal::NO_LIST)
 }

@@ -15,13 +15,6 @@ pub use search::seek;
 pub use splicing::{append, append_head, put_item, remove_item, room_for};
 pub use stepping::{is_past, key_at, no_key, size_after, size_at};
 
-// Whether the bytes are an item list: the number of items, or the refusal.
-#[derive(Clone, Copy)]
-pub enum Checked {
-    Count(usize),
-    Refused(u32),
-}
-
 // Which item is wanted.
 #[derive(Clone, Copy)]
 pub enum ItemQuery {
@@ -33,34 +26,23 @@ pub enum ItemQuery {
     AtOrPast(Key),
 }
 
-// Whether the bytes are an item list, and the first wanted item; or the refusal.
-#[derive(Clone, Copy)]
-pub enum Listing {
-    Refused(u32),
-    // The number of items, then the number, the first byte and the position past the wanted one.
-    Found {
-        count: usize,
-        index: usize,
-        start: usize,
-        end: usize,
-    },
-    Missing {
-        count: usize,
-    },
-}
-
 // Where an item stands: its number, its first byte and the position past it.
 #[derive(Clone, Copy)]
-pub enum ItemPosition {
-    At {
-        index: usize,
-        start: usize,
-        end: usize,
-    },
-    Missing,
+pub struct ItemPlace {
+    pub index: usize,
+    pub start: usize,
+    pub end: usize,
+}
+
+// The number of items of a list, and where the first wanted one stands, if there is one.
+#[derive(Clone, Copy)]
+pub struct Listing {
+    pub count: usize,
+    pub place: Option<ItemPlace>,
 }
 
 // Where a key stands, or where an item with it belongs.
+// No `Result` and no `Option`: both variants are answers with a position of their own, and neither is an error.
 #[derive(Clone, Copy)]
 pub enum Sought {
     Present { start: usize, end: usize },

@@ -8,7 +8,7 @@ ghost use Rattle.format.specs.Questions.{Answered};
 ghost use Rattle.format.specs.Items.{item_bytes};
 ghost use Rattle.item_list.specs.ItemWrites.{head_bytes, room_for, held_bytes};
 
-use format::{Edited, ITEM_HEAD, Key, MOST_ITEMS, MOST_SHEET};
+use format::{Edited, ITEM_HEAD, Key, MOST_ITEMS, MOST_SHEET, Refusal};
 
 // The bytes of `src` from `from` up to `to` go to `out` at `at`. Returns the position past them.
 pub fn append(src: &[u8], from: usize, to: usize, out: &mut [u8], at: usize) -> usize
@@ -71,20 +71,26 @@ pub fn put_item(
     key: Key,
     body: &[u8],
     out: &mut [u8],
-) -> Edited
+) -> Result<Edited, Refusal>
     requires { (start ≤ end) × (end ≤ length sheet.now) × (length sheet.now ≤ most_sheet) × (length body.now ≤ most_data) }
     ensures { Answered (held_bytes (length out.old) count (spliced start end (item_bytes (record { key = key; bytes = body.now })) sheet.now)) result out.old out.new }
 {
     let size = start + (ITEM_HEAD + body.len()) + (sheet.len() - end);
     if room_for(out.len(), size, count) {
         write_item(sheet, start, end, key, body, out);
-        return Edited::Written(size);
+        return Ok(Edited::Written(size));
     }
-    Edited::Refused(21)
+    Err(Refusal::NO_ROOM)
 }
 
 // The bytes of `sheet` without those from `start` up to `end`, into `out`. `count` is the number of items that are left.
-pub fn remove_item(sheet: &[u8], start: usize, end: usize, count: usize, out: &mut [u8]) -> Edited
+pub fn remove_item(
+    sheet: &[u8],
+    start: usize,
+    end: usize,
+    count: usize,
+    out: &mut [u8],
+) -> Result<Edited, Refusal>
     requires { (start ≤ end) × (end ≤ length sheet.now) × (length sheet.now ≤ most_sheet) }
     ensures { Answered (held_bytes (length out.old) count (spliced start end [] sheet.now)) result out.old out.new }
 {
@@ -92,7 +98,7 @@ pub fn remove_item(sheet: &[u8], start: usize, end: usize, count: usize, out: &m
     if room_for(out.len(), size, count) {
         let rest = append(sheet, 0, start, out, 0);
         append(sheet, end, sheet.len(), out, rest);
-        return Edited::Written(size);
+        return Ok(Edited::Written(size));
     }
-    Edited::Refused(21)
+    Err(Refusal::NO_ROOM)
 }
