@@ -8,6 +8,7 @@ use lib.Dec.{T, leb}
 use lib.ListN.{length, take, drop, length-append, length-drop}
 use lib.Seq.{length-take-le}
 use borrow.Author.Tests.{le-leb, lt-leb, leb-true}
+use Rattle.std.specs.Prelude.{Result, Ok}
 use Rattle.fields.specs.Lists.{all}
 use Rattle.fields.specs.Numbers.{be_bytes}
 use Rattle.fields.specs.Parts.{part, written, spliced}
@@ -16,8 +17,9 @@ use Rattle.fields.proofs.Numbers.{length-be_bytes}
 use Rattle.fields.proofs.Parts.{part-all, part-rest, written-pair, written_next, written-front, length-spliced}
 use Rattle.format.specs.declared.Key.{Key}
 use Rattle.format.specs.declared.Edited.{Edited}
-use Rattle.format.specs.declared.Edited.TheVariants.{Written, Refused}
-use Rattle.format.specs.Questions.{Answer, refused, accepted, ask, bind, held, lent, edited_of, Answered}
+use Rattle.format.specs.declared.Edited.TheVariants.{Written}
+use Rattle.format.specs.declared.Refusal.{Refusal}
+use Rattle.format.specs.Questions.{Answer, refused, accepted, ask, bind, held, lent, denied, edited_of, Answered}
 use Rattle.format.specs.Items.{Item, key_bytes, item_bytes, sheet_bytes, data_fits, sheet_holds, held_sheet}
 use Rattle.format.proofs.Items.{length-key_bytes, length-item_bytes}
 use Rattle.item_list.specs.ItemWrites.{head_bytes, room_for, held_bytes}
@@ -145,16 +147,16 @@ room_out room size count e = leb-true size room (go (leb size room) (leb size 26
     go false b c h = h
 
 module _ (room count size : ℕ) (bytes old new : List ℕ) (is : length bytes ≡ size) where
-  pub held-written : room_for room size count ≡ true → new ≡ written 0 bytes old → Answered (held_bytes room count bytes) (Written size) old new
+  pub held-written : room_for room size count ≡ true → new ≡ written 0 bytes old → Answered (held_bytes room count bytes) (Ok (Written size)) old new
   unfolding ask edited_of lent
   held-written h e =
       let a : held_bytes room count bytes ≡ accepted bytes = rw (is, h) in
       record {
-        result = sym (ap edited_of a ∙ ap Written is);
+        result = sym (ap edited_of a ∙ ap (λ (n : ℕ). Ok (Written n)) is);
         output = e ∙ written-front bytes old ∙ sym (ap (λ (x : Answer (List ℕ)). lent x old) a);
       }
 
-  pub held-refused : room_for room size count ≡ false → Answered (held_bytes room count bytes) (Refused 21) old old
+  pub held-refused : room_for room size count ≡ false → Answered (held_bytes room count bytes) (denied 21) old old
   unfolding ask edited_of lent
   held-refused h =
       let a : held_bytes room count bytes ≡ refused 21 = rw (is, h) in
@@ -178,25 +180,25 @@ held-sheet room count items bytes e n t =
 module _ (s : List ℕ) (p q : ℕ) (fits : p ≤ length s) (room count : ℕ) (old new : List ℕ) where
   pub item-held : (i : Item) → room_for room (p + (21 + length i.bytes) + (length s - q)) count ≡ true
       → new ≡ written 0 (spliced p q (item_bytes i) s) old
-      → Answered (held_bytes room count (spliced p q (item_bytes i) s)) (Written (p + (21 + length i.bytes) + (length s - q))) old new
+      → Answered (held_bytes room count (spliced p q (item_bytes i) s)) (Ok (Written (p + (21 + length i.bytes) + (length s - q)))) old new
   item-held i h e =
       held-written room count (p + (21 + length i.bytes) + (length s - q)) (spliced p q (item_bytes i) s) old new (item-long s p q fits i) h e
 
   pub item_refused : (i : Item) → room_for room (p + (21 + length i.bytes) + (length s - q)) count ≡ false
-      → Answered (held_bytes room count (spliced p q (item_bytes i) s)) (Refused 21) old old
+      → Answered (held_bytes room count (spliced p q (item_bytes i) s)) (denied 21) old old
   item_refused i h =
       held-refused room count (p + (21 + length i.bytes) + (length s - q)) (spliced p q (item_bytes i) s) old new (item-long s p q fits i) h
 
   pub rest-held : room_for room (p + (length s - q)) count ≡ true → new ≡ written 0 (spliced p q [] s) old
-      → Answered (held_bytes room count (spliced p q [] s)) (Written (p + (length s - q))) old new
+      → Answered (held_bytes room count (spliced p q [] s)) (Ok (Written (p + (length s - q)))) old new
   rest-held h e = held-written room count (p + (length s - q)) (spliced p q [] s) old new (rest-long s p q fits) h e
 
-  pub rest-refused : room_for room (p + (length s - q)) count ≡ false → Answered (held_bytes room count (spliced p q [] s)) (Refused 21) old old
+  pub rest-refused : room_for room (p + (length s - q)) count ≡ false → Answered (held_bytes room count (spliced p q [] s)) (denied 21) old old
   rest-refused h = held-refused room count (p + (length s - q)) (spliced p q [] s) old new (rest-long s p q fits) h
 
 -- ---- from the bytes to the items
 
-pub answered-no : (a : Answer (List Item)) (room k : ℕ) (old : List ℕ) → a ≡ refused k → Answered (held_sheet room a) (Refused k) old old
+pub answered-no : (a : Answer (List Item)) (room k : ℕ) (old : List ℕ) → a ≡ refused k → Answered (held_sheet room a) (denied k) old old
 unfolding held_sheet held bind edited_of lent
 answered-no a room k old e =
     record {
@@ -204,7 +206,7 @@ answered-no a room k old e =
       output = sym (ap (λ (x : Answer (List Item)). lent (held_sheet room x) old) e);
     }
 
-pub answered-by : (a : Answer (List Item)) (room count : ℕ) (items : List Item) (bytes : List ℕ) (r : Edited) (old new : List ℕ)
+pub answered-by : (a : Answer (List Item)) (room count : ℕ) (items : List Item) (bytes : List ℕ) (r : Result Edited Refusal) (old new : List ℕ)
     → a ≡ accepted items → sheet_bytes items ≡ bytes → length items ≡ count → T (all (λ i. data_fits i.bytes) items)
     → Answered (held_bytes room count bytes) r old new
     → Answered (held_sheet room a) r old new

@@ -10,6 +10,7 @@ use lib.Dec.{T, eqb}
 use lib.ListN.{length, take, get_elem?, length-append}
 use mir.Facts.{yes_and, and_yes}
 use borrow.Author.Tests.{eqb-true, eqb-false}
+use Rattle.std.specs.Prelude.{Some, None}
 use Rattle.fields.specs.Lists.{all, Cut, later, first_cut}
 use Rattle.fields.proofs.Lists.{T-eq, cond_no, all_map}
 use Rattle.format.specs.declared.Key.{Key}
@@ -18,11 +19,11 @@ use Rattle.format.specs.Sheets.{has_key, put_before}
 use Rattle.format.specs.Apply.{record_of}
 use Rattle.format.proofs.Items.{length-item_bytes, length-sheet_bytes, items_bytes-append}
 use Rattle.format.proofs.Keys.{beyond, below-trans, below_irrefl, below_or, below-not-same, above-not-same, rising-after}
-use Rattle.item_list.specs.declared.ItemPosition.TheVariants.{At, Missing}
+use Rattle.item_list.specs.declared.ItemPlace.{ItemPlace}
 use Rattle.item_list.specs.declared.ItemQuery.TheVariants.{AtOrPast}
 use Rattle.item_list.specs.declared.Sought.TheVariants.{Present, Absent}
 use Rattle.item_list.specs.Steps.{item_at, list_items}
-use Rattle.item_list.specs.Seeks.{item_size_of, position_in, indexed, recorded, at_or_past, passing, seek_in}
+use Rattle.item_list.specs.Seeks.{item_size_of, place_at, position_in, indexed, recorded, at_or_past, passing, seek_in}
 use Rattle.item_list.proofs.Steps.{WholeAt}
 use Rattle.item_list.proofs.Walks.{Rest, rest_all, rest-cons}
 use Rattle.item_list.proofs.Reading.{Located, Lacking}
@@ -48,26 +49,29 @@ stands-first at i start end p q = record { starts = omega arith; ends = omega ar
 
 -- ---- the first item that passes a test
 
-pub record Positioned (p : Item → Bool) (items : List Item) (n at index start end : ℕ) : Type 0 where
+placed : {index start end : ℕ} {place : ItemPlace} → Some (place_at index start end) ≡ Some place → (index ≡ place.index) × (start ≡ place.start) × (end ≡ place.end)
+placed {index} {start} {end} {place} e =
+    let p : place_at index start end ≡ place = cc in
+    (ap (λ (q : ItemPlace). q.index) p, ap (λ (q : ItemPlace). q.start) p, ap (λ (q : ItemPlace). q.end) p)
+
+pub record Positioned (p : Item → Bool) (items : List Item) (n at : ℕ) (place : ItemPlace) : Type 0 where
   pub at_cut : Cut Item
   pub is : first_cut p items ≡ some at_cut
-  pub index_is : index ≡ n + length at_cut.front
-  pub stands : Stands at at_cut.front at_cut.hit start end
+  pub index_is : place.index ≡ n + length at_cut.front
+  pub stands : Stands at at_cut.front at_cut.hit place.start place.end
 
-pub positioned : (p : Item → Bool) (n at : ℕ) (items : List Item) (index start end : ℕ) → position_in (λ m. p) n at items ≡ At index start end
-    → Positioned p items n at index start end
+pub positioned : (p : Item → Bool) (n at : ℕ) (items : List Item) (place : ItemPlace) → position_in (λ m. p) n at items ≡ Some place
+    → Positioned p items n at place
 unfolding position_in
-positioned p n at [] index start end e = let z : ◌≡◌ {A = ℕ} 0 1 = cc in absurd (omega arith)
-positioned p n at (i ∷ items) index start end e = go (p i) refl e (positioned p (n + 1) (at + item_size_of i) items index start end)
+positioned p n at [] place e = let z : ◌≡◌ {A = ℕ} 0 1 = cc in absurd (omega arith)
+positioned p n at (i ∷ items) place e = go (p i) refl e (positioned p (n + 1) (at + item_size_of i) items place)
   where
-    go : (b : Bool) → p i ≡ b → cond b (At n at (at + item_size_of i)) (position_in (λ m. p) (n + 1) (at + item_size_of i) items) ≡ At index start end
-        → (position_in (λ m. p) (n + 1) (at + item_size_of i) items ≡ At index start end → Positioned p items (n + 1) (at + item_size_of i) index start end)
-        → Positioned p (i ∷ items) n at index start end
+    go : (b : Bool) → p i ≡ b → cond b (Some (place_at n at (at + item_size_of i))) (position_in (λ m. p) (n + 1) (at + item_size_of i) items) ≡ Some place
+        → (position_in (λ m. p) (n + 1) (at + item_size_of i) items ≡ Some place → Positioned p items (n + 1) (at + item_size_of i) place)
+        → Positioned p (i ∷ items) n at place
     go true h f ih =
-        let e₁ : n ≡ index = cc in
-        let e₂ : at ≡ start = cc in
-        let e₃ : at + item_size_of i ≡ end = cc in
-        record { at_cut = record { front = []; hit = i; back = items }; is = rw h; index_is = omega arith; stands = stands-first at i start end e₂ e₃ }
+        let q = placed f in
+        record { at_cut = record { front = []; hit = i; back = items }; is = rw h; index_is = omega (arith, q.0); stands = stands-first at i place.start place.end q.1 q.2 }
     go false h f ih =
         let t = ih f in
         let c = t.at_cut in
@@ -75,21 +79,21 @@ positioned p n at (i ∷ items) index start end e = go (p i) refl e (positioned 
           at_cut = later i c;
           is = rw (h, t.is);
           index_is = omega (arith, t.index_is);
-          stands = stands-later at i c.front c.hit start end t.stands;
+          stands = stands-later at i c.front c.hit place.start place.end t.stands;
         }
 
-pub missing : (p : Item → Bool) (n at : ℕ) (items : List Item) → position_in (λ m. p) n at items ≡ Missing → first_cut p items ≡ none
+pub missing : (p : Item → Bool) (n at : ℕ) (items : List Item) → position_in (λ m. p) n at items ≡ None → first_cut p items ≡ none
 unfolding position_in
 missing p n at [] e = refl
 missing p n at (i ∷ items) e = go (p i) refl e (missing p (n + 1) (at + item_size_of i) items)
   where
-    go : (b : Bool) → p i ≡ b → cond b (At n at (at + item_size_of i)) (position_in (λ m. p) (n + 1) (at + item_size_of i) items) ≡ Missing
-        → (position_in (λ m. p) (n + 1) (at + item_size_of i) items ≡ Missing → first_cut p items ≡ none) → first_cut p (i ∷ items) ≡ none
+    go : (b : Bool) → p i ≡ b → cond b (Some (place_at n at (at + item_size_of i))) (position_in (λ m. p) (n + 1) (at + item_size_of i) items) ≡ None
+        → (position_in (λ m. p) (n + 1) (at + item_size_of i) items ≡ None → first_cut p items ≡ none) → first_cut p (i ∷ items) ≡ none
     go true h f ih = let z : ◌≡◌ {A = ℕ} 0 1 = cc in absurd (omega arith)
     go false h f ih = rw (h, ih f)
 
 -- of an extent's record
-pub record-missing : (extent : ℕ) (items : List Item) → position_in (recorded extent) 0 1 items ≡ Missing → first_cut (record_of extent) items ≡ none
+pub record-missing : (extent : ℕ) (items : List Item) → position_in (recorded extent) 0 1 items ≡ None → first_cut (record_of extent) items ≡ none
 record-missing extent items e = missing (record_of extent) 0 1 items e
 
 -- ---- the item of a number
@@ -103,21 +107,20 @@ pub record Numbered (items : List Item) (k at start end : ℕ) : Type 0 where
   pub before : take k items ≡ front
   pub stands : Stands at front hit start end
 
-pub indexed-at : (query n k at : ℕ) (items : List Item) (index start end : ℕ) → query ≡ n + k → position_in (indexed query) n at items ≡ At index start end
-    → Numbered items k at start end
+pub indexed-at : (query n k at : ℕ) (items : List Item) (place : ItemPlace) → query ≡ n + k → position_in (indexed query) n at items ≡ Some place
+    → Numbered items k at place.start place.end
 unfolding position_in
-indexed-at query n k at [] index start end w e = let z : ◌≡◌ {A = ℕ} 0 1 = cc in absurd (omega arith)
-indexed-at query n k at (i ∷ items) index start end w e =
-    go (eqb n query) refl e k w (λ j v. indexed-at query (n + 1) j (at + item_size_of i) items index start end v)
+indexed-at query n k at [] place w e = let z : ◌≡◌ {A = ℕ} 0 1 = cc in absurd (omega arith)
+indexed-at query n k at (i ∷ items) place w e =
+    go (eqb n query) refl e k w (λ j v. indexed-at query (n + 1) j (at + item_size_of i) items place v)
   where
-    go : (b : Bool) → eqb n query ≡ b → cond b (At n at (at + item_size_of i)) (position_in (indexed query) (n + 1) (at + item_size_of i) items) ≡ At index start end
+    go : (b : Bool) → eqb n query ≡ b → cond b (Some (place_at n at (at + item_size_of i))) (position_in (indexed query) (n + 1) (at + item_size_of i) items) ≡ Some place
         → (k : ℕ) → query ≡ n + k
-        → ((j : ℕ) → query ≡ n + 1 + j → position_in (indexed query) (n + 1) (at + item_size_of i) items ≡ At index start end → Numbered items j (at + item_size_of i) start end)
-        → Numbered (i ∷ items) k at start end
+        → ((j : ℕ) → query ≡ n + 1 + j → position_in (indexed query) (n + 1) (at + item_size_of i) items ≡ Some place → Numbered items j (at + item_size_of i) place.start place.end)
+        → Numbered (i ∷ items) k at place.start place.end
     go true h f zero v ih =
-        let e₂ : at ≡ start = cc in
-        let e₃ : at + item_size_of i ≡ end = cc in
-        record { front = []; hit = i; back = items; same = refl; is = refl; before = refl; stands = stands-first at i start end e₂ e₃ }
+        let q = placed f in
+        record { front = []; hit = i; back = items; same = refl; is = refl; before = refl; stands = stands-first at i place.start place.end q.1 q.2 }
     go true h f (suc k) v ih = let z = eqb-true n query h in absurd (omega arith)
     go false h f zero v ih = absurd (eqb-false n query h (omega arith))
     go false h f (suc k) v ih =
@@ -129,18 +132,18 @@ indexed-at query n k at (i ∷ items) index start end w e =
           same = ap (λ (l : List Item). i ∷ l) t.same;
           is = t.is;
           before = ap (λ (l : List Item). i ∷ l) t.before;
-          stands = stands-later at i t.front t.hit start end t.stands;
+          stands = stands-later at i t.front t.hit place.start place.end t.stands;
         }
 
-pub indexed-missing : (query n k at : ℕ) (items : List Item) → query ≡ n + k → position_in (indexed query) n at items ≡ Missing → get_elem? items k ≡ none
+pub indexed-missing : (query n k at : ℕ) (items : List Item) → query ≡ n + k → position_in (indexed query) n at items ≡ None → get_elem? items k ≡ none
 unfolding position_in
 indexed-missing query n k at [] w e = refl
 indexed-missing query n k at (i ∷ items) w e =
     go (eqb n query) refl e k w (λ j v. indexed-missing query (n + 1) j (at + item_size_of i) items v)
   where
-    go : (b : Bool) → eqb n query ≡ b → cond b (At n at (at + item_size_of i)) (position_in (indexed query) (n + 1) (at + item_size_of i) items) ≡ Missing
+    go : (b : Bool) → eqb n query ≡ b → cond b (Some (place_at n at (at + item_size_of i))) (position_in (indexed query) (n + 1) (at + item_size_of i) items) ≡ None
         → (k : ℕ) → query ≡ n + k
-        → ((j : ℕ) → query ≡ n + 1 + j → position_in (indexed query) (n + 1) (at + item_size_of i) items ≡ Missing → get_elem? items j ≡ none)
+        → ((j : ℕ) → query ≡ n + 1 + j → position_in (indexed query) (n + 1) (at + item_size_of i) items ≡ None → get_elem? items j ≡ none)
         → get_elem? (i ∷ items) k ≡ none
     go true h f k v ih = let z : ◌≡◌ {A = ℕ} 0 1 = cc in absurd (omega arith)
     go false h f zero v ih = absurd (eqb-false n query h (omega arith))
@@ -259,37 +262,38 @@ record Reached (s : List ℕ) (key : Key) (items : List Item) (at start end : �
   pub sought : seek_in key at items ≡ cond (key_below key (item_at s start).key) (Absent start) (Present start end)
   pub whole : WholeAt s start end
 
-reached : (s : List ℕ) (key : Key) (n at : ℕ) (items : List Item) (index start end : ℕ) → Rest s at items
-    → position_in (at_or_past key) n at items ≡ At index start end → Reached s key items at start end
+reached : (s : List ℕ) (key : Key) (n at : ℕ) (items : List Item) (place : ItemPlace) → Rest s at items
+    → position_in (at_or_past key) n at items ≡ Some place → Reached s key items at place.start place.end
 unfolding position_in seek_in
-reached s key n at [] index start end r e = let z : ◌≡◌ {A = ℕ} 0 1 = cc in absurd (omega arith)
-reached s key n at (i ∷ items) index start end r e =
+reached s key n at [] place r e = let z : ◌≡◌ {A = ℕ} 0 1 = cc in absurd (omega arith)
+reached s key n at (i ∷ items) place r e =
     let t = rest-cons s at i items r in
-    go (key_below i.key key) refl e t.0 t.1 (reached s key (n + 1) (at + item_size_of i) items index start end t.2)
+    go (key_below i.key key) refl e t.0 t.1 (reached s key (n + 1) (at + item_size_of i) items place t.2)
   where
     go : (b : Bool) → key_below i.key key ≡ b
-        → cond (not b) (At n at (at + item_size_of i)) (position_in (at_or_past key) (n + 1) (at + item_size_of i) items) ≡ At index start end
+        → cond (not b) (Some (place_at n at (at + item_size_of i))) (position_in (at_or_past key) (n + 1) (at + item_size_of i) items) ≡ Some place
         → i ≡ item_at s at → WholeAt s at (at + item_size_of i)
-        → (position_in (at_or_past key) (n + 1) (at + item_size_of i) items ≡ At index start end → Reached s key items (at + item_size_of i) start end)
-        → Reached s key (i ∷ items) at start end
+        → (position_in (at_or_past key) (n + 1) (at + item_size_of i) items ≡ Some place → Reached s key items (at + item_size_of i) place.start place.end)
+        → Reached s key (i ∷ items) at place.start place.end
     go true h f same w ih = let t = ih f in record { sought = rw h t.sought; whole = t.whole }
     go false h f same w ih =
-        let p : at ≡ start = cc in
-        let q : at + item_size_of i ≡ end = cc in
+        let x = placed f in
+        let p : at ≡ place.start = x.1 in
+        let q : at + item_size_of i ≡ place.end = x.2 in
         record {
-          sought = rw (h, q) (λ j. cond (key_below key ((same ∙ ap (item_at s) p) j).key) (Absent (p j)) (Present (p j) end));
-          whole = subst (λ (k : ℕ). WholeAt s k end) p (subst (λ (k : ℕ). WholeAt s at k) q w);
+          sought = rw (h, q) (λ j. cond (key_below key ((same ∙ ap (item_at s) p) j).key) (Absent (p j)) (Present (p j) place.end));
+          whole = subst (λ (k : ℕ). WholeAt s k place.end) p (subst (λ (k : ℕ). WholeAt s at k) q w);
         }
 
-past_all : (key : Key) (n at : ℕ) (items : List Item) → position_in (at_or_past key) n at items ≡ Missing
+past_all : (key : Key) (n at : ℕ) (items : List Item) → position_in (at_or_past key) n at items ≡ None
     → seek_in key at items ≡ Absent (at + length (items_bytes items))
 unfolding position_in seek_in items_bytes
 past_all key n at [] e = ap Absent (omega arith)
 past_all key n at (i ∷ items) e = go (key_below i.key key) refl e (past_all key (n + 1) (at + item_size_of i) items)
   where
     go : (b : Bool) → key_below i.key key ≡ b
-        → cond (not b) (At n at (at + item_size_of i)) (position_in (at_or_past key) (n + 1) (at + item_size_of i) items) ≡ Missing
-        → (position_in (at_or_past key) (n + 1) (at + item_size_of i) items ≡ Missing → seek_in key (at + item_size_of i) items ≡ Absent (at + item_size_of i + length (items_bytes items)))
+        → cond (not b) (Some (place_at n at (at + item_size_of i))) (position_in (at_or_past key) (n + 1) (at + item_size_of i) items) ≡ None
+        → (position_in (at_or_past key) (n + 1) (at + item_size_of i) items ≡ None → seek_in key (at + item_size_of i) items ≡ Absent (at + item_size_of i + length (items_bytes items)))
         → seek_in key at (i ∷ items) ≡ Absent (at + length (items_bytes (i ∷ items)))
     go true h f ih = rw h (ih f ∙ ap Absent (further at i items _ refl))
     go false h f ih = let z : ◌≡◌ {A = ℕ} 0 1 = cc in absurd (omega arith)
@@ -300,19 +304,19 @@ unfolding passing
 key-missing s key n l =
     past_all key 0 1 (list_items s) l.position ∙ ap Absent (sym (length-sheet_bytes (list_items s)) ∙ ap length l.list.bytes-are)
 
-module _ (s : List ℕ) (key : Key) (n index start end : ℕ) (l : Located (passing (AtOrPast key)) s n index start end) where
-  key-reached : Reached s key (list_items s) 1 start end
+module _ (s : List ℕ) (key : Key) (n : ℕ) (place : ItemPlace) (l : Located (passing (AtOrPast key)) s n place) where
+  key-reached : Reached s key (list_items s) 1 place.start place.end
   unfolding passing
-  key-reached = reached s key 0 1 (list_items s) index start end (rest_all s (record { reads = l.list.reads })) l.position
+  key-reached = reached s key 0 1 (list_items s) place (rest_all s (record { reads = l.list.reads })) l.position
 
-  pub key-room : start + 21 ≤ length s
+  pub key-room : place.start + 21 ≤ length s
   key-room = let w = key-reached.whole in omega arith
 
-  pub key-past : key_below key (item_at s start).key ≡ true → seek_in key 1 (list_items s) ≡ Absent start
-  key-past h = key-reached.sought ∙ ap (λ (b : Bool). cond b (Absent start) (Present start end)) h
+  pub key-past : key_below key (item_at s place.start).key ≡ true → seek_in key 1 (list_items s) ≡ Absent place.start
+  key-past h = key-reached.sought ∙ ap (λ (b : Bool). cond b (Absent place.start) (Present place.start place.end)) h
 
-  pub key_here : key_below key (item_at s start).key ≡ false → seek_in key 1 (list_items s) ≡ Present start end
-  key_here h = key-reached.sought ∙ ap (λ (b : Bool). cond b (Absent start) (Present start end)) h
+  pub key_here : key_below key (item_at s place.start).key ≡ false → seek_in key 1 (list_items s) ≡ Present place.start place.end
+  key_here h = key-reached.sought ∙ ap (λ (b : Bool). cond b (Absent place.start) (Present place.start place.end)) h
 
 -- so no cut finds it
 

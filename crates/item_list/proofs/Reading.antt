@@ -9,25 +9,23 @@ use native.Mathlib.Omega.{arith}
 use lib.Dec.{T, leb, eqb}
 use lib.ListN.{length, drop, get_or}
 use borrow.Author.Tests.{le-leb, lt-leb}
+use Rattle.std.specs.Prelude.{Option, Some, None, Result, Ok, Err}
 use Rattle.fields.proofs.Lists.{T-eq, and-true, and-false, lt-or}
 use Rattle.fields.specs.Lists.{all}
 use Rattle.fields.specs.Numbers.{are_bytes}
 use Rattle.format.specs.declared.Key.{Key}
-use Rattle.format.specs.Questions.{Answer, refused, absent, remove, accepted, ask, bind}
+use Rattle.format.specs.declared.Refusal.{Refusal}
+use Rattle.format.specs.Questions.{Answer, refused, absent, remove, accepted, ask, bind, denied}
 use Rattle.format.specs.Apply.{is_record}
 use Rattle.format.specs.Items.{Item, key_below, above, rising, read_items, read_sheet, sheet_bytes, nodesize_fits}
 use Rattle.format.proofs.Answers.{ask-ok}
 use Rattle.format.proofs.Items.{read_items-decides, read_items-count, ReadsSheet, sheet, broken, unsorted, read_sheet-decides, sane, sheet-sane, sheet_bytes-read}
-use Rattle.item_list.specs.declared.Checked.{Checked}
-use Rattle.item_list.specs.declared.Checked.TheVariants.{Count, Refused as NoList}
-use Rattle.item_list.specs.declared.ItemPosition.{ItemPosition}
-use Rattle.item_list.specs.declared.ItemPosition.TheVariants.{At, Missing}
+use Rattle.item_list.specs.declared.ItemPlace.{ItemPlace}
 use Rattle.item_list.specs.declared.ItemQuery.{ItemQuery}
 use Rattle.item_list.specs.declared.ItemQuery.TheVariants.{Index, Record, AtOrPast}
 use Rattle.item_list.specs.declared.Listing.{Listing}
-use Rattle.item_list.specs.declared.Listing.TheVariants.{Refused, Found, Missing as Without}
 use Rattle.item_list.specs.Steps.{item_at, item_size_at, opens_list, following, checked_of, items_in, list_items, IsList}
-use Rattle.item_list.specs.Seeks.{item_size_of, position_in, passing, listed_at, listing_of, rising_behind, verdict_of, checked_behind, listed_with}
+use Rattle.item_list.specs.Seeks.{item_size_of, place_at, position_in, passing, listed_at, listing_of, rising_behind, verdict_of, checked_behind, listed_with}
 use Rattle.item_list.proofs.Steps.{whole-size, items-end, items-broken, items-over, items-item}
 use Rattle.item_list.proofs.Walks.{ends}
 
@@ -54,7 +52,7 @@ and_assoc false b c = refl
 -- ---- the items from a position on, behind n others
 
 module _ (n : ℕ) (o : Bool) (key : Key) where
-  checked-many : (items : List Item) → 4096 < n → checked_behind n o key (accepted items) ≡ NoList 1
+  checked-many : (items : List Item) → 4096 < n → checked_behind n o key (accepted items) ≡ denied 1
   unfolding checked_behind verdict_of
   checked-many items h = rw (lt-leb (n + length items) 4096 (omega arith))
 
@@ -70,7 +68,7 @@ module _ (n : ℕ) (o : Bool) (key : Key) where
 
   module _ (s : List ℕ) (at : ℕ) where
     -- what questions 1 and 2 are answered with, from there on
-    abbrev pub behind : Checked
+    abbrev pub behind : Result ℕ Refusal
     behind = checked_behind n o key (read_items (4096 - n) (drop at s))
 
     pub checked-end : length s ≤ at → behind ≡ verdict_of n o
@@ -79,41 +77,41 @@ module _ (n : ℕ) (o : Bool) (key : Key) where
         let z : n + 0 ≡ n = omega arith in
         rw (items-end (4096 - n) s at h, behind-nil n key, and-true o, z)
 
-    pub checked-broken : at < length s → item_size_at s at ≡ 0 → behind ≡ NoList 1
+    pub checked-broken : at < length s → item_size_at s at ≡ 0 → behind ≡ denied 1
     unfolding checked_behind
     checked-broken h e = rw (items-broken (4096 - n) s at h e)
 
     -- one item more than 4,096
-    checked-over : 4096 ≤ n → at < length s → behind ≡ NoList 1
+    checked-over : 4096 ≤ n → at < length s → behind ≡ denied 1
     unfolding checked_behind
     checked-over h l =
         let z : 4096 - n ≡ 0 = omega arith in
         rw (z, items-over s at l)
 
-    checked-past : 4096 < n → behind ≡ NoList 1
+    checked-past : 4096 < n → behind ≡ denied 1
     unfolding checked_behind
     checked-past h = go (read_items-decides (4096 - n) (drop at s))
       where
-        go : ((items : List Item) × (read_items (4096 - n) (drop at s) ≡ accepted items)) ⊎ (read_items (4096 - n) (drop at s) ≡ refused 1) → behind ≡ NoList 1
+        go : ((items : List Item) × (read_items (4096 - n) (drop at s) ≡ accepted items)) ⊎ (read_items (4096 - n) (drop at s) ≡ refused 1) → behind ≡ denied 1
         go (inl x) = ap (checked_behind n o key) x.1 ∙ checked-many x.0 h
         go (inr e) = ap (checked_behind n o key) e
 
 -- the same with the first item that passes a test
-abbrev pub searched : (ℕ → Item → Bool) → ℕ → Bool → Key → List ℕ → ℕ → Listing
+abbrev pub searched : (ℕ → Item → Bool) → ℕ → Bool → Key → List ℕ → ℕ → Result Listing Refusal
 searched test n o key s at = listed_with (behind n o key s at) (position_in test n at (items_in (read_items (4096 - n) (drop at s))))
 
-both-refused : (x y : Checked) (a b : ItemPosition) → x ≡ NoList 1 → y ≡ NoList 1 → listed_with x a ≡ listed_with y b
+both-refused : (x y : Result ℕ Refusal) (a b : Option ItemPlace) → x ≡ denied 1 → y ≡ denied 1 → listed_with x a ≡ listed_with y b
 unfolding listed_with
 both-refused x y a b f g = rw (f, g)
 
 module _ (s : List ℕ) (at n : ℕ) (o : Bool) (key : Key) where
-  pub search-end : (test : ℕ → Item → Bool) → length s ≤ at → searched test n o key s at ≡ listed_with (verdict_of n o) Missing
+  pub search-end : (test : ℕ → Item → Bool) → length s ≤ at → searched test n o key s at ≡ listed_with (verdict_of n o) None
   unfolding items_in position_in
   search-end test h =
-      ap (λ (x : Checked). listed_with x (position_in test n at (items_in (read_items (4096 - n) (drop at s))))) (checked-end n o key s at h)
+      ap (λ (x : Result ℕ Refusal). listed_with x (position_in test n at (items_in (read_items (4096 - n) (drop at s))))) (checked-end n o key s at h)
       ∙ ap (λ (r : Answer (List Item)). listed_with (verdict_of n o) (position_in test n at (items_in r))) (items-end (4096 - n) s at h)
 
-  pub search-broken : (test : ℕ → Item → Bool) → at < length s → item_size_at s at ≡ 0 → searched test n o key s at ≡ Refused 1
+  pub search-broken : (test : ℕ → Item → Bool) → at < length s → item_size_at s at ≡ 0 → searched test n o key s at ≡ denied 1
   unfolding listed_with
   search-broken test h e = rw (checked-broken n o key s at h e)
 
@@ -140,7 +138,7 @@ module _ (s : List ℕ) (at n : ℕ) (o : Bool) (key : Key) where
 
     position-step : (test : ℕ → Item → Bool) (r : Answer (List Item))
         → listed_with (checked_behind n o key (bind r (λ items. accepted (item_at s at ∷ items)))) (position_in test n at (items_in (bind r (λ items. accepted (item_at s at ∷ items)))))
-        ≡ listed_with (checked_behind n o key (bind r (λ items. accepted (item_at s at ∷ items)))) (cond (test n (item_at s at)) (At n at (at + size)) (position_in test (n + 1) (at + size) (items_in r)))
+        ≡ listed_with (checked_behind n o key (bind r (λ items. accepted (item_at s at ∷ items)))) (cond (test n (item_at s at)) (Some (place_at n at (at + size))) (position_in test (n + 1) (at + size) (items_in r)))
     unfolding bind items_in position_in listed_with checked_behind
     position-step test (refused refusal) = refl
     position-step test absent = refl
@@ -150,11 +148,11 @@ module _ (s : List ℕ) (at n : ℕ) (o : Bool) (key : Key) where
     -- and whether it is wanted
     pub search-step : (test : ℕ → Item → Bool) (b : Bool) → test n (item_at s at) ≡ b
         → searched test n o key s at
-        ≡ listed_with (behind (n + 1) o₁ here s (at + size)) (cond b (At n at (at + size)) (position_in test (n + 1) (at + size) (items_in (read_items (4096 - (n + 1)) (drop (at + size) s)))))
+        ≡ listed_with (behind (n + 1) o₁ here s (at + size)) (cond b (Some (place_at n at (at + size))) (position_in test (n + 1) (at + size) (items_in (read_items (4096 - (n + 1)) (drop (at + size) s)))))
     search-step test b wanted = go (lt-or n 4096)
       where
-        to : Bool → ItemPosition
-        to x = cond x (At n at (at + size)) (position_in test (n + 1) (at + size) (items_in (read_items (4096 - (n + 1)) (drop (at + size) s))))
+        to : Bool → Option ItemPlace
+        to x = cond x (Some (place_at n at (at + size))) (position_in test (n + 1) (at + size) (items_in (read_items (4096 - (n + 1)) (drop (at + size) s))))
 
         go : (n < 4096) ⊎ (4096 ≤ n) → searched test n o key s at ≡ listed_with (behind (n + 1) o₁ here s (at + size)) (to b)
         go (inl l) =
@@ -162,7 +160,7 @@ module _ (s : List ℕ) (at n : ℕ) (o : Bool) (key : Key) where
             let f : read_items (4096 - n) (drop at s) ≡ bind (read_items (4096 - (n + 1)) (drop (at + size) s)) (λ items. accepted (item_at s at ∷ items)) = ap (λ (m : ℕ). read_items m (drop at s)) z ∙ reads (4096 - (n + 1)) in
             ap (λ (r : Answer (List Item)). listed_with (checked_behind n o key r) (position_in test n at (items_in r))) f
             ∙ position-step test (read_items (4096 - (n + 1)) (drop (at + size) s))
-            ∙ ap (λ (x : Checked). listed_with x (to (test n (item_at s at)))) (ap (checked_behind n o key) (sym f) ∙ checked-step)
+            ∙ ap (λ (x : Result ℕ Refusal). listed_with x (to (test n (item_at s at)))) (ap (checked_behind n o key) (sym f) ∙ checked-step)
             ∙ ap (λ (x : Bool). listed_with (behind (n + 1) o₁ here s (at + size)) (to x)) wanted
         go (inr l) =
             both-refused (behind n o key s at) (behind (n + 1) o₁ here s (at + size)) _ (to b)
@@ -178,8 +176,8 @@ module _ (s : List ℕ) (key : Key) where
   unfolding checked_of ask checked_behind verdict_of
   verdict-first items h = go (rising items)
     where
-      go : (b : Bool) → checked_of (ask b 2 (accepted items)) ≡ cond (leb (0 + length items) 4096) (cond b (Count (0 + length items)) (NoList 2)) (NoList 1)
-      go true = rw (le-leb (0 + length items) 4096 (omega arith)) (ap Count (omega arith))
+      go : (b : Bool) → checked_of (ask b 2 (accepted items)) ≡ cond (leb (0 + length items) 4096) (cond b (Ok (0 + length items)) (denied 2)) (denied 1)
+      go true = rw (le-leb (0 + length items) 4096 (omega arith)) (ap Ok (omega arith))
       go false = rw (le-leb (0 + length items) 4096 (omega arith))
 
   pub check-first : checked_of whole ≡ behind 0 true key s 1
@@ -206,7 +204,7 @@ module _ (s : List ℕ) (key : Key) where
           let items = x.0 in
           rw x.1
           (at_first test items (rising items)
-          ∙ ap (λ (y : Checked). listed_with y (position_in test 0 1 items)) (verdict-first items (read_items-count 4096 (drop 1 s) items x.1)))
+          ∙ ap (λ (y : Result ℕ Refusal). listed_with y (position_in test 0 1 items)) (verdict-first items (read_items-count 4096 (drop 1 s) items x.1)))
       go (inr e) = rw e
 
 -- what is wanted is told by the key alone
@@ -265,65 +263,42 @@ module _ (s : List ℕ) where
 
 -- ---- from the answer of `find` back
 
-position-of : (n count : ℕ) (position : ItemPosition) (index start end : ℕ) → listed_at n position ≡ Found count index start end → (n ≡ count) × (position ≡ At index start end)
-unfolding listed_at
-position-of n count Missing index start end e = let z : ◌≡◌ {A = ℕ} 0 1 = cc in absurd (omega arith)
-position-of n count (At m from to) index start end e =
-    let p : m ≡ index = cc in
-    let q : from ≡ start = cc in
-    let r : to ≡ end = cc in
-    (cc, rw (p, q, r))
-
-no-position : (n count : ℕ) (position : ItemPosition) → listed_at n position ≡ Without count → (n ≡ count) × (position ≡ Missing)
-unfolding listed_at
-no-position n count Missing e = (cc, refl)
-no-position n count (At m from to) e = let z : ◌≡◌ {A = ℕ} 0 1 = cc in absurd (omega arith)
-
-not-refused : (n k : ℕ) (position : ItemPosition) → listed_at n position ≡ Refused k → ⊥
-unfolding listed_at
-not-refused n k Missing e = let z : ◌≡◌ {A = ℕ} 0 1 = cc in omega arith
-not-refused n k (At m from to) e = let z : ◌≡◌ {A = ℕ} 0 1 = cc in omega arith
-
 module _ (test : ℕ → Item → Bool) where
   -- a refusal is that of `check`
-  pub refused-is : (r : Answer (List Item)) (k : ℕ) → listing_of test r ≡ Refused k → checked_of r ≡ NoList k
+  pub refused-is : (r : Answer (List Item)) (e : Refusal) → listing_of test r ≡ Err e → checked_of r ≡ Err e
   unfolding listing_of checked_of
-  refused-is (refused n) k e = let p : n ≡ k = cc in ap NoList p
-  refused-is absent k e = let p : 100 ≡ k = cc in ap NoList p
-  refused-is remove k e = let p : 101 ≡ k = cc in ap NoList p
-  refused-is (accepted items) k e = absurd (not-refused (length items) k (position_in test 0 1 items) e)
+  refused-is (refused n) e h = let p : record { number = n } ≡ e = cc in ap Err p
+  refused-is absent e h = let p : record { number = 100 } ≡ e = cc in ap Err p
+  refused-is remove e h = let p : record { number = 101 } ≡ e = cc in ap Err p
+  refused-is (accepted items) e h = let z : ◌≡◌ {A = ℕ} 0 1 = cc in absurd (omega arith)
 
-  -- so is the count, and the position is the one in the items
-  pub found-is : (r : Answer (List Item)) (count index start end : ℕ) → listing_of test r ≡ Found count index start end
-      → (checked_of r ≡ Count count) × (position_in test 0 1 (items_in r) ≡ At index start end)
+  -- so is the count, and the place is the one in the items
+  pub found-is : (r : Answer (List Item)) (listing : Listing) → listing_of test r ≡ Ok listing
+      → (checked_of r ≡ Ok listing.count) × (position_in test 0 1 (items_in r) ≡ listing.place)
   unfolding listing_of checked_of items_in
-  found-is (refused n) count index start end e = let z : ◌≡◌ {A = ℕ} 0 1 = cc in absurd (omega arith)
-  found-is absent count index start end e = let z : ◌≡◌ {A = ℕ} 0 1 = cc in absurd (omega arith)
-  found-is remove count index start end e = let z : ◌≡◌ {A = ℕ} 0 1 = cc in absurd (omega arith)
-  found-is (accepted items) count index start end e =
-      let p = position-of (length items) count (position_in test 0 1 items) index start end e in
-      (ap Count p.0, p.1)
-
-  pub without_is : (r : Answer (List Item)) (count : ℕ) → listing_of test r ≡ Without count
-      → (checked_of r ≡ Count count) × (position_in test 0 1 (items_in r) ≡ Missing)
-  unfolding listing_of checked_of items_in
-  without_is (refused n) count e = let z : ◌≡◌ {A = ℕ} 0 1 = cc in absurd (omega arith)
-  without_is absent count e = let z : ◌≡◌ {A = ℕ} 0 1 = cc in absurd (omega arith)
-  without_is remove count e = let z : ◌≡◌ {A = ℕ} 0 1 = cc in absurd (omega arith)
-  without_is (accepted items) count e =
-      let p = no-position (length items) count (position_in test 0 1 items) e in
-      (ap Count p.0, p.1)
+  found-is (refused n) listing h = let z : ◌≡◌ {A = ℕ} 0 1 = cc in absurd (omega arith)
+  found-is absent listing h = let z : ◌≡◌ {A = ℕ} 0 1 = cc in absurd (omega arith)
+  found-is remove listing h = let z : ◌≡◌ {A = ℕ} 0 1 = cc in absurd (omega arith)
+  found-is (accepted items) listing h =
+      let p : listed_at (length items) (position_in test 0 1 items) ≡ listing = cc in
+      (ap (λ (l : Listing). Ok l.count) p, ap (λ (l : Listing). l.place) p)
 
 -- ---- from the answer of `check` back
 
-pub sheet-refused : (s : List ℕ) (k : ℕ) → checked_of (read_sheet s) ≡ NoList k → read_sheet s ≡ refused k
+pub sheet-refused : (s : List ℕ) (e : Refusal) → checked_of (read_sheet s) ≡ Err e → read_sheet s ≡ refused e.number
 unfolding checked_of
-sheet-refused s k e = go (read_sheet-decides s)
+sheet-refused s e h = go (read_sheet-decides s)
   where
-    go : ReadsSheet (read_sheet s) → read_sheet s ≡ refused k
-    go (sheet items h) = let z : ◌≡◌ {A = ℕ} 0 1 = let f : Count (length items) ≡ NoList k = sym (ap checked_of h) ∙ e in cc in absurd (omega arith)
-    go (broken h) = h ∙ ap refused (let f : NoList 1 ≡ NoList k = sym (ap checked_of h) ∙ e in let g : 1 ≡ k = cc in g)
-    go (unsorted h) = h ∙ ap refused (let f : NoList 2 ≡ NoList k = sym (ap checked_of h) ∙ e in let g : 2 ≡ k = cc in g)
+    by : (n : ℕ) → read_sheet s ≡ refused n → read_sheet s ≡ refused e.number
+    by n b =
+        let f : ◌≡◌ {A = Result ℕ Refusal} (denied n) (Err e) = sym (ap checked_of b) ∙ h in
+        let p : record { number = n } ≡ e = cc in
+        b ∙ ap (λ (r : Refusal). refused r.number) p
+
+    go : ReadsSheet (read_sheet s) → read_sheet s ≡ refused e.number
+    go (sheet items b) = let z : ◌≡◌ {A = ℕ} 0 1 = let f : ◌≡◌ {A = Result ℕ Refusal} (Ok (length items)) (Err e) = sym (ap checked_of b) ∙ h in cc in absurd (omega arith)
+    go (broken b) = by 1 b
+    go (unsorted b) = by 2 b
 
 -- what an accepted item list of so many items is
 pub record Counted (s : List ℕ) (n : ℕ) : Type 0 where
@@ -335,14 +310,14 @@ pub record Counted (s : List ℕ) (n : ℕ) : Type 0 where
   pub sane-all : T (all sane (list_items s))
   pub bytes-are : sheet_bytes (list_items s) ≡ s
 
-checked-count : (r : Answer (List Item)) (n : ℕ) → checked_of r ≡ Count n → (r ≡ accepted (items_in r)) × (length (items_in r) ≡ n)
+checked-count : (r : Answer (List Item)) (n : ℕ) → checked_of r ≡ Ok n → (r ≡ accepted (items_in r)) × (length (items_in r) ≡ n)
 unfolding checked_of items_in
 checked-count (refused j) n e = let z : ◌≡◌ {A = ℕ} 0 1 = cc in absurd (omega arith)
 checked-count absent n e = let z : ◌≡◌ {A = ℕ} 0 1 = cc in absurd (omega arith)
 checked-count remove n e = let z : ◌≡◌ {A = ℕ} 0 1 = cc in absurd (omega arith)
 checked-count (accepted items) n e = (refl, cc)
 
-pub counted : (s : List ℕ) (n : ℕ) → T (are_bytes s) → checked_of (read_sheet s) ≡ Count n → Counted s n
+pub counted : (s : List ℕ) (n : ℕ) → T (are_bytes s) → checked_of (read_sheet s) ≡ Ok n → Counted s n
 counted s n t e =
     let h = checked-count (read_sheet s) n e in
     let k = sheet-sane s (list_items s) t h.0 in
@@ -357,27 +332,28 @@ counted s n t e =
     }
 
 -- what `find` has shown of a list, where it found the wanted item and where it did not
-pub record Located (test : ℕ → Item → Bool) (s : List ℕ) (count index start end : ℕ) : Type 0 where
+pub record Located (test : ℕ → Item → Bool) (s : List ℕ) (count : ℕ) (place : ItemPlace) : Type 0 where
   pub list : Counted s count
-  pub position : position_in test 0 1 (list_items s) ≡ At index start end
+  pub position : position_in test 0 1 (list_items s) ≡ Some place
 
 pub record Lacking (test : ℕ → Item → Bool) (s : List ℕ) (count : ℕ) : Type 0 where
   pub list : Counted s count
-  pub position : position_in test 0 1 (list_items s) ≡ Missing
+  pub position : position_in test 0 1 (list_items s) ≡ None
 
 module _ (test : ℕ → Item → Bool) (s : List ℕ) where
-  pub located : (count index start end : ℕ) → T (are_bytes s) → listing_of test (read_sheet s) ≡ Found count index start end → Located test s count index start end
-  located count index start end t e =
-      let f = found-is test (read_sheet s) count index start end e in
-      record { list = counted s count t f.0; position = f.1 }
+  module _ (listing : Listing) (t : T (are_bytes s)) (h : listing_of test (read_sheet s) ≡ Ok listing) where
+    pub located : (place : ItemPlace) → listing.place ≡ Some place → Located test s listing.count place
+    located place p =
+        let f = found-is test (read_sheet s) listing h in
+        record { list = counted s listing.count t f.0; position = f.1 ∙ p }
 
-  pub lacking : (count : ℕ) → T (are_bytes s) → listing_of test (read_sheet s) ≡ Without count → Lacking test s count
-  lacking count t e =
-      let f = without_is test (read_sheet s) count e in
-      record { list = counted s count t f.0; position = f.1 }
+    pub lacking : listing.place ≡ None → Lacking test s listing.count
+    lacking p =
+        let f = found-is test (read_sheet s) listing h in
+        record { list = counted s listing.count t f.0; position = f.1 ∙ p }
 
-  pub listing-refused : (k : ℕ) → listing_of test (read_sheet s) ≡ Refused k → read_sheet s ≡ refused k
-  listing-refused k e = sheet-refused s k (refused-is test (read_sheet s) k e)
+  pub listing-refused : (e : Refusal) → listing_of test (read_sheet s) ≡ Err e → read_sheet s ≡ refused e.number
+  listing-refused e h = sheet-refused s e (refused-is test (read_sheet s) e h)
 
 -- ---- question 3 of a nodesize, as code tests it
 

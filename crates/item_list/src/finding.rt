@@ -65,8 +65,8 @@ fn walk(s: &[u8], query: ItemQuery) -> Result<Listing, Refusal>
         let here = stepping::key_at(s, at);
         ordered = follows(ordered, n, key, here);
         key = here;
+        let end = at + size;
         if passes(query, n, key) {
-            let end = at + size;
             let count = checking::check_behind(s, end, n + 1, size, key, ordered)?;
             let place = ItemPlace {
                 index: n,
@@ -78,7 +78,7 @@ fn walk(s: &[u8], query: ItemQuery) -> Result<Listing, Refusal>
                 place: Some(place),
             });
         }
-        at += size;
+        at = end;
         n += 1;
     }
     let count = checking::verdict(n, ordered)?;
