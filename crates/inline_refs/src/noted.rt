@@ -4,26 +4,21 @@ ghost use Rattle.inline_refs.specs.Scans.{hit_of, add_anywhere, add_by_scan, oth
 
 use crate::scan::Seen;
 
-// The answer of an inline search: where the wanted reference stands, where the next one starts, and its weight.
+// Where the wanted reference stands, where the next one starts, and its weight.
 #[derive(Clone, Copy)]
-pub enum Found {
-    At { at: usize, next: usize, weight: u32 },
-    Nothing,
+pub struct Found {
+    pub at: usize,
+    pub next: usize,
+    pub weight: u32,
 }
 
-pub fn hit_of(seen: Seen) -> Found
+// The answer of an inline search.
+pub fn hit_of(seen: Seen) -> Option<Found>
     ensures { result ≡ hit_of seen }
 {
     match seen {
-        Seen::Hit { at, next, weight } => Found::At { at, next, weight },
-        Seen::Late {
-            at,
-            next,
-            weight,
-            ..
-        } => Found::At { at, next, weight },
-        Seen::Open { .. } => Found::Nothing,
-        Seen::Gap { .. } => Found::Nothing,
+        Seen::Hit(found) | Seen::Late { found, .. } => Some(found),
+        Seen::Open { .. } | Seen::Gap { .. } => None,
     }
 }
 
@@ -31,7 +26,7 @@ pub fn hit_of(seen: Seen) -> Found
 #[derive(Clone, Copy)]
 pub enum AddAt {
     Gap(usize),
-    Standing { at: usize, next: usize, weight: u32 },
+    Standing(Found),
 }
 
 // To the wanted one wherever it stands.
@@ -39,13 +34,7 @@ pub fn add_anywhere(seen: Seen, end: usize) -> AddAt
     ensures { result ≡ add_anywhere end seen }
 {
     match seen {
-        Seen::Hit { at, next, weight } => AddAt::Standing { at, next, weight },
-        Seen::Late {
-            at,
-            next,
-            weight,
-            ..
-        } => AddAt::Standing { at, next, weight },
+        Seen::Hit(found) | Seen::Late { found, .. } => AddAt::Standing(found),
         Seen::Open { .. } => AddAt::Gap(end),
         Seen::Gap { at, .. } => AddAt::Gap(at),
     }
@@ -56,7 +45,7 @@ pub fn add_by_scan(seen: Seen, end: usize) -> AddAt
     ensures { result ≡ add_by_scan end seen }
 {
     match seen {
-        Seen::Hit { at, next, weight } => AddAt::Standing { at, next, weight },
+        Seen::Hit(found) => AddAt::Standing(found),
         Seen::Late { gap, .. } => AddAt::Gap(gap),
         Seen::Open { .. } => AddAt::Gap(end),
         Seen::Gap { at, .. } => AddAt::Gap(at),
@@ -68,9 +57,7 @@ pub fn any_others(seen: Seen) -> bool
     ensures { result ≡ others_in seen }
 {
     match seen {
-        Seen::Hit { .. } => true,
-        Seen::Late { .. } => true,
-        Seen::Open { others } => others,
-        Seen::Gap { others, .. } => others,
+        Seen::Hit(_) | Seen::Late { .. } => true,
+        Seen::Open { others } | Seen::Gap { others, .. } => others,
     }
 }

@@ -63,8 +63,7 @@ fn first_field(wanted: RefName) -> u64
     match wanted {
         RefName::Block(name) => name.tree,
         RefName::Data(name) => name.tree,
-        RefName::SharedBlock(parent) => parent,
-        RefName::SharedData(parent) => parent,
+        RefName::SharedBlock(parent) | RefName::SharedData(parent) => parent,
     }
 }
 
@@ -78,10 +77,8 @@ pub fn is_named(wanted: RefName, body: &[u8], start: usize) -> bool
         return false;
     }
     match wanted {
-        RefName::Block(_) => true,
         RefName::Data(name) => names_rest(name, body, start),
-        RefName::SharedBlock(_) => true,
-        RefName::SharedData(_) => true,
+        RefName::Block(_) | RefName::SharedBlock(_) | RefName::SharedData(_) => true,
     }
 }
 
@@ -96,8 +93,9 @@ pub fn names(wanted: RefName, body: &[u8], kind: u8, start: usize) -> bool
     match wanted {
         RefName::Block(name) => fields::get_u64_le(body, start) == name.tree,
         RefName::Data(name) => names_triple(name, body, start),
-        RefName::SharedBlock(parent) => fields::get_u64_le(body, start) == parent,
-        RefName::SharedData(parent) => fields::get_u64_le(body, start) == parent,
+        RefName::SharedBlock(parent) | RefName::SharedData(parent) => {
+            fields::get_u64_le(body, start) == parent
+        }
     }
 }
 
@@ -139,9 +137,9 @@ fn run_of(wanted: RefName) -> TreeRun
 {
     match wanted {
         RefName::Data(name) => extent_write::tree_run(name.tree),
-        RefName::Block(_) => extent_write::no_tree_run(),
-        RefName::SharedBlock(_) => extent_write::no_tree_run(),
-        RefName::SharedData(_) => extent_write::no_tree_run(),
+        RefName::Block(_) | RefName::SharedBlock(_) | RefName::SharedData(_) => {
+            extent_write::no_tree_run()
+        }
     }
 }
 
@@ -153,8 +151,7 @@ fn rank_with(wanted: RefName, own: TreeRun) -> u64
     match wanted {
         RefName::Block(name) => name.tree,
         RefName::Data(name) => extent_write::hash_with(own, name.objectid, name.offset),
-        RefName::SharedBlock(parent) => parent,
-        RefName::SharedData(parent) => parent,
+        RefName::SharedBlock(parent) | RefName::SharedData(parent) => parent,
     }
 }
 
@@ -175,20 +172,14 @@ pub fn rank_of(wanted: RefName) -> Ranked
     }
 }
 
-// Whether a caller has the rank of a name. It may cost a hash, so it is not asked for before it is needed.
-#[derive(Clone, Copy)]
-pub enum OwnRank {
-    Known(Ranked),
-    Unknown,
-}
-
-pub fn rank_by(wanted: RefName, known: OwnRank) -> Ranked
+// The rank of a name where the caller has it, or else computed: it may cost a hash, so it is not asked for before it is needed.
+pub fn rank_by(wanted: RefName, known: Option<Ranked>) -> Ranked
     requires { KnownFor wanted known }
     ensures { RankedFor wanted result }
 {
     match known {
-        OwnRank::Known(ranked) => ranked,
-        OwnRank::Unknown => rank_of(wanted),
+        Some(ranked) => ranked,
+        None => rank_of(wanted),
     }
 }
 
@@ -211,14 +202,4 @@ pub fn stops_at(wanted: u8, rank: u64, own: TreeRun, body: &[u8], kind: u8, star
         return false;
     }
     rank_below(body, kind, start, own, rank)
-}
-
-// Whether one of the wanted kind stands, with one more reference.
-pub fn any_of_kind(stood: bool, wanted: RefName, kind: u8) -> bool
-    ensures { result ≡ stood || eqb kind (kind_of wanted) }
-{
-    if stood {
-        return true;
-    }
-    kind == kind_of(wanted)
 }

@@ -3,14 +3,7 @@ ghost use Rattle.std.specs.Prelude.{◌≡◌, ◌≤◌, length};
 ghost use Rattle.format.specs.References.{start_of};
 ghost use Rattle.inline_refs.specs.Steps.{open_of};
 
-use format::{BODY_HEAD, EXTENT_ITEM, MOST_DATA};
-
-// The start, or the question that is answered "no".
-#[derive(Clone, Copy)]
-pub enum Start {
-    From(usize),
-    Refused(u32),
-}
+use format::{BODY_HEAD, EXTENT_ITEM, MOST_DATA, Refusal};
 
 pub fn refs_start(item_type: u8, body: &[u8]) -> usize
     requires { 24 ≤ length body.now }
@@ -26,18 +19,18 @@ pub fn refs_start(item_type: u8, body: &[u8]) -> usize
 }
 
 // Questions 3 and 6 of a call that reads references.
-pub fn open_body(item_type: u8, body: &[u8]) -> Start
+pub fn open_body(item_type: u8, body: &[u8]) -> Result<usize, Refusal>
     ensures { result ≡ open_of item_type body.now }
 {
     if MOST_DATA < body.len() {
-        return Start::Refused(3);
+        return Err(Refusal::RANGE);
     }
     if body.len() < BODY_HEAD {
-        return Start::Refused(6);
+        return Err(Refusal::SHORT);
     }
     let start = refs_start(item_type, body);
     if body.len() < start {
-        return Start::Refused(6);
+        return Err(Refusal::SHORT);
     }
-    Start::From(start)
+    Ok(start)
 }

@@ -1,57 +1,47 @@
 // A cursor over the inline references of a body, by value: each step says what stands at it.
 ghost use Rattle.std.specs.Prelude.{◌≡◌};
-ghost use Rattle.format.specs.References.{kinds};
 ghost use Rattle.inline_refs.specs.Steps.{ref_step_at};
 
-use crate::kinds::Row;
+use crate::kinds::Kinds;
+use format::Refusal;
 
 #[derive(Clone, Copy)]
 pub struct Cursor {
     pub at: usize,
 }
 
-// What stands at a cursor.
+// A whole reference: where its payload starts, how long it is, where in it the count stands, and the next cursor.
 #[derive(Clone, Copy)]
-pub enum RefStep {
-    // A whole reference: where its payload starts, how long it is, where in it the count stands, and the next cursor.
-    Ref {
-        kind: u8,
-        start: usize,
-        size: usize,
-        count: usize,
-        next: Cursor,
-    },
-    // Nothing is left.
-    End,
-    // The question that is answered "no": 7 or 8.
-    Refused(u32),
+pub struct RefAt {
+    pub kind: u8,
+    pub start: usize,
+    pub size: usize,
+    pub count: usize,
+    pub next: Cursor,
 }
 
 impl Cursor {
-    pub fn step(self, table: &[[u8; 3]; 5], body: &[u8]) -> RefStep
-        requires { table.now ≡ kinds }
+    // Questions 7 and 8; nothing where none is left.
+    pub fn step(self, kinds: &Kinds, body: &[u8]) -> Result<Option<RefAt>, Refusal>
         ensures { result ≡ ref_step_at body.now self.at }
     {
-        let at = self.at;
-        if body.len() <= at {
-            return RefStep::End;
+        if body.len() <= self.at {
+            return Ok(None);
         }
-        let kind = body[at];
-        let start = at + 1;
-        match crate::kinds::row_of(table, kind) {
-            Row::Known { size, count } => {
-                if body.len() - start < size {
-                    return RefStep::Refused(8);
-                }
-                RefStep::Ref {
-                    kind,
-                    start,
-                    size,
-                    count,
-                    next: Cursor { at: start + size },
-                }
-            }
-            Row::Unknown => RefStep::Refused(7),
+        let kind = body[self.at];
+        let row = kinds.row_of(kind).ok_or(Refusal::KIND)?;
+        let start = self.at + 1;
+        if body.len() - start < row.payload {
+            return Err(Refusal::CUT);
         }
+        Ok(Some(RefAt {
+            kind,
+            start,
+            size: row.payload,
+            count: row.count,
+            next: Cursor {
+                at: start + row.payload,
+            },
+        }))
     }
 }
