@@ -9,15 +9,18 @@ use lib.ListN.{get_or}
 use mir.Facts.{and_yes}
 use Rattle.fields.specs.Lists.{all}
 use Rattle.format.specs.References.{kinds, row_in, payload_length, count_position}
-use Rattle.inline_refs.specs.declared.kinds.Row.TheVariants.{Known, Unknown}
+use Rattle.std.specs.Prelude.{Some, None}
+use Rattle.inline_refs.specs.declared.kinds.Lengths.{Lengths}
 use Rattle.inline_refs.specs.Steps.{row_from}
 
-from_row : (row : List ℕ) (size count : ℕ) → Known size count ≡ row_from row → (size ≡ get_or row 1 0) × (count ≡ get_or row 2 0)
+from_row : (row : List ℕ) (l : Lengths) → Some l ≡ row_from row → (l.payload ≡ get_or row 1 0) × (l.count ≡ get_or row 2 0)
 unfolding row_from
-from_row [] size count e = let z : ◌≡◌ {A = ℕ} 0 1 = cc in absurd (omega arith)
-from_row (k ∷ row) size count e = let z : size ≡ get_or row 0 0 = cc in let y : count ≡ get_or row 1 0 = cc in (z, y)
+from_row [] l e = let z : ◌≡◌ {A = ℕ} 0 1 = cc in absurd (omega arith)
+from_row (k ∷ row) l e =
+    let z : l ≡ record { payload = get_or row 0 0; count = get_or row 1 0 } = cc in
+    (ap (λ (x : Lengths). x.payload) z, ap (λ (x : Lengths). x.count) z)
 
-no_row : (row : List ℕ) → Unknown ≡ row_from row → row ≡ []
+no_row : (row : List ℕ) → None ≡ row_from row → row ≡ []
 unfolding row_from
 no_row [] e = refl
 no_row (k ∷ row) e = let z : ◌≡◌ {A = ℕ} 0 1 = cc in absurd (omega arith)
@@ -44,13 +47,13 @@ count-inside k = let h : get_or (row_in kinds k) 2 0 ≤ 27 = at_most 2 27 kinds
 abbrev Says : ℕ → ℕ → ℕ → Type 0
 Says k size count = (size ≡ payload_length k) × (count ≡ count_position k) × (size ≤ 255)
 
-pub row-says : (k size count : ℕ) → Known size count ≡ row_from (row_in kinds k) → Says k size count
+pub row-says : (k : ℕ) (l : Lengths) → Some l ≡ row_from (row_in kinds k) → Says k l.payload l.count
 unfolding payload_length count_position
-row-says k size count e =
-    let r = from_row (row_in kinds k) size count e in
+row-says k l e =
+    let r = from_row (row_in kinds k) l e in
     (r.0, r.1, omega (arith, r.0, at_most 1 255 kinds k tt))
 
-pub no-row-says : (k : ℕ) → Unknown ≡ row_from (row_in kinds k) → Says k 0 0
+pub no-row-says : (k : ℕ) → None ≡ row_from (row_in kinds k) → Says k 0 0
 unfolding payload_length count_position
 no-row-says k e =
     let r = no_row (row_in kinds k) e in

@@ -13,9 +13,11 @@ use Rattle.fields.proofs.Lists.{by-test}
 use Rattle.format.specs.Questions.{refused, accepted, ask, bind}
 use Rattle.format.specs.References.{kinds, row_in, known, payload_length, count_position, ref_at, read_refs}
 use Rattle.format.proofs.Refs.{read_refs-nil, read_refs-cons}
-use Rattle.inline_refs.specs.declared.kinds.Row.TheVariants.{Known}
-use Rattle.inline_refs.specs.declared.step.RefStep.{RefStep}
-use Rattle.inline_refs.specs.declared.step.RefStep.TheVariants.{Ref as Whole, End, Refused}
+use Rattle.std.specs.Prelude.{Option, Some, None, Result, Ok, Err}
+use Rattle.format.specs.declared.Refusal.{Refusal}
+use Rattle.format.specs.Questions.{denied}
+use Rattle.inline_refs.specs.declared.kinds.Lengths.{Lengths}
+use Rattle.inline_refs.specs.declared.step.RefAt.{RefAt}
 use Rattle.inline_refs.specs.Steps.{row_from, step_row, ref_step_at, read_from}
 
 -- ---- a search of the table
@@ -37,37 +39,41 @@ row-long (suc (suc (suc zero))) h = refl
 row-long (suc (suc (suc (suc zero)))) h = refl
 row-long (suc (suc (suc (suc (suc i))))) h = absurd (omega arith)
 
-row-from : (row : List ℕ) → length row ≡ 3 → Known (get_or row 1 0) (get_or row 2 0) ≡ row_from row
+abbrev row : ℕ → ℕ → Option Lengths
+row size count = Some (record { payload = size; count = count })
+
+row-from : (l : List ℕ) → length l ≡ 3 → row (get_or l 1 0) (get_or l 2 0) ≡ row_from l
 unfolding row_from
 row-from [] e = absurd (omega arith)
-row-from (kind ∷ row) e = refl
+row-from (kind ∷ l) e = refl
 
 -- the row that a search stops at
 pub row-found : (t : List (List ℕ)) (i k size count : ℕ) → t ≡ kinds → i < 5 → get_or (get_or t i []) 0 0 ≡ k
     → row_in (drop i kinds) k ≡ row_in kinds k → size ≡ get_or (get_or t i []) 1 0 → count ≡ get_or (get_or t i []) 2 0
-    → Known size count ≡ row_from (row_in kinds k)
+    → row size count ≡ row_from (row_in kinds k)
 row-found t i k size count e h q inv e₁ e₂ =
     let same : get_or t i [] ≡ get_or kinds i [] = ap (λ (l : List (List ℕ)). get_or l i []) e in
     let n : length (get_or t i []) ≡ 3 = ap length same ∙ row-long i h in
-    ap₂ Known e₁ e₂ ∙ row-from (get_or t i []) n ∙ ap row_from (sym (row-hit kinds i k h (get_or t i []) same q) ∙ inv)
+    ap₂ row e₁ e₂ ∙ row-from (get_or t i []) n ∙ ap row_from (sym (row-hit kinds i k h (get_or t i []) same q) ∙ inv)
 
 -- ---- a step over a kind whose lengths are at hand
 
-row-with : (row : List ℕ) (size count : ℕ) → T (leb 1 (length row)) → size ≡ get_or row 1 0 → count ≡ get_or row 2 0 → row_from row ≡ Known size count
+row-with : (l : List ℕ) (size count : ℕ) → T (leb 1 (length l)) → size ≡ get_or l 1 0 → count ≡ get_or l 2 0 → row_from l ≡ row size count
 unfolding row_from
 row-with [] size count t e₁ e₂ = absurd t
-row-with (kind ∷ row) size count t e₁ e₂ = sym (ap₂ Known e₁ e₂)
+row-with (kind ∷ l) size count t e₁ e₂ = sym (ap₂ row e₁ e₂)
 
 module _ (s : List ℕ) (at k size count : ℕ) (inside : at < length s) (is : get_or s at 0 ≡ k) (t : T (known k)) (long : size ≡ payload_length k) (count_at : count ≡ count_position k) where
-  row_here : row_from (row_in kinds k) ≡ Known size count
+  row_here : row_from (row_in kinds k) ≡ row size count
   unfolding known payload_length count_position
   row_here = row-with (row_in kinds k) size count t long count_at
 
-  pub step_cut : length s - (at + 1) < size → Refused 8 ≡ ref_step_at s at
+  pub step_cut : length s - (at + 1) < size → denied 8 ≡ ref_step_at s at
   unfolding ref_step_at step_row
   step_cut h = simp (lt-ltb _ _ inside, is, row_here, lt-ltb _ _ h)
 
-  pub step-whole : size ≤ length s - (at + 1) → Whole k (at + 1) size count (record { at = at + 1 + size }) ≡ ref_step_at s at
+  pub step-whole : size ≤ length s - (at + 1)
+      → Ok (Some (record { kind = k; start = at + 1; size = size; count = count; next = record { at = at + 1 + size } })) ≡ ref_step_at s at
   unfolding ref_step_at step_row
   step-whole h = simp (lt-ltb _ _ inside, is, row_here, le-ltb _ _ h)
 
@@ -87,10 +93,10 @@ pub record At (s : List ℕ) (at k p n q next : ℕ) : Type 0 where
 pub ends-within : (s : List ℕ) (at k p n q next : ℕ) → At s at k p n q next → p + payload_length k ≤ length s
 ends-within s at k p n q next h = omega (arith, h.start, h.further, h.within, h.long)
 
-abbrev pub View : List ℕ → ℕ → RefStep → Type 0
-View s at (Whole k p n q c) = At s at k p n q c.at
-View s at End = read_from s at ≡ accepted []
-View s at (Refused e) = read_from s at ≡ refused e
+abbrev pub View : List ℕ → ℕ → Result (Option RefAt) Refusal → Type 0
+View s at (Ok (Some r)) = At s at r.kind r.start r.size r.count r.next.at
+View s at (Ok None) = read_from s at ≡ accepted []
+View s at (Err e) = read_from s at ≡ refused e.number
 
 -- the reading at a type byte
 reads_at : (s : List ℕ) (at : ℕ) → at < length s
@@ -144,5 +150,5 @@ view s at =
     (λ y. rw y (ap (λ (l : List ℕ). read_refs (length l) l) (drop_of_length-le s (ltb-false _ _ y)) ∙ read_refs-nil 0))
 
 -- what a step found, by its case
-pub seen : (s : List ℕ) (at : ℕ) (r : RefStep) → r ≡ ref_step_at s at → View s at r
+pub seen : (s : List ℕ) (at : ℕ) (r : Result (Option RefAt) Refusal) → r ≡ ref_step_at s at → View s at r
 seen s at r e = subst (View s at) (sym e) (view s at)

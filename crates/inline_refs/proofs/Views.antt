@@ -15,9 +15,10 @@ use Rattle.format.specs.Left.{left_among}
 use Rattle.inline_refs.specs.declared.ref_name.RefName.{RefName}
 use Rattle.inline_refs.specs.declared.scan.Seen.{Seen}
 use Rattle.inline_refs.specs.declared.scan.Seen.TheVariants.{Open, Gap, Hit, Late}
-use Rattle.inline_refs.specs.declared.drop_scan.DropScan.{DropScan}
-use Rattle.inline_refs.specs.declared.drop_scan.DropScan.TheVariants.{Fault, Nothing, First}
-use Rattle.inline_refs.specs.Scans.{kind_of, fields_of, is_wanted, ref_size_of, noted, walk, drop_walk}
+use Rattle.std.specs.Prelude.{Option, Some, None}
+use Rattle.inline_refs.specs.declared.noted.Found.{Found}
+use Rattle.inline_refs.specs.declared.drop_scan.First.{First}
+use Rattle.inline_refs.specs.Scans.{kind_of, fields_of, is_wanted, ref_size_of, found_at, noted, walk, drop_walk}
 use Rattle.inline_refs.proofs.Notes.{hit-stays, late-stays}
 
 -- ---- a part of the references that stands from one position up to another
@@ -81,14 +82,14 @@ module _ (w : RefName) (rank : ℕ) where
   abbrev GapView : ℕ → List Ref → ℕ → Bool → Seen → Type 0
   GapView start refs g others₀ (Open others) = ⊥
   GapView start refs g others₀ (Gap g' others) = (g' ≡ g) × (first_cut (is_wanted w) refs ≡ none) × (others ≡ others₀ || any_others refs)
-  GapView start refs g others₀ (Hit p q x) = ⊥
-  GapView start refs g others₀ (Late g' p q x) = (g' ≡ g) × CutAt (is_wanted w) start refs p q x
+  GapView start refs g others₀ (Hit f) = ⊥
+  GapView start refs g others₀ (Late g' f) = (g' ≡ g) × CutAt (is_wanted w) start refs f.at f.next f.weight
 
   abbrev pub View : ℕ → List Ref → Bool → Seen → Type 0
   View start refs others₀ (Open others) = (first_cut (is_wanted w) refs ≡ none) × (first_cut either refs ≡ none) × (others ≡ others₀ || any_others refs)
   View start refs others₀ (Gap g others) = (first_cut (is_wanted w) refs ≡ none) × StopAt start refs g × (others ≡ others₀ || any_others refs)
-  View start refs others₀ (Hit p q x) = HitAt start refs p q x
-  View start refs others₀ (Late g p q x) = CutAt (is_wanted w) start refs p q x × StopAt start refs g
+  View start refs others₀ (Hit f) = HitAt start refs f.at f.next f.weight
+  View start refs others₀ (Late g f) = CutAt (is_wanted w) start refs f.at f.next f.weight × StopAt start refs g
 
   or-false : (b : Bool) → b ≡ b || false
   or-false true = refl
@@ -103,8 +104,8 @@ module _ (w : RefName) (rank : ℕ) where
   gap-later start r refs g others₀ (Open others) f v = v
   gap-later start r refs g others₀ (Gap g' others) f v =
       (v.0, none-later (is_wanted w) start r refs f v.1, v.2 ∙ or_assoc others₀ (eqb r.kind (kind_of w)) (any_others refs))
-  gap-later start r refs g others₀ (Hit p q x) f v = v
-  gap-later start r refs g others₀ (Late g' p q x) f v = (v.0, cut_later (is_wanted w) start r refs p q x f v.1)
+  gap-later start r refs g others₀ (Hit h) f v = v
+  gap-later start r refs g others₀ (Late g' h) f v = (v.0, cut_later (is_wanted w) start r refs h.at h.next h.weight f v.1)
 
   gap-view : (start : ℕ) (refs : List Ref) (g : ℕ) (others₀ : Bool) → GapView start refs g others₀ (walk w rank start (Gap g others₀) refs)
   unfolding walk noted
@@ -112,7 +113,7 @@ module _ (w : RefName) (rank : ℕ) where
   gap-view start (r ∷ refs) g others₀ =
       by-test (is_wanted w r)
       (λ t. rw t
-      (subst (GapView start (r ∷ refs) g others₀) (sym (late-stays w rank (start + ref_size_of r) g start (start + ref_size_of r) r.weight refs))
+      (subst (GapView start (r ∷ refs) g others₀) (sym (late-stays w rank (start + ref_size_of r) g (found_at start (start + ref_size_of r) r) refs))
       (refl, cut-here (is_wanted w) start r refs r.weight t refl)))
       (λ f. rw f
       (gap-later start r refs g others₀ (walk w rank (start + ref_size_of r) (Gap g (others₀ || eqb r.kind (kind_of w))) refs) f (gap-view (start + ref_size_of r) refs g (others₀ || eqb r.kind (kind_of w)))))
@@ -136,12 +137,12 @@ module _ (w : RefName) (rank : ℕ) where
     stop-later start r refs g e v.1,
     v.2 ∙ or_assoc others₀ (eqb r.kind (kind_of w)) (any_others refs),
   )
-  view-later start r refs others₀ (Hit p q x) f e v = record {
-    hit = cut_later (is_wanted w) start r refs p q x f v.hit;
+  view-later start r refs others₀ (Hit h) f e v = record {
+    hit = cut_later (is_wanted w) start r refs h.at h.next h.weight f v.hit;
     first = rw e (ap (map (later r)) v.first);
   }
-  view-later start r refs others₀ (Late g p q x) f e v =
-      (cut_later (is_wanted w) start r refs p q x f v.0, stop-later start r refs g e v.1)
+  view-later start r refs others₀ (Late g h) f e v =
+      (cut_later (is_wanted w) start r refs h.at h.next h.weight f v.0, stop-later start r refs g e v.1)
 
   stop-here : (start : ℕ) (r : Ref) (refs : List Ref) → is_wanted w r ≡ false → either r ≡ true → StopAt start (r ∷ refs) start
   unfolding cut-here
@@ -161,9 +162,9 @@ module _ (w : RefName) (rank : ℕ) where
     subst (StopAt start (r ∷ refs)) (sym v.0) (stop-here start r refs f e),
     v.2 ∙ or_assoc others₀ (eqb r.kind (kind_of w)) (any_others refs),
   )
-  gap_here start r refs others₀ (Hit p q x) f e v = absurd v
-  gap_here start r refs others₀ (Late g p q x) f e v =
-      (cut_later (is_wanted w) start r refs p q x f v.1, subst (StopAt start (r ∷ refs)) (sym v.0) (stop-here start r refs f e))
+  gap_here start r refs others₀ (Hit h) f e v = absurd v
+  gap_here start r refs others₀ (Late g h) f e v =
+      (cut_later (is_wanted w) start r refs h.at h.next h.weight f v.1, subst (StopAt start (r ∷ refs)) (sym v.0) (stop-here start r refs f e))
 
   view : (start : ℕ) (refs : List Ref) (others₀ : Bool) → View start refs others₀ (walk w rank start (Open others₀) refs)
   unfolding walk noted cut-here
@@ -171,7 +172,7 @@ module _ (w : RefName) (rank : ℕ) where
   view start (r ∷ refs) others₀ =
       by-test (is_wanted w r)
       (λ t. rw t
-      (subst (View start (r ∷ refs) others₀) (sym (hit-stays w rank (start + ref_size_of r) start (start + ref_size_of r) r.weight refs))
+      (subst (View start (r ∷ refs) others₀) (sym (hit-stays w rank (start + ref_size_of r) (found_at start (start + ref_size_of r) r) refs))
       (record { hit = cut-here (is_wanted w) start r refs r.weight t refl; first = rw t refl })))
       (λ f. by-test (stops (kind_of w) rank r)
       (λ d. rw (f, d)
@@ -189,18 +190,16 @@ pub record FirstAt (w : RefName) (start : ℕ) (refs : List Ref) (p q weight beh
   pub hit : CutAt (is_wanted w) start refs p q weight
   pub sums : behind ≡ left_among (kind_of w) (fields_of w) hit.parts.back
 
-abbrev pub DropView : RefName → ℕ → List Ref → DropScan → Type 0
-DropView w start refs (Fault refusal) = ⊥
-DropView w start refs Nothing = first_cut (is_wanted w) refs ≡ none
-DropView w start refs (First p q weight behind) = FirstAt w start refs p q weight behind
+abbrev pub DropView : RefName → ℕ → List Ref → Option First → Type 0
+DropView w start refs None = first_cut (is_wanted w) refs ≡ none
+DropView w start refs (Some f) = FirstAt w start refs f.found.at f.found.next f.found.weight f.behind
 
-drop-later : (w : RefName) (start : ℕ) (r : Ref) (refs : List Ref) (s : DropScan) → is_wanted w r ≡ false
+drop-later : (w : RefName) (start : ℕ) (r : Ref) (refs : List Ref) (s : Option First) → is_wanted w r ≡ false
     → DropView w (start + ref_size_of r) refs s → DropView w start (r ∷ refs) s
 unfolding cut_later
-drop-later w start r refs (Fault refusal) f v = v
-drop-later w start r refs Nothing f v = none-later (is_wanted w) start r refs f v
-drop-later w start r refs (First p q weight behind) f v =
-    record { hit = cut_later (is_wanted w) start r refs p q weight f v.hit; sums = v.sums }
+drop-later w start r refs None f v = none-later (is_wanted w) start r refs f v
+drop-later w start r refs (Some s) f v =
+    record { hit = cut_later (is_wanted w) start r refs s.found.at s.found.next s.found.weight f v.hit; sums = v.sums }
 
 drop-view : (w : RefName) (start : ℕ) (refs : List Ref) → DropView w start refs (drop_walk w start refs)
 unfolding drop_walk cut-here
@@ -210,5 +209,5 @@ drop-view w start (r ∷ refs) =
     (λ t. rw t (record { hit = cut-here (is_wanted w) start r refs r.weight t refl; sums = refl }))
     (λ f. rw f (drop-later w start r refs (drop_walk w (start + ref_size_of r) refs) f (drop-view w (start + ref_size_of r) refs)))
 
-pub drop-viewed : (w : RefName) (start : ℕ) (refs : List Ref) (s : DropScan) → s ≡ drop_walk w start refs → DropView w start refs s
+pub drop-viewed : (w : RefName) (start : ℕ) (refs : List Ref) (s : Option First) → s ≡ drop_walk w start refs → DropView w start refs s
 drop-viewed w start refs s e = subst (DropView w start refs) (sym e) (drop-view w start refs)

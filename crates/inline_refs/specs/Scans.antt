@@ -1,6 +1,6 @@
 -- The one scan over the references of a body: what it notes on the way, what it hands back, and what its notes mean to a call.
 -- Assumes nothing.
-use Rattle.std.specs.Prelude.{◌≡◌, Bool, true, ◌||◌, cond, List, [], ◌∷◌, ℕ, ◌+◌, eqb, length, ⊤, tt, Option, Some, None, Result, Ok, Err}
+use Rattle.std.specs.Prelude.{◌≡◌, Bool, true, ◌||◌, cond, List, [], ◌∷◌, ℕ, ◌+◌, eqb, length, Option, Some, None, Result, Ok, Err}
 use Rattle.format.specs.Questions.{Answer, accepted, denied, result_or_code}
 use Rattle.format.specs.References.{payload_length, Ref, rank_of}
 use Rattle.format.specs.Bodies.{on_body, named, one, triple, stops}
@@ -79,7 +79,7 @@ unfoldable pub scan_of : RefName → ℕ → ℕ → Seen → Answer (List Ref) 
 scan_of wanted rank at seen answer = result_or_code denied (λ refs. Ok (walk wanted rank at seen refs)) answer
 
 -- where nothing is noted any more. As above 100 and 101 do not come
-unfoldable pub rest_of : Answer (List Ref) → Result ⊤ Refusal
+unfoldable pub rest_of : Answer (List Ref) → Result (Unit {0}) Refusal
 rest_of answer = result_or_code denied (λ refs. Ok tt) answer
 
 -- questions 3 and 6 to 8, then the references
