@@ -7,6 +7,10 @@ use mathlib.Core.Option.{Option, none, some}
 use Prim.Native.Nat.{ℕ}
 use native.Mathlib.Omega.{arith}
 use lib.Dec.{T}
+use Rattle.std.specs.Prelude.{Result, Err}
+use Rattle.std.specs.Result.{IsErrAnd}
+use Rattle.std.proofs.lemmas.Result.{err_from_is_err_and}
+use Rattle.format.specs.declared.Refusal.{Refusal}
 use Rattle.format.specs.Questions.{Answer, refused, absent, remove, accepted, ask, bind, needed, found, if_absent, also, held}
 
 -- which of the four an answer is
@@ -110,3 +114,8 @@ held-ok holds r e =
     let h = bind_ok r _ e in
     let k = ask-ok (holds h.0) 21 _ h.2 in
     (h.1 ∙ k.1, subst (λ x. T (holds x)) (accepted-inj k.1) k.0)
+
+-- ---- what a `?` hands on
+
+pub handed_on : {T : Type 0} {r : Result T Refusal} {e : Refusal} → IsErrAnd r (λ x. x ≡ e) → r ≡ Err e
+handed_on {r = r} h = let p = err_from_is_err_and r h in p.1 ∙ ap Err p.2

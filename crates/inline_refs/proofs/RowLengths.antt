@@ -1,5 +1,5 @@
 -- A kind's lengths from its row, or from there being none. Assumes nothing.
-use mathlib.Core.Path.{◌≡◌, refl, sym, ap}
+use mathlib.Core.Path.{◌≡◌, refl, sym, ap, subst}
 use mathlib.Core.Bool.{Bool, true, false, cond}
 use mathlib.Core.List.{List, [], ◌∷◌}
 use Prim.Native.Nat.{ℕ, ◌+◌, ◌≤◌}
@@ -9,7 +9,8 @@ use lib.ListN.{get_or}
 use mir.Facts.{and_yes}
 use Rattle.fields.specs.Lists.{all}
 use Rattle.format.specs.References.{kinds, row_in, payload_length, count_position}
-use Rattle.std.specs.Prelude.{Some, None}
+use Rattle.std.specs.Prelude.{Option, Some, None}
+use Rattle.std.specs.Option.{unwrap_or}
 use Rattle.inline_refs.specs.declared.kinds.Lengths.{Lengths}
 use Rattle.inline_refs.specs.Steps.{row_from}
 
@@ -58,3 +59,9 @@ unfolding payload_length count_position
 no-row-says k e =
     let r = no_row (row_in kinds k) e in
     (ap (λ (row : List ℕ). get_or row 1 0) (sym r), ap (λ (row : List ℕ). get_or row 2 0) (sym r), omega arith)
+
+-- of a search, whatever it found
+pub row-said : (k : ℕ) (o : Option Lengths) (l : Lengths) → o ≡ row_from (row_in kinds k) → l ≡ unwrap_or o (record { payload = 0; count = 0 })
+    → Says k l.payload l.count
+row-said k (Some x) l e q = subst (λ (y : Lengths). Says k y.payload y.count) (sym q) (row-says k x e)
+row-said k None l e q = subst (λ (y : Lengths). Says k y.payload y.count) (sym q) (no-row-says k e)

@@ -152,3 +152,14 @@ view s at =
 -- what a step found, by its case
 pub seen : (s : List ℕ) (at : ℕ) (r : Result (Option RefAt) Refusal) → r ≡ ref_step_at s at → View s at r
 seen s at r e = subst (View s at) (sym e) (view s at)
+
+-- the same by the two cases that a loop over references tells apart, and at a fault
+module _ (s : List ℕ) (at : ℕ) {r : Result (Option RefAt) Refusal} (e : r ≡ ref_step_at s at) where
+  pub stepped : {o : Option RefAt} {x : RefAt} → r ≡ Ok o → o ≡ Some x → At s at x.kind x.start x.size x.count x.next.at
+  stepped h k = seen s at (Ok (Some _)) (sym (h ∙ ap Ok k) ∙ e)
+
+  pub ended : {o : Option RefAt} → r ≡ Ok o → o ≡ None → read_from s at ≡ accepted []
+  ended h k = seen s at (Ok None) (sym (h ∙ ap Ok k) ∙ e)
+
+  pub stopped : {x : Refusal} → r ≡ Err x → read_from s at ≡ refused x.number
+  stopped h = seen s at (Err _) (sym h ∙ e)

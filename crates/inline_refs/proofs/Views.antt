@@ -16,7 +16,6 @@ use Rattle.inline_refs.specs.declared.ref_name.RefName.{RefName}
 use Rattle.inline_refs.specs.declared.scan.Seen.{Seen}
 use Rattle.inline_refs.specs.declared.scan.Seen.TheVariants.{Open, Gap, Hit, Late}
 use Rattle.std.specs.Prelude.{Option, Some, None}
-use Rattle.inline_refs.specs.declared.noted.Found.{Found}
 use Rattle.inline_refs.specs.declared.drop_scan.First.{First}
 use Rattle.inline_refs.specs.Scans.{kind_of, fields_of, is_wanted, ref_size_of, found_at, noted, walk, drop_walk}
 use Rattle.inline_refs.proofs.Notes.{hit-stays, late-stays}

@@ -1,6 +1,6 @@
 -- The one scan over the references of a body: what it notes on the way, what it hands back, and what its notes mean to a call.
 -- Assumes nothing.
-use Rattle.std.specs.Prelude.{◌≡◌, Bool, true, ◌||◌, cond, List, [], ◌∷◌, ℕ, ◌+◌, eqb, length, Option, Some, None, Result, Ok, Err}
+use Rattle.std.specs.Prelude.{◌≡◌, Bool, true, ◌||◌, cond, List, [], ◌∷◌, ℕ, ◌+◌, eqb, length, Option, Some, None, Result, Ok}
 use Rattle.format.specs.Questions.{Answer, accepted, denied, result_or_code}
 use Rattle.format.specs.References.{payload_length, Ref, rank_of}
 use Rattle.format.specs.Bodies.{on_body, named, one, triple, stops}

@@ -84,7 +84,7 @@ fn drop_from(
     while let Some(reference) = step_among(kinds, body, cursor, sought, own)? {
         if reference.kind == sought && crate::ref_name::is_named(wanted, body, reference.start) {
             let found = crate::scan::found_at(body, cursor, reference);
-            let behind = sum_behind(kinds, body, found.next, wanted)?;
+            let behind = sum_behind(kinds, body, reference.next.at, wanted)?;
             return Ok(Some(First { found, behind }));
         }
         cursor = reference.next;

@@ -18,6 +18,7 @@ pub fn lengths_of(kind: u8) -> Lengths
 }
 
 // Those of the wanted kind. Each arm names its kind, since the compiler then looks it up, and the call does not.
+#[tactic(auto, unfolding(crate::specs::Scans::kind_of))]
 pub fn lengths_for(wanted: RefName) -> Lengths
     ensures { (result.payload ≡ payload_length (kind_of wanted)) × (result.count ≡ count_position (kind_of wanted)) × (result.payload ≤ 255) }
 {

@@ -13,6 +13,7 @@ pub struct Found {
 }
 
 // The answer of an inline search.
+#[tactic(auto, unfolding(crate::specs::Scans::hit_of))]
 pub fn hit_of(seen: Seen) -> Option<Found>
     ensures { result ≡ hit_of seen }
 {
@@ -30,6 +31,7 @@ pub enum AddAt {
 }
 
 // To the wanted one wherever it stands.
+#[tactic(auto, unfolding(crate::specs::Scans::add_anywhere))]
 pub fn add_anywhere(seen: Seen, end: usize) -> AddAt
     ensures { result ≡ add_anywhere end seen }
 {
@@ -41,6 +43,7 @@ pub fn add_anywhere(seen: Seen, end: usize) -> AddAt
 }
 
 // To the wanted one if it stands before the insert position.
+#[tactic(auto, unfolding(crate::specs::Scans::add_by_scan))]
 pub fn add_by_scan(seen: Seen, end: usize) -> AddAt
     ensures { result ≡ add_by_scan end seen }
 {
@@ -53,6 +56,7 @@ pub fn add_by_scan(seen: Seen, end: usize) -> AddAt
 }
 
 // Whether a reference of the wanted kind stood where the wanted one did not.
+#[tactic(auto, unfolding(crate::specs::Scans::others_in))]
 pub fn any_others(seen: Seen) -> bool
     ensures { result ≡ others_in seen }
 {

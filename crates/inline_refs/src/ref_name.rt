@@ -57,6 +57,7 @@ pub fn names_triple(name: DataRef, body: &[u8], start: usize) -> bool
 }
 
 // The wanted reference's first field.
+#[tactic(auto, unfolding(crate::specs::Scans::fields_of))]
 fn first_field(wanted: RefName) -> u64
     ensures { result ≡ get_or (fields_of wanted) 0 0 }
 {
@@ -132,6 +133,7 @@ pub fn rank_below(body: &[u8], kind: u8, start: usize, own: TreeRun, limit: u64)
 }
 
 // The run over the wanted one's own tree. Only a data reference has hashes compared with its own.
+#[tactic(auto, unfolding(crate::specs::Scans::tree_of))]
 fn run_of(wanted: RefName) -> TreeRun
     ensures { (result.tree ≡ tree_of wanted) × RunFits result }
 {

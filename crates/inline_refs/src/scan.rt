@@ -80,10 +80,10 @@ fn scan_gap(
     while let Some(reference) = cursor.step(kinds, body)? {
         if crate::ref_name::names(wanted, body, reference.kind, reference.start) {
             let found = found_at(body, cursor, reference);
-            rest_of(kinds, body, found.next)?;
+            rest_of(kinds, body, reference.next.at)?;
             return Ok(Seen::Late { gap, found });
         }
-        others = others || reference.kind == sought;
+        others |= reference.kind == sought;
         cursor = reference.next;
     }
     Ok(Seen::Gap { at: gap, others })
@@ -107,10 +107,10 @@ fn scan_from(
     while let Some(reference) = cursor.step(kinds, body)? {
         if crate::ref_name::names(wanted, body, reference.kind, reference.start) {
             let found = found_at(body, cursor, reference);
-            rest_of(kinds, body, found.next)?;
+            rest_of(kinds, body, reference.next.at)?;
             return Ok(Seen::Hit(found));
         }
-        others = others || reference.kind == sought;
+        others |= reference.kind == sought;
         if crate::ref_name::stops_at(sought, rank, own, body, reference.kind, reference.start) {
             return scan_gap(kinds, body, reference.next.at, wanted, cursor.at, others);
         }
@@ -154,7 +154,7 @@ fn scan_first(
         return scan_ranked(kinds, body, start, wanted, known);
     }
     let found = found_at(body, cursor, reference);
-    rest_of(kinds, body, found.next)?;
+    rest_of(kinds, body, reference.next.at)?;
     Ok(Seen::Hit(found))
 }
 

@@ -29,7 +29,9 @@ impl Cursor {
             return Ok(None);
         }
         let kind = body[self.at];
-        let row = kinds.row_of(kind).ok_or(Refusal::KIND)?;
+        let Some(row) = kinds.row_of(kind) else {
+            return Err(Refusal::KIND);
+        };
         let start = self.at + 1;
         if body.len() - start < row.payload {
             return Err(Refusal::CUT);

@@ -1,4 +1,7 @@
-use mathlib.Core.Path.{sym, ap, ◌∙◌}
+use mathlib.Core.Path.{◌≡◌, sym, ap, ◌∙◌}
+use mathlib.Core.Logic.{inl, inr}
+use Prim.Native.Nat.{ℕ}
+use Rattle.format.specs.Bodies.{one}
 use native.Mathlib.Omega.{arith}
 use lib.ListN.{drop}
 use Rattle.inline_refs.specs.Scans.{kind_of, fields_of}
@@ -18,12 +21,6 @@ unfolding kind_of
 names_rest-requires c =
     omega (arith, payload-178 _ (ap kind_of c.in-Data.is), c.requires)
 
-pub returns-in-Block : goal.returns-in-Block
-unfolding fields_of
-returns-in-Block c =
-    let a = c.args in
-    named-alone a.wanted (drop a.start a.body.now) _ c.get_u64_le.ensures _ (ap fields_of c.in-Block.is) (c.if-get_u64_le-first_field.false ∙ c.first_field.ensures)
-
 pub returns-in-Data : goal.returns-in-Data
 unfolding fields_of
 returns-in-Data c =
@@ -31,14 +28,10 @@ returns-in-Data c =
     c.names_rest.ensures
     ∙ named_by a.wanted (drop a.start a.body.now) _ c.get_u64_le.ensures _ (ap fields_of c.in-Data.is) (c.if-get_u64_le-first_field.false ∙ c.first_field.ensures)
 
-pub returns-in-SharedBlock : goal.returns-in-SharedBlock
+pub returns-in-Block : goal.returns-in-Block
 unfolding fields_of
-returns-in-SharedBlock c =
+returns-in-Block c =
     let a = c.args in
-    named-alone a.wanted (drop a.start a.body.now) _ c.get_u64_le.ensures _ (ap fields_of c.in-SharedBlock.is) (c.if-get_u64_le-first_field.false ∙ c.first_field.ensures)
-
-pub returns-in-SharedData : goal.returns-in-SharedData
-unfolding fields_of
-returns-in-SharedData c =
-    let a = c.args in
-    named-alone a.wanted (drop a.start a.body.now) _ c.get_u64_le.ensures _ (ap fields_of c.in-SharedData.is) (c.if-get_u64_le-first_field.false ∙ c.first_field.ensures)
+    let alone = λ (v : ℕ) (f : fields_of a.wanted ≡ one v).
+    named-alone a.wanted (drop a.start a.body.now) _ c.get_u64_le.ensures v f (c.if-get_u64_le-first_field.false ∙ c.first_field.ensures) in
+    elim c.in-Block.is [ inl block ↦ alone _ (ap fields_of block.1) | inr shared ↦ elim shared [ inl x ↦ alone _ (ap fields_of x.1) | inr x ↦ alone _ (ap fields_of x.1) ] ]

@@ -1,4 +1,5 @@
 use mathlib.Core.Path.{sym, ap, ◌∙◌}
+use mathlib.Core.Logic.{inl, inr}
 use native.Mathlib.Omega.{arith}
 use Rattle.inline_refs.specs.Scans.{kind_of, fields_of}
 use Rattle.inline_refs.proofs.Tests.{payload-eight, payload-178, named_other, named-is, named-one}
@@ -18,9 +19,6 @@ names_triple-requires c =
 pub get_u64_le-requires-in-SharedBlock : goal.get_u64_le-requires-in-SharedBlock
 get_u64_le-requires-in-SharedBlock c = omega (arith, payload-eight _ c.requires.0, c.requires.1)
 
-pub get_u64_le-requires-in-SharedData : goal.get_u64_le-requires-in-SharedData
-get_u64_le-requires-in-SharedData c = omega (arith, payload-eight _ c.requires.0, c.requires.1)
-
 pub returns-in-Block : goal.returns-in-Block
 unfolding fields_of
 returns-in-Block c =
@@ -34,9 +32,5 @@ returns-in-Data c =
 pub returns-in-SharedBlock : goal.returns-in-SharedBlock
 unfolding fields_of
 returns-in-SharedBlock c =
-    named-one _ _ _ _ _ (sym c.kind_of.ensures ∙ c.if-kind_of-kind.false) (ap fields_of c.in-SharedBlock.is) c.get_u64_le-in-SharedBlock.ensures
-
-pub returns-in-SharedData : goal.returns-in-SharedData
-unfolding fields_of
-returns-in-SharedData c =
-    named-one _ _ _ _ _ (sym c.kind_of.ensures ∙ c.if-kind_of-kind.false) (ap fields_of c.in-SharedData.is) c.get_u64_le-in-SharedData.ensures
+    let same = sym c.kind_of.ensures ∙ c.if-kind_of-kind.false in
+    elim c.in-SharedBlock.is [ inl e ↦ named-one _ _ _ _ _ same (ap fields_of e) c.get_u64_le-in-SharedBlock.ensures | inr e ↦ named-one _ _ _ _ _ same (ap fields_of e) c.get_u64_le-in-SharedBlock.ensures ]

@@ -1,4 +1,5 @@
 use mathlib.Core.Path.{ap, ◌∙◌}
+use mathlib.Core.Logic.{inl, inr}
 use Prim.Native.Nat.{ℕ}
 use Rattle.format.specs.Hash.{data_ref_hash}
 use Rattle.format.specs.References.{rank_of}
@@ -19,8 +20,8 @@ returns-in-Data c =
 
 pub returns-in-SharedBlock : goal.returns-in-SharedBlock
 unfolding rank_of kind_of fields_of
-returns-in-SharedBlock c = rw c.in-SharedBlock.is
+returns-in-SharedBlock c = elim c.in-SharedBlock.is [ inl e ↦ rw e | inr e ↦ rw e ]
 
-pub returns-in-SharedData : goal.returns-in-SharedData
+pub returns-in-SharedBlock-2 : goal.returns-in-SharedBlock-2
 unfolding rank_of kind_of fields_of
-returns-in-SharedData c = rw c.in-SharedData.is
+returns-in-SharedBlock-2 c = elim c.in-SharedBlock.is [ inl e ↦ rw e | inr e ↦ rw e ]

@@ -1,48 +1,63 @@
-use mathlib.Core.Path.{sym, ◌∙◌}
+use mathlib.Core.Path.{sym, ap, ◌∙◌}
+use mathlib.Core.Bool.{◌||◌}
+use Prim.Native.Nat.{ℕ}
+use lib.Dec.{eqb}
 use native.Mathlib.Omega.{arith}
+use Rattle.format.proofs.Answers.{handed_on}
 use Rattle.format.specs.References.{ref_at}
 use Rattle.inline_refs.specs.Scans.{kind_of}
-use Rattle.inline_refs.proofs.Steps.{seen, ends-within}
-use Rattle.inline_refs.proofs.Notes.{note-late, note-still, scan_step, scan-end, scan-fault}
+use Rattle.inline_refs.proofs.Steps.{stepped, ended, stopped, ends-within}
+use Rattle.inline_refs.proofs.Notes.{note-late, note-still, scan_step, scan-end, scan-fault, rest-late}
 use Rattle.inline_refs.proofs.scan.scan_gap.Goals as goal
+
+pub returns-in_err-reference : goal.returns-in_err-reference
+returns-in_err-reference c =
+    let w = stopped _ _ c.step.ensures c.in_err-reference.was in
+    λ rank. handed_on c.from_residual.ensures.1 ∙ scan-fault _ rank _ _ _ _ w ∙ c.loop-reference.invariant rank
 
 pub names-requires : goal.names-requires
 names-requires c =
-    let w = seen c.args.body.now c.loop-kind.at _ (sym c.in-Ref.is ∙ c.step.ensures) in
+    let w = stepped _ _ c.step.ensures c.in_ok-reference.was c.in-Some.is in
     (w.kind_known, ends-within _ _ _ _ _ _ _ w)
 
-pub weight_at-weight-requires : goal.weight_at-weight-requires
-weight_at-weight-requires c =
-    let w = seen c.args.body.now c.loop-kind.at _ (sym c.in-Ref.is ∙ c.step.ensures) in
+pub found_at-found-requires : goal.found_at-found-requires
+found_at-found-requires c =
+    let w = stepped _ _ c.step.ensures c.in_ok-reference.was c.in-Some.is in
     (w.kind_known, ends-within _ _ _ _ _ _ _ w, w.count_at)
+
+pub returns-in_err-rest_of : goal.returns-in_err-rest_of
+returns-in_err-rest_of c =
+    let w = stepped _ _ c.step.ensures c.in_ok-reference.was c.in-Some.is in
+    λ rank.
+    handed_on c.from_residual-in_err-rest_of.ensures.1
+    ∙ rest-late _ rank _ _ _ _ _ (sym c.in_err-rest_of.was ∙ c.rest_of.ensures)
+    ∙ scan_step _ rank _ _ _ _ _ _ _ _ _ w (note-late _ _ _ _ _ _ _ c.names.ensures _ _ c.if-names.true c.found_at-found.ensures)
+    ∙ c.loop-reference.invariant rank
 
 pub returns-then-names : goal.returns-then-names
 returns-then-names c =
-    let w = seen c.args.body.now c.loop-kind.at _ (sym c.in-Ref.is ∙ c.step.ensures) in
+    let w = stepped _ _ c.step.ensures c.in_ok-reference.was c.in-Some.is in
     λ rank.
-    c.scan_late.ensures _ rank
-    ∙ scan_step _ rank _ _ _ _ _ _ _ _ _ w (note-late _ _ _ _ _ _ _ c.names.ensures _ _ c.if-names.true c.weight_at-weight.ensures)
-    ∙ c.loop-kind.invariant rank
+    rest-late _ rank _ _ _ _ _ (sym c.in_ok-rest_of.was ∙ c.rest_of.ensures)
+    ∙ scan_step _ rank _ _ _ _ _ _ _ _ _ w (note-late _ _ _ _ _ _ _ c.names.ensures _ _ c.if-names.true c.found_at-found.ensures)
+    ∙ c.loop-reference.invariant rank
 
-pub loop-kind-smaller : goal.loop-kind-smaller
-loop-kind-smaller c =
-    let w = seen c.args.body.now c.loop-kind.at _ (sym c.in-Ref.is ∙ c.step.ensures) in
+pub loop-reference-smaller : goal.loop-reference-smaller
+loop-reference-smaller c =
+    let w = stepped _ _ c.step.ensures c.in_ok-reference.was c.in-Some.is in
     omega (arith, w.inside, w.further, w.within)
 
-pub loop-kind-preserved : goal.loop-kind-preserved
+pub loop-reference-preserved : goal.loop-reference-preserved
 unfolding ref_at kind_of
-loop-kind-preserved c =
-    let w = seen c.args.body.now c.loop-kind.at _ (sym c.in-Ref.is ∙ c.step.ensures) in
+loop-reference-preserved c =
+    let w = stepped _ _ c.step.ensures c.in_ok-reference.was c.in-Some.is in
     λ rank.
-    scan_step _ rank _ _ _ _ _ _ _ _ _ w (note-still _ _ _ _ _ _ _ c.names.ensures _ _ c.if-names.false c.any_of_kind-others.ensures)
-    ∙ c.loop-kind.invariant rank
+    scan_step _ rank _ _ _ _ _ _ _ _ _ w
+    (note-still _ _ _ _ _ _ _ c.names.ensures _ _ c.if-names.false
+    (ap (λ (k : ℕ). c.loop-reference.others || eqb c.in-Some.reference.kind k) c.kind_of-sought.ensures))
+    ∙ c.loop-reference.invariant rank
 
-pub returns-in-End : goal.returns-in-End
-returns-in-End c =
-    let w = seen c.args.body.now c.loop-kind.at _ (sym c.in-End.is ∙ c.step.ensures) in
-    λ rank. scan-end _ rank _ _ _ w ∙ c.loop-kind.invariant rank
-
-pub returns-in-Refused : goal.returns-in-Refused
-returns-in-Refused c =
-    let w = seen c.args.body.now c.loop-kind.at _ (sym c.in-Refused.is ∙ c.step.ensures) in
-    λ rank. scan-fault _ rank _ _ _ _ w ∙ c.loop-kind.invariant rank
+pub returns : goal.returns
+returns c =
+    let w = ended _ _ c.step.ensures c.in_ok-reference.was c.in_default.is in
+    λ rank. scan-end _ rank _ _ _ w ∙ c.loop-reference.invariant rank

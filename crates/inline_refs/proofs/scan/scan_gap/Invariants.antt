@@ -6,9 +6,9 @@ use Rattle.inline_refs.specs.Scans.{scan_of}
 use Rattle.inline_refs.specs.declared.scan.Seen.TheVariants.{Gap}
 use Rattle.inline_refs.proofs.scan.scan_gap.Given as goal
 
-abbrev pub invariant-loop-kind : goal.invariant-loop-kind
-invariant-loop-kind l =
-    (rank : ℕ) → scan_of l.wanted rank l.at (Gap l.gap l.others) (read_from l.body l.at) ≡ scan_of l.wanted rank l.start (Gap l.gap l.stood) (read_from l.body l.start)
+abbrev pub invariant-loop-reference : goal.invariant-loop-reference
+invariant-loop-reference l =
+    (rank : ℕ) → scan_of l.wanted rank l.cursor.at (Gap l.gap l.others) (read_from l.body l.cursor.at) ≡ scan_of l.wanted rank l.start (Gap l.gap l.stood) (read_from l.body l.start)
 
-abbrev pub decreases-loop-kind : goal.decreases-loop-kind
-decreases-loop-kind l = length l.body - l.at
+abbrev pub decreases-loop-reference : goal.decreases-loop-reference
+decreases-loop-reference l = length l.body - l.cursor.at
