@@ -1,21 +1,22 @@
 -- Calls on a body by the wanted name: where an added reference goes; one that loses one count or an amount or is taken out whole.
 -- Assumes nothing.
-use Rattle.std.specs.Prelude.{◌≡◌, Bool, true, false, cond, List, ◌++◌, ℕ, ◌+◌, ◌-◌, ◌≤◌, ◌<◌, leb, eqb, length, take}
+use Rattle.std.specs.Prelude.{◌≡◌, Bool, true, false, cond, List, ◌++◌, ℕ, ◌+◌, ◌-◌, ◌^◌, ◌≤◌, ◌<◌, leb, ltb, eqb, length, take, Result, Ok}
 use Rattle.fields.specs.Lists.{first_cut}
 use Rattle.fields.specs.Numbers.{le_bytes}
 use Rattle.fields.specs.Parts.{written}
 use Rattle.format.specs.declared.SharedRef.{SharedRef}
-use Rattle.format.specs.Questions.{Answer, accepted, bind, found, TakenOut}
-use Rattle.format.specs.References.{payload_length, Ref, make_ref, ref_bytes, body_with, body_bytes, rank_of}
+use Rattle.format.specs.Questions.{Answer, accepted, bind, denied, found, TakenOut}
+use Rattle.format.specs.References.{payload_length, counted, Ref, make_ref, ref_bytes, body_with, body_bytes, rank_of}
 use Rattle.format.specs.Bodies.{on_body, named, one, lowered_by_part, drop_inline, drop_inline_tree_ref, drop_inline_data_ref, RefPosition, position_anywhere, position_by_scan, add_at, add_inline_data, add_inline_shared, keyed_at}
 use Rattle.inline_refs.specs.declared.ref_name.RefName.{RefName}
 use Rattle.inline_refs.specs.declared.ref_name.RefName.TheVariants.{Block, Data, SharedBlock, SharedData}
 use Rattle.inline_refs.specs.declared.scan.Seen.{Seen}
 use Rattle.inline_refs.specs.declared.noted.AddAt.{AddAt}
 use Rattle.inline_refs.specs.Scans.{kind_of, fields_of, add_anywhere, add_by_scan}
-use Rattle.backref.specs.declared.plan.Outcome.TheVariants.{Edit, Refused}
+use Rattle.format.specs.declared.Refusal.{Refusal}
 use Rattle.backref.specs.declared.plan.Plan.{Plan}
-use Rattle.backref.specs.Totals.{one_fault, part_fault}
+use Rattle.backref.specs.declared.plan.Plan.TheVariants.{Edit}
+use Rattle.backref.specs.Totals.{one_asked, part_asked}
 
 -- bytes in front of which a reference stands, with its count at a position of its payload, 0 where it has none
 unfoldable pub with_count : ℕ → ℕ → List ℕ → List ℕ
@@ -64,15 +65,22 @@ unfoldable pub add_keyed : ℕ → List ℕ → RefName → ℕ → ℕ → Answ
 add_keyed type body wanted rank amount =
     on_body type body (λ b. keyed_at b (new_ref wanted amount) (position_anywhere (kind_of wanted) (fields_of wanted) rank b.refs))
 
--- a plan that puts a reference of that count between two positions and adds the amount to the total; 12 where the total cannot
--- hold the sum
-pub record Raised (from to : ℕ) (wanted : RefName) (count total amount : ℕ) (p : Plan) : Type 0 where
-  pub full : 18446744073709551615 - amount < total → p.outcome ≡ Refused 12
-  pub is : total ≤ 18446744073709551615 - amount
-      → p ≡ record { outcome = Edit; from = from; to = to; new = p.new; size = 1 + payload_length (kind_of wanted); total = total + amount; count = 0 }
-  pub front : total ≤ 18446744073709551615 - amount
-      → take (1 + payload_length (kind_of wanted)) p.new ≡ ref_bytes (new_ref wanted count)
-  pub long : total ≤ 18446744073709551615 - amount → length p.new ≡ 32
+-- a plan that puts a reference of that count between two positions, with another total
+pub record PutsRef (from to : ℕ) (wanted : RefName) (count total : ℕ) (p : Plan) : Type 0 where
+  pub new : List ℕ
+  pub is : p ≡ Edit (record { from = from; to = to; new = new; size = 1 + payload_length (kind_of wanted); total = total; count = 0 })
+  pub front : take (1 + payload_length (kind_of wanted)) new ≡ ref_bytes (new_ref wanted count)
+  pub long : length new ≡ 32
+
+-- the same with the amount added to the total; 12 where the total cannot hold the sum
+pub record Raised (from to : ℕ) (wanted : RefName) (count total amount : ℕ) (p : Result Plan Refusal) : Type 0 where
+  pub full : 18446744073709551615 - amount < total → p ≡ denied 12
+  pub puts : total ≤ 18446744073709551615 - amount → (plan : Plan) × (p ≡ Ok plan) × PutsRef from to wanted count (total + amount) plan
+
+-- questions 9 and 11 of a reference that stands, and its new count
+unfoldable pub raised_count : RefName → ℕ → ℕ → Result ℕ Refusal
+raised_count wanted weight amount =
+    cond (counted (kind_of wanted)) (cond (ltb (weight + amount) (2 ^ 32)) (Ok (weight + amount)) (denied 11)) (denied 9)
 
 -- ---- drops
 
@@ -90,12 +98,12 @@ drop_named type body (Data name) amount = drop_inline_data_ref type body name
 drop_named type body (SharedBlock parent) amount = drop_inline type body 182 (one parent) amount (lowered_by_part amount)
 drop_named type body (SharedData parent) amount = drop_inline type body 184 (one parent) amount (lowered_by_part amount)
 
--- the question of it that is answered "no", or 0
-unfoldable pub drop_fault : RefName → ℕ → ℕ → ℕ → ℕ
-drop_fault (Block name) amount standing total = one_fault total
-drop_fault (Data name) amount standing total = one_fault total
-drop_fault (SharedBlock parent) amount standing total = part_fault amount standing
-drop_fault (SharedData parent) amount standing total = part_fault amount standing
+-- the questions of it behind those of the body and the name
+unfoldable pub drop_asked : RefName → ℕ → ℕ → ℕ → Result (Unit {0}) Refusal
+drop_asked (Block name) amount standing total = one_asked total
+drop_asked (Data name) amount standing total = one_asked total
+drop_asked (SharedBlock parent) amount standing total = part_asked amount standing
+drop_asked (SharedData parent) amount standing total = part_asked amount standing
 
 -- take_inline_shared behind its question 3
 unfoldable pub take_inline : ℕ → List ℕ → RefName → Answer TakenOut

@@ -1,5 +1,5 @@
 -- Drops on a body by what goes off the wanted reference, with how many are left. Assumes nothing.
-use Rattle.std.specs.Prelude.{◌≡◌, List, ℕ, ◌-◌}
+use Rattle.std.specs.Prelude.{◌≡◌, List, ℕ, ◌-◌, Result, Ok}
 use Rattle.std.proofs.Math.Option.{some}
 use Rattle.fields.specs.Lists.{Cut, first_cut}
 use Rattle.format.specs.Questions.{Answer, accepted}
@@ -9,11 +9,13 @@ use Rattle.format.specs.Left.{left_in}
 use Rattle.inline_refs.specs.declared.ref_name.RefName.{RefName}
 use Rattle.inline_refs.specs.declared.ref_name.RefName.TheVariants.{Block, Data, SharedBlock, SharedData}
 use Rattle.inline_refs.specs.Scans.{kind_of, fields_of}
-use Rattle.backref.specs.declared.plan.Outcome.TheVariants.{Edit}
+use Rattle.format.specs.declared.Refusal.{Refusal}
+use Rattle.backref.specs.declared.plan.BodyEdit.{BodyEdit}
+use Rattle.backref.specs.declared.plan.Plan.TheVariants.{Edit}
 use Rattle.backref.specs.declared.plan.DropPlan.{DropPlan}
 use Rattle.backref.specs.declared.offs.Off.{Off}
 use Rattle.backref.specs.declared.offs.Off.TheVariants.{One, Part, Whole}
-use Rattle.backref.specs.Totals.{one_fault, part_fault}
+use Rattle.backref.specs.Totals.{one_asked, part_asked}
 use Rattle.backref.specs.Plans.{PlannedDrop}
 
 unfoldable pub off_of : RefName → ℕ → Off
@@ -22,11 +24,11 @@ off_of (Data name) amount = One
 off_of (SharedBlock parent) amount = Part amount
 off_of (SharedData parent) amount = Part amount
 
--- the question of it that is answered "no", or 0
-unfoldable pub off_fault : Off → ℕ → ℕ → ℕ
-off_fault One standing total = one_fault total
-off_fault (Part amount) standing total = part_fault amount standing
-off_fault Whole standing total = 0
+-- the questions of it
+unfoldable pub off_asked : Off → ℕ → ℕ → Result (Unit {0}) Refusal
+off_asked One standing total = one_asked total
+off_asked (Part amount) standing total = part_asked amount standing
+off_asked Whole standing total = Ok tt
 
 -- no count is above 32 bits
 unfoldable pub amount_off : Off → ℕ
@@ -52,4 +54,4 @@ drop_off type body wanted off = drop_inline type body (kind_of wanted) (fields_o
 pub record PlannedOff (p : DropPlan) (type : ℕ) (body : List ℕ) (wanted : RefName) (off : Off) : Type 0 where
   pub drops : PlannedDrop p body (drop_off type body wanted off) (left_in type (kind_of wanted) (fields_of wanted))
   pub counted : (b : Body) (c : Cut Ref) → read_body type body ≡ accepted b → first_cut (named (kind_of wanted) (fields_of wanted)) b.refs ≡ some c
-      → p.plan.outcome ≡ Edit → p.plan.count ≡ c.hit.weight
+      → (e : BodyEdit) → p.plan ≡ Ok (Edit e) → e.count ≡ c.hit.weight

@@ -1,22 +1,19 @@
-// Plans that add references. The total and the count are compared before they are summed, so that no sum wraps.
+// Plans that add references.
 ghost use Rattle.std.specs.Prelude.{◌≡◌, ◌||◌, not, eqb};
 ghost use Rattle.format.specs.References.{counted};
 ghost use Rattle.inline_refs.specs.Scans.{kind_of, KnownFor};
 ghost use Rattle.backref.specs.Plans.{Planned};
-ghost use Rattle.backref.specs.ByName.{by_scan, add_at_of, Raised, add_inline, add_keyed};
+ghost use Rattle.backref.specs.ByName.{by_scan, add_at_of, PutsRef, Raised, raised_count, add_inline, add_keyed};
 
-use crate::Plan;
-use format::EXTENT_DATA_REF;
-use inline_refs::{AddAt, OwnRank, RefName, Scan, Seen};
+use crate::{BodyEdit, Plan};
+use format::{EXTENT_DATA_REF, Refusal};
+use inline_refs::{AddAt, Ranked, RefName, Seen};
 
 // Question 10: amount 1 where the kind has no count.
 fn may_add(wanted: RefName, amount: u32) -> bool
     ensures { result ≡ counted (kind_of wanted) || eqb amount 1 }
 {
-    if crate::new_bytes::counts(wanted) {
-        return true;
-    }
-    amount == 1
+    crate::new_bytes::counts(wanted) || amount == 1
 }
 
 fn add_at(seen: Seen, end: usize, wanted: RefName) -> AddAt
@@ -28,45 +25,70 @@ fn add_at(seen: Seen, end: usize, wanted: RefName) -> AddAt
     inline_refs::add_anywhere(seen, end)
 }
 
-// The reference with its count between two positions, and the amount added to the total if that holds the sum.
-fn edit_raised(from: usize, to: usize, wanted: RefName, count: u32, total: u64, amount: u32) -> Plan
+// The reference with its count between two positions, and the total.
+fn edit_put(from: usize, to: usize, wanted: RefName, count: u32, total: u64) -> Plan
+    ensures { PutsRef from to wanted count total result }
+{
+    Plan::Edit(BodyEdit {
+        from,
+        to,
+        new: crate::new_bytes::bytes_of(wanted, count),
+        size: crate::new_bytes::size_of(wanted),
+        total,
+        count: 0,
+    })
+}
+
+// The same with the amount added to the total, if that holds the sum.
+fn edit_raised(
+    from: usize,
+    to: usize,
+    wanted: RefName,
+    count: u32,
+    total: u64,
+    amount: u32,
+) -> Result<Plan, Refusal>
     ensures { Raised from to wanted count total amount result }
 {
-    let more = amount as u64;
-    if 18446744073709551615 - more < total {
-        return crate::refuse(12);
+    let Some(raised) = total.checked_add(amount as u64) else {
+        return Err(Refusal::TOTAL_FULL);
+    };
+    Ok(edit_put(from, to, wanted, count, raised))
+}
+
+// Questions 9 and 11 of a reference that stands: its count with the amount added, if it has one that holds the sum.
+fn raised_count(wanted: RefName, weight: u32, amount: u32) -> Result<u32, Refusal>
+    ensures { result ≡ raised_count wanted weight amount }
+{
+    if !crate::new_bytes::counts(wanted) {
+        return Err(Refusal::STANDS);
     }
-    let new = crate::new_bytes::bytes_of(wanted, count);
-    let size = crate::new_bytes::size_of(wanted);
-    crate::edit(from, to, new, size, total + more, 0)
+    weight.checked_add(amount).ok_or(Refusal::COUNT_FULL)
 }
 
 // The amount is added at one name, and to the total.
-pub fn plan_add(item_type: u8, body: &[u8], wanted: RefName, known: OwnRank, amount: u32) -> Plan
+pub fn plan_add(
+    item_type: u8,
+    body: &[u8],
+    wanted: RefName,
+    known: Option<Ranked>,
+    amount: u32,
+) -> Result<Plan, Refusal>
     requires { KnownFor wanted known }
     ensures { Planned result body.now (add_inline item_type body.now wanted amount) }
 {
-    match inline_refs::scan_to_add(item_type, body, wanted, known) {
-        Scan::Fault(refusal) => crate::refuse(refusal),
-        Scan::Read(seen) => {
-            let total = fields::get_u64_le(body, 0);
-            match add_at(seen, body.len(), wanted) {
-                AddAt::Gap(at) => {
-                    if !may_add(wanted, amount) {
-                        return crate::refuse(10);
-                    }
-                    edit_raised(at, at, wanted, amount, total, amount)
-                }
-                AddAt::Standing { at, next, weight } => {
-                    if !crate::new_bytes::counts(wanted) {
-                        return crate::refuse(9); // it has no count that could rise
-                    }
-                    if 4294967295 - amount < weight {
-                        return crate::refuse(11); // its count would wrap
-                    }
-                    edit_raised(at, next, wanted, weight + amount, total, amount)
-                }
+    let seen = inline_refs::scan_to_add(item_type, body, wanted, known)?;
+    let total = fields::get_u64_le(body, 0);
+    match add_at(seen, body.len(), wanted) {
+        AddAt::Gap(at) => {
+            if !may_add(wanted, amount) {
+                return Err(Refusal::AMOUNT);
             }
+            edit_raised(at, at, wanted, amount, total, amount)
+        }
+        AddAt::Standing(found) => {
+            let count = raised_count(wanted, found.weight, amount)?;
+            edit_raised(found.at, found.next, wanted, count, total, amount)
         }
     }
 }
@@ -75,39 +97,31 @@ pub fn plan_add(item_type: u8, body: &[u8], wanted: RefName, known: OwnRank, amo
 fn may_key(wanted: RefName, others: bool) -> bool
     ensures { result ≡ not (counted (kind_of wanted)) || not others }
 {
-    if crate::new_bytes::counts(wanted) {
-        return !others;
-    }
-    true
+    !crate::new_bytes::counts(wanted) || !others
 }
 
 // The same where the total stays.
-pub fn plan_add_keyed(item_type: u8, body: &[u8], wanted: RefName, rank: u64, amount: u32) -> Plan
+pub fn plan_add_keyed(
+    item_type: u8,
+    body: &[u8],
+    wanted: RefName,
+    rank: u64,
+    amount: u32,
+) -> Result<Plan, Refusal>
     ensures { Planned result body.now (add_keyed item_type body.now wanted rank amount) }
 {
-    match inline_refs::scan_body(item_type, body, wanted, rank) {
-        Scan::Fault(refusal) => crate::refuse(refusal),
-        Scan::Read(seen) => {
-            let total = fields::get_u64_le(body, 0);
-            match inline_refs::add_anywhere(seen, body.len()) {
-                AddAt::Gap(at) => {
-                    if !may_key(wanted, inline_refs::any_others(seen)) {
-                        return crate::refuse(10);
-                    }
-                    let new = crate::new_bytes::bytes_of(wanted, amount);
-                    crate::edit(at, at, new, crate::new_bytes::size_of(wanted), total, 0)
-                }
-                AddAt::Standing { at, next, weight } => {
-                    if !crate::new_bytes::counts(wanted) {
-                        return crate::refuse(9); // as above
-                    }
-                    if 4294967295 - amount < weight {
-                        return crate::refuse(11); // as above
-                    }
-                    let new = crate::new_bytes::bytes_of(wanted, weight + amount);
-                    crate::edit(at, next, new, crate::new_bytes::size_of(wanted), total, 0)
-                }
+    let seen = inline_refs::scan_body(item_type, body, wanted, rank)?;
+    let total = fields::get_u64_le(body, 0);
+    match inline_refs::add_anywhere(seen, body.len()) {
+        AddAt::Gap(at) => {
+            if !may_key(wanted, inline_refs::any_others(seen)) {
+                return Err(Refusal::AMOUNT);
             }
+            Ok(edit_put(at, at, wanted, amount, total))
+        }
+        AddAt::Standing(found) => {
+            let count = raised_count(wanted, found.weight, amount)?;
+            Ok(edit_put(found.at, found.next, wanted, count, total))
         }
     }
 }

@@ -4,35 +4,55 @@ ghost use Rattle.format.specs.Questions.{Answered, AnsweredTaken};
 ghost use Rattle.format.specs.Bodies.{held_body, drop_inline_tree_ref, drop_inline_data_ref, add_inline_tree_ref, add_inline_data_ref, add_inline_shared, add_inline_keyed, held_taken, take_inline_shared};
 ghost use Rattle.backref.specs.ByName.{add_keyed};
 
-use format::{BlockRef, DataRef, Edited, Keyed, SharedRef, Taken};
-use inline_refs::{OwnRank, RefName};
+use format::{BlockRef, DataRef, Edited, Keyed, Refusal, SharedRef, Taken};
+use inline_refs::RefName;
 
-pub fn drop_inline_tree_ref(item_type: u8, body: &[u8], tree: u64, out: &mut [u8]) -> Edited
+pub fn drop_inline_tree_ref(
+    item_type: u8,
+    body: &[u8],
+    tree: u64,
+    out: &mut [u8],
+) -> Result<Edited, Refusal>
     ensures { Answered (held_body (length out.old) (drop_inline_tree_ref item_type body.now (record { tree = tree }))) result out.old out.new }
 {
     let plan = crate::plan_drop(item_type, body, RefName::Block(BlockRef { tree }), 1);
     crate::write_plan(body, plan, out)
 }
 
-pub fn drop_inline_data_ref(item_type: u8, body: &[u8], name: DataRef, out: &mut [u8]) -> Edited
+pub fn drop_inline_data_ref(
+    item_type: u8,
+    body: &[u8],
+    name: DataRef,
+    out: &mut [u8],
+) -> Result<Edited, Refusal>
     ensures { Answered (held_body (length out.old) (drop_inline_data_ref item_type body.now name)) result out.old out.new }
 {
     let plan = crate::plan_drop(item_type, body, RefName::Data(name), 1);
     crate::write_plan(body, plan, out)
 }
 
-pub fn add_inline_tree_ref(item_type: u8, body: &[u8], tree: u64, out: &mut [u8]) -> Edited
+pub fn add_inline_tree_ref(
+    item_type: u8,
+    body: &[u8],
+    tree: u64,
+    out: &mut [u8],
+) -> Result<Edited, Refusal>
     ensures { Answered (held_body (length out.old) (add_inline_tree_ref item_type body.now (record { tree = tree }))) result out.old out.new }
 {
     let wanted = RefName::Block(BlockRef { tree });
-    let plan = crate::plan_add(item_type, body, wanted, OwnRank::Unknown, 1);
+    let plan = crate::plan_add(item_type, body, wanted, None, 1);
     crate::write_plan(body, plan, out)
 }
 
-pub fn add_inline_data_ref(item_type: u8, body: &[u8], name: DataRef, out: &mut [u8]) -> Edited
+pub fn add_inline_data_ref(
+    item_type: u8,
+    body: &[u8],
+    name: DataRef,
+    out: &mut [u8],
+) -> Result<Edited, Refusal>
     ensures { Answered (held_body (length out.old) (add_inline_data_ref item_type body.now name)) result out.old out.new }
 {
-    let plan = crate::plan_add(item_type, body, RefName::Data(name), OwnRank::Unknown, 1);
+    let plan = crate::plan_add(item_type, body, RefName::Data(name), None, 1);
     crate::write_plan(body, plan, out)
 }
 
@@ -42,7 +62,7 @@ pub fn add_inline_shared(
     name: SharedRef,
     count: u32,
     out: &mut [u8],
-) -> Edited
+) -> Result<Edited, Refusal>
     ensures { Answered (held_body (length out.old) (add_inline_shared item_type body.now name count)) result out.old out.new }
 {
     let plan = crate::plans::plan_add_shared(item_type, body, name, count);
@@ -58,7 +78,7 @@ fn add_keyed(
     rank: u64,
     count: u32,
     out: &mut [u8],
-) -> Edited
+) -> Result<Edited, Refusal>
     ensures { Answered (held_body (length out.old) (add_keyed item_type body.now wanted rank count)) result out.old out.new }
 {
     let plan = crate::plan_add_keyed(item_type, body, wanted, rank, count);
@@ -72,7 +92,7 @@ pub fn add_inline_keyed(
     keyed: Keyed,
     count: u32,
     out: &mut [u8],
-) -> Edited
+) -> Result<Edited, Refusal>
     ensures { Answered (held_body (length out.old) (add_inline_keyed item_type body.now keyed count)) result out.old out.new }
 {
     match keyed {
@@ -83,7 +103,12 @@ pub fn add_inline_keyed(
     }
 }
 
-pub fn take_inline_shared(item_type: u8, body: &[u8], name: SharedRef, out: &mut [u8]) -> Taken
+pub fn take_inline_shared(
+    item_type: u8,
+    body: &[u8],
+    name: SharedRef,
+    out: &mut [u8],
+) -> Result<Option<Taken>, Refusal>
     ensures { AnsweredTaken (held_taken (length out.old) (take_inline_shared item_type body.now name)) result out.old out.new }
 {
     let plan = crate::plans::plan_take_shared(item_type, body, name);

@@ -3,10 +3,10 @@ ghost use Rattle.std.specs.Prelude.{◌≡◌, ◌+◌, replicate};
 ghost use Rattle.fields.specs.Numbers.{le_bytes};
 ghost use Rattle.fields.specs.Parts.{written};
 ghost use Rattle.format.specs.Bodies.{drop_keyed_data_ref};
-ghost use Rattle.backref.specs.Plans.{Planned};
+ghost use Rattle.backref.specs.Plans.{Planned, KeepsLength};
 
-use crate::{Outcome, Plan};
-use format::{DataRef, EXTENT_DATA_REF, MOST_DATA};
+use crate::{BodyEdit, Plan};
+use format::{DataRef, EXTENT_DATA_REF, MOST_DATA, Refusal};
 
 // A number of four bytes in front of zeros.
 fn count_bytes(count: u32) -> [u8; 32]
@@ -18,27 +18,33 @@ fn count_bytes(count: u32) -> [u8; 32]
 }
 
 // One count off the item; at count 1 the item goes. Its first eight bytes stay, as a body's total would.
-pub fn plan_drop_keyed(item: &[u8], name: DataRef) -> Plan
+pub fn plan_drop_keyed(item: &[u8], name: DataRef) -> Result<Plan, Refusal>
     ensures planned { Planned result item.now (drop_keyed_data_ref item.now name) }
-    ensures size_value { result.from + result.size ≡ result.to }
+    ensures keeps_length { KeepsLength result }
 {
     if MOST_DATA < item.len() {
-        return crate::refuse(3);
+        return Err(Refusal::RANGE);
     }
     let row = inline_refs::lengths_of(EXTENT_DATA_REF);
     if item.len() != row.payload {
-        return crate::refuse(15);
+        return Err(Refusal::OTHER_NAME);
     }
     if !inline_refs::names_triple(name, item, 0) {
-        return crate::refuse(15);
+        return Err(Refusal::OTHER_NAME);
     }
     let count = fields::get_u32_le(item, row.count);
     if count == 0 {
-        return crate::refuse(16);
+        return Err(Refusal::COUNT_ZERO);
     }
     if count == 1 {
-        return crate::without(Outcome::Remove);
+        return Ok(Plan::Remove);
     }
-    let tree = fields::get_u64_le(item, 0);
-    crate::edit(row.count, row.payload, count_bytes(count - 1), 4, tree, 0)
+    Ok(Plan::Edit(BodyEdit {
+        from: row.count,
+        to: row.payload,
+        new: count_bytes(count - 1),
+        size: 4,
+        total: fields::get_u64_le(item, 0),
+        count: 0,
+    }))
 }

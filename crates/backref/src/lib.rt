@@ -30,11 +30,11 @@ pub use keyed::{drop_keyed_data_ref, keyed_data_ref_body};
 pub use keyed_plans::plan_drop_keyed;
 pub use offs::{Off, off_of, plan_off};
 pub use pick::{inline_payload, inline_ref};
-pub use plan::{DropPlan, Outcome, Plan, edit, no_drop, refuse, without};
+pub use plan::{BodyEdit, DropPlan, Plan, no_drop};
 pub use plans::{plan_add_shared, plan_take_shared, shared_kind, shared_name};
 pub use positions::inline_refs;
 pub use total_calls::{flags, lower_total, raise_total, reduce_total, with_flags};
 pub use total_plans::{TotalChange, plan_total, plan_total_part};
 pub use write::{
-    plan_length, put_edit, with_left, write_dropped, write_plan, write_same, write_taken,
+    edit_length, put_edit, with_left, write_dropped, write_plan, write_same, write_taken,
 };

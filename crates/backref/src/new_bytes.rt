@@ -10,30 +10,18 @@ ghost use Rattle.backref.specs.ByName.{with_count};
 use format::{DataRef, EXTENT_DATA_REF, SHARED_BLOCK_REF, SHARED_DATA_REF, TREE_BLOCK_REF};
 use inline_refs::{Lengths, RefName};
 
-// The row of the wanted kind. Each arm names its kind, since the compiler then looks it up, and the call does not.
-fn row_of(wanted: RefName) -> Lengths
-    ensures { (result.payload ≡ payload_length (kind_of wanted)) × (result.count ≡ count_position (kind_of wanted)) × (result.payload ≤ 255) }
-{
-    match wanted {
-        RefName::Block(_) => inline_refs::lengths_of(TREE_BLOCK_REF),
-        RefName::Data(_) => inline_refs::lengths_of(EXTENT_DATA_REF),
-        RefName::SharedBlock(_) => inline_refs::lengths_of(SHARED_BLOCK_REF),
-        RefName::SharedData(_) => inline_refs::lengths_of(SHARED_DATA_REF),
-    }
-}
-
 // How many bytes a reference of the wanted kind takes.
 pub fn size_of(wanted: RefName) -> usize
     ensures { result ≡ 1 + payload_length (kind_of wanted) }
 {
-    1 + row_of(wanted).payload
+    1 + inline_refs::lengths_for(wanted).payload
 }
 
 // Whether references of the wanted kind have a count.
 pub fn counts(wanted: RefName) -> bool
     ensures { result ≡ counted (kind_of wanted) }
 {
-    0 < row_of(wanted).count
+    0 < inline_refs::lengths_for(wanted).count
 }
 
 // The count goes behind the type byte and the fields, if the kind has one.

@@ -1,9 +1,10 @@
 // Plans of drops that say how many are left: so much off a reference, by what goes off.
 ghost use Rattle.std.specs.Prelude.{◌≡◌};
-ghost use Rattle.backref.specs.Offs.{off_of, off_fault, amount_off, total_off, PlannedOff};
+ghost use Rattle.backref.specs.Offs.{off_of, off_asked, amount_off, total_off, PlannedOff};
 
-use crate::{DropPlan, Outcome, no_drop, total_plans};
-use inline_refs::{DropScan, RefName};
+use crate::{BodyEdit, DropPlan, Plan, new_bytes, no_drop, total_plans};
+use format::Refusal;
+use inline_refs::RefName;
 
 // What goes off a reference: one; an amount, off a shared one; or all of it, where the total stays.
 #[derive(Clone, Copy)]
@@ -25,14 +26,14 @@ pub fn off_of(wanted: RefName, amount: u32) -> Off
     }
 }
 
-// The question of it that is answered "no", or 0: 13, or 10 and 22, or none.
-fn off_fault(off: Off, weight: u32, total: u64) -> u32
-    ensures { result ≡ off_fault off weight total }
+// The questions of it: 13, or 10 and 22, or none.
+fn ask_off(off: Off, weight: u32, total: u64) -> Result<(), Refusal>
+    ensures { result ≡ off_asked off weight total }
 {
     match off {
-        Off::One => total_plans::one_fault(total),
-        Off::Part(amount) => total_plans::part_fault(amount, weight),
-        Off::Whole => 0,
+        Off::One => total_plans::ask_one(total),
+        Off::Part(amount) => total_plans::ask_part(amount, weight),
+        Off::Whole => Ok(()),
     }
 }
 
@@ -62,31 +63,42 @@ fn total_off(off: Off, total: u64) -> u64
 pub fn plan_off(item_type: u8, body: &[u8], wanted: RefName, off: Off) -> DropPlan
     ensures { PlannedOff result item_type body.now wanted off }
 {
-    match inline_refs::scan_to_drop(item_type, body, wanted) {
-        DropScan::Fault(refusal) => no_drop(crate::refuse(refusal)),
-        DropScan::Nothing => no_drop(crate::without(Outcome::Absent)),
-        DropScan::First {
-            at,
-            next,
-            weight,
-            behind,
-        } => {
-            let total = fields::get_u64_le(body, 0);
-            let fault = off_fault(off, weight, total);
-            if fault != 0 {
-                return no_drop(crate::refuse(fault));
-            }
-            let amount = amount_off(off);
-            let rest = total_off(off, total);
-            if weight <= amount {
-                let plan = crate::edit(at, next, [0; 32], 0, rest, weight);
-                return DropPlan { plan, left: behind };
-            }
-            let new = crate::new_bytes::bytes_of(wanted, weight - amount);
-            let size = crate::new_bytes::size_of(wanted);
-            let plan = crate::edit(at, next, new, size, rest, weight);
-            let left = behind + (weight - amount) as u64;
-            DropPlan { plan, left }
-        }
+    let first = match inline_refs::scan_to_drop(item_type, body, wanted) {
+        Err(refusal) => return no_drop(Err(refusal)),
+        Ok(None) => return no_drop(Ok(Plan::Absent)),
+        Ok(Some(first)) => first,
+    };
+    let found = first.found;
+    let total = fields::get_u64_le(body, 0);
+    if let Err(refusal) = ask_off(off, found.weight, total) {
+        return no_drop(Err(refusal));
+    }
+    let amount = amount_off(off);
+    let rest = total_off(off, total);
+    if found.weight <= amount {
+        let edit = BodyEdit {
+            from: found.at,
+            to: found.next,
+            new: [0; 32],
+            size: 0,
+            total: rest,
+            count: found.weight,
+        };
+        return DropPlan {
+            plan: Ok(Plan::Edit(edit)),
+            left: first.behind,
+        };
+    }
+    let edit = BodyEdit {
+        from: found.at,
+        to: found.next,
+        new: new_bytes::bytes_of(wanted, found.weight - amount),
+        size: new_bytes::size_of(wanted),
+        total: rest,
+        count: found.weight,
+    };
+    DropPlan {
+        plan: Ok(Plan::Edit(edit)),
+        left: first.behind + (found.weight - amount) as u64,
     }
 }

@@ -1,76 +1,51 @@
 // A reference of a body by its number, from 0. Questions 6 to 8 are put to the whole body, so the references are counted first.
 ghost use Rattle.std.specs.Prelude.{◌≡◌, ◌+◌, ◌≤◌, length};
 ghost use Rattle.format.specs.Constants.{most_data};
-ghost use Rattle.format.specs.Questions.{code_of, lent_part, picked_of};
-ghost use Rattle.format.specs.References.{kinds};
+ghost use Rattle.format.specs.Questions.{code_of, lent_part, told_of};
 ghost use Rattle.format.specs.Bodies.{inline_ref, inline_payload};
 ghost use Rattle.inline_refs.specs.Steps.{read_from};
 ghost use Rattle.inline_refs.specs.Scans.{ref_count_of};
 ghost use Rattle.backref.specs.Reads.{pick_in, Inside, start_in};
 
-use format::{InlineRef, Picked};
-use inline_refs::{Counted, RefStep, Start};
+use format::{InlineRef, Refusal};
+use inline_refs::{Cursor, Kinds};
 
 // Among the references from `start` on, which were counted before.
-fn pick<'a>(
-    rows: &'a [[u8; 3]; 5],
-    body: &'a [u8],
+fn pick(
+    kinds: &Kinds,
+    body: &[u8],
     start: usize,
     count: usize,
     index: u64,
-) -> Picked
-    requires rows_value { rows.now ≡ kinds }
-    requires body_len_bound { (length body.now ≤ most_data) × (Counted.Count count ≡ ref_count_of (read_from body.now start)) }
-    ensures { (result ≡ picked_of (pick_in start index (read_from body.now start))) × Inside result (length body.now) }
+) -> Result<InlineRef, Refusal>
+    requires { (length body.now ≤ most_data) × (Ok count ≡ ref_count_of (read_from body.now start)) }
+    ensures { (result ≡ told_of (pick_in start index (read_from body.now start))) × Inside result (length body.now) }
 {
-    let mut at = start;
+    let mut cursor = Cursor { at: start };
     let mut left = index;
-    loop {
-        let stepped = inline_refs::step_from(rows, body, at);
-        let step = stepped.step;
-        match step {
-            RefStep::Ref {
-                kind,
-                start: payload,
-                size,
-                ..
-            } => {
-                if left == 0 {
-                    return Picked::Ref(InlineRef {
-                        kind,
-                        offset: fields::get_u64_le(body, payload),
-                        start: payload,
-                        len: size,
-                    });
-                }
-                left -= 1;
-                at = stepped.at;
-            }
-            RefStep::End => {
-                return Picked::Refused(5);
-            }
-            // None is: they were counted.
-            RefStep::Refused(refusal) => {
-                return Picked::Refused(refusal);
-            }
+    while let Some(reference) = cursor.step(kinds, body)? {
+        if left == 0 {
+            return Ok(InlineRef {
+                kind: reference.kind,
+                offset: fields::get_u64_le(body, reference.start),
+                start: reference.start,
+                len: reference.size,
+            });
         }
+        left -= 1;
+        cursor = reference.next;
     }
+    Err(Refusal::MISSING)
 }
 
 // Its kind, its first field, and where its payload stands.
-pub fn inline_ref(item_type: u8, body: &[u8], index: u64) -> Picked
-    ensures { (result ≡ picked_of (inline_ref item_type body.now index)) × Inside result (length body.now) }
+pub fn inline_ref(item_type: u8, body: &[u8], index: u64) -> Result<InlineRef, Refusal>
+    ensures { (result ≡ told_of (inline_ref item_type body.now index)) × Inside result (length body.now) }
 {
-    match inline_refs::open_body(item_type, body) {
-        Start::Refused(refusal) => Picked::Refused(refusal),
-        Start::From(start) => {
-            let rows = inline_refs::rows();
-            match inline_refs::count_refs(&rows, body, start) {
-                Counted::Refused(refusal) => Picked::Refused(refusal),
-                Counted::Count(count) => pick(&rows, body, start, count, index),
-            }
-        }
-    }
+    let start = inline_refs::open_body(item_type, body)?;
+    let kinds = Kinds::new();
+    let count = inline_refs::count_refs(&kinds, body, start)?;
+    pick(&kinds, body, start, count, index)
 }
 
 // Its payload, as a part of the body; `refused` gets the refusal, or 0.
@@ -79,11 +54,11 @@ pub fn inline_payload<'a>(item_type: u8, body: &'a [u8], index: u64, refused: &m
 {
     let picked = inline_ref(item_type, body, index);
     match picked {
-        Picked::Refused(refusal) => {
-            *refused = refusal;
+        Err(refusal) => {
+            *refused = refusal.number;
             return &body[0..0];
         }
-        Picked::Ref(reference) => {
+        Ok(reference) => {
             *refused = 0;
             let start = reference.start;
             let end = start + reference.len;

@@ -5,8 +5,8 @@ ghost use Rattle.backref.specs.ByName.{SharedName};
 ghost use Rattle.backref.specs.Plans.{Planned, PlannedTaken};
 
 use crate::Plan;
-use format::{SHARED_BLOCK_REF, SHARED_DATA_REF, SharedRef};
-use inline_refs::{OwnRank, RefName};
+use format::{Refusal, SHARED_BLOCK_REF, SHARED_DATA_REF, SharedRef};
+use inline_refs::RefName;
 
 // Whether a kind is a shared reference's.
 pub fn shared_kind(kind: u8) -> bool
@@ -26,20 +26,25 @@ pub fn shared_name(shared: SharedRef) -> RefName
     RefName::SharedData(shared.parent)
 }
 
-pub fn plan_add_shared(item_type: u8, body: &[u8], name: SharedRef, amount: u32) -> Plan
+pub fn plan_add_shared(
+    item_type: u8,
+    body: &[u8],
+    name: SharedRef,
+    amount: u32,
+) -> Result<Plan, Refusal>
     ensures { Planned result body.now (add_inline_shared item_type body.now name amount) }
 {
-    if shared_kind(name.kind) {
-        return crate::plan_add(item_type, body, shared_name(name), OwnRank::Unknown, amount);
+    if !shared_kind(name.kind) {
+        return Err(Refusal::RANGE);
     }
-    crate::refuse(3)
+    crate::plan_add(item_type, body, shared_name(name), None, amount)
 }
 
-pub fn plan_take_shared(item_type: u8, body: &[u8], name: SharedRef) -> Plan
+pub fn plan_take_shared(item_type: u8, body: &[u8], name: SharedRef) -> Result<Plan, Refusal>
     ensures { PlannedTaken result body.now (take_inline_shared item_type body.now name) }
 {
-    if shared_kind(name.kind) {
-        return crate::drop_plans::plan_take(item_type, body, shared_name(name));
+    if !shared_kind(name.kind) {
+        return Err(Refusal::RANGE);
     }
-    crate::refuse(3)
+    crate::drop_plans::plan_take(item_type, body, shared_name(name))
 }

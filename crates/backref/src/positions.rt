@@ -3,66 +3,38 @@ ghost use Rattle.std.specs.Prelude.{◌≡◌, ◌≤◌, length};
 ghost use Rattle.fields.specs.Parts.{written};
 ghost use Rattle.format.specs.Constants.{most_data};
 ghost use Rattle.format.specs.Questions.{Answered};
-ghost use Rattle.format.specs.References.{kinds};
 ghost use Rattle.format.specs.Bodies.{inline_refs};
 ghost use Rattle.format.specs.Sheets.{held_cuts};
 ghost use Rattle.inline_refs.specs.Steps.{read_from};
 ghost use Rattle.inline_refs.specs.Scans.{ref_count_of};
 ghost use Rattle.backref.specs.Reads.{positions_in};
 
-use format::Edited;
-use inline_refs::{Counted, RefStep, Start};
+use format::{Edited, Refusal};
+use inline_refs::{Cursor, Kinds};
 
-fn put_positions<'a>(
-    rows: &'a [[u8; 3]; 5],
-    body: &'a [u8],
-    start: usize,
-    count: usize,
-    positions: &mut [u16],
-)
-    requires rows_value { rows.now ≡ kinds }
-    requires body_len_bound { (length body.now ≤ most_data) × (Counted.Count count ≡ ref_count_of (read_from body.now start)) × (count ≤ length positions.old) }
+fn put_positions(kinds: &Kinds, body: &[u8], start: usize, count: usize, positions: &mut [u16])
+    requires { (length body.now ≤ most_data) × (Ok count ≡ ref_count_of (read_from body.now start)) × (count ≤ length positions.old) }
     ensures { positions.new ≡ written 0 (positions_in start (read_from body.now start)) positions.old }
 {
-    let mut at = start;
+    let mut cursor = Cursor { at: start };
     let mut i: usize = 0;
-    loop {
-        let stepped = inline_refs::step_from(rows, body, at);
-        let step = stepped.step;
-        match step {
-            RefStep::Ref { .. } => {
-                positions[i] = at as u16;
-                i += 1;
-                at = stepped.at;
-            }
-            RefStep::End => {
-                return;
-            }
-            // None is: they were counted.
-            RefStep::Refused(_) => {
-                return;
-            }
-        }
+    // No step refuses: they were counted.
+    while let Ok(Some(reference)) = cursor.step(kinds, body) {
+        positions[i] = cursor.at as u16;
+        i += 1;
+        cursor = reference.next;
     }
 }
 
-pub fn inline_refs(item_type: u8, body: &[u8], positions: &mut [u16]) -> Edited
+pub fn inline_refs(item_type: u8, body: &[u8], positions: &mut [u16]) -> Result<Edited, Refusal>
     ensures { Answered (held_cuts (length positions.old) (inline_refs item_type body.now)) result positions.old positions.new }
 {
-    match inline_refs::open_body(item_type, body) {
-        Start::Refused(refusal) => Edited::Refused(refusal),
-        Start::From(start) => {
-            let rows = inline_refs::rows();
-            match inline_refs::count_refs(&rows, body, start) {
-                Counted::Refused(refusal) => Edited::Refused(refusal),
-                Counted::Count(count) => {
-                    if positions.len() < count {
-                        return Edited::Refused(21);
-                    }
-                    put_positions(&rows, body, start, count, positions);
-                    Edited::Written(count)
-                }
-            }
-        }
+    let start = inline_refs::open_body(item_type, body)?;
+    let kinds = Kinds::new();
+    let count = inline_refs::count_refs(&kinds, body, start)?;
+    if positions.len() < count {
+        return Err(Refusal::NO_ROOM);
     }
+    put_positions(&kinds, body, start, count, positions);
+    Ok(Edited::Written(count))
 }

@@ -1,14 +1,15 @@
 // Plans that read no references: the item's type plays no part in them.
-ghost use Rattle.std.specs.Prelude.{◌≡◌, ◌+◌, ◌-◌, replicate};
+ghost use Rattle.std.specs.Prelude.{◌≡◌, ◌-◌, replicate};
+ghost use Rattle.format.specs.Questions.{told_of};
 ghost use Rattle.fields.specs.Numbers.{le_bytes};
 ghost use Rattle.fields.specs.Parts.{written};
 ghost use Rattle.format.specs.Bodies.{lowered_by_part, on_total, with_flags};
-ghost use Rattle.backref.specs.Plans.{Planned};
-ghost use Rattle.backref.specs.Reads.{head_of};
-ghost use Rattle.backref.specs.Totals.{change_total, one_fault, part_fault};
+ghost use Rattle.backref.specs.Plans.{Planned, KeepsLength};
+ghost use Rattle.backref.specs.Reads.{head_asked};
+ghost use Rattle.backref.specs.Totals.{change_total, total_by, one_asked, part_asked};
 
-use crate::{Outcome, Plan};
-use format::{BODY_HEAD, MOST_DATA};
+use crate::{BodyEdit, Plan};
+use format::{BODY_HEAD, MOST_DATA, Refusal};
 
 // What becomes of a total.
 #[derive(Clone, Copy)]
@@ -18,106 +19,95 @@ pub enum TotalChange {
     Reduce(u64),
 }
 
-// Questions 3 and 6 of a call that reads no references: 0, or the one that is answered "no".
-pub fn head_fault(body: &[u8]) -> u32
-    ensures { result ≡ head_of body.now }
+// Questions 3 and 6 of a call that reads no references.
+pub fn ask_head(body: &[u8]) -> Result<(), Refusal>
+    ensures { result ≡ head_asked body.now }
 {
     if MOST_DATA < body.len() {
-        return 3;
+        return Err(Refusal::RANGE);
     }
     if body.len() < BODY_HEAD {
-        return 6;
+        return Err(Refusal::SHORT);
     }
-    0
+    Ok(())
 }
 
 // Another total.
 fn set_total(total: u64) -> Plan
-    ensures { result ≡ record { outcome = Outcome.Edit; from = 8; to = 8; new = replicate 32 0; size = 0; total = total; count = 0 } }
+    ensures { result ≡ Plan.Edit (record { from = 8; to = 8; new = replicate 32 0; size = 0; total = total; count = 0 }) }
 {
-    crate::edit(8, 8, [0; 32], 0, total, 0)
+    Plan::Edit(BodyEdit {
+        from: 8,
+        to: 8,
+        new: [0; 32],
+        size: 0,
+        total,
+        count: 0,
+    })
 }
 
-// Totals are compared first, so that none wraps.
-pub fn plan_total(body: &[u8], change: TotalChange) -> Plan
-    ensures planned { Planned result body.now (change_total body.now change) }
-    ensures size_value { result.from + result.size ≡ result.to }
+// The total after a change, if it holds that.
+fn changed(total: u64, change: TotalChange) -> Result<u64, Refusal>
+    ensures { result ≡ told_of (total_by change total) }
 {
-    let fault = head_fault(body);
-    if fault != 0 {
-        return crate::refuse(fault);
-    }
-    let total = fields::get_u64_le(body, 0);
     match change {
-        TotalChange::Raise(amount) => {
-            if 18446744073709551615 - amount < total {
-                return crate::refuse(12);
-            }
-            set_total(total + amount)
-        }
+        TotalChange::Raise(amount) => total.checked_add(amount).ok_or(Refusal::TOTAL_FULL),
         TotalChange::LowerByOne => {
-            if total < 2 {
-                return crate::refuse(13);
-            }
-            set_total(total - 1)
+            ask_one(total)?;
+            Ok(total - 1)
         }
-        TotalChange::Reduce(amount) => {
-            if total < amount {
-                return crate::refuse(14);
-            }
-            set_total(total - amount)
-        }
+        TotalChange::Reduce(amount) => total.checked_sub(amount).ok_or(Refusal::TOTAL_LOW),
     }
 }
 
-// Question 13 of a total that one goes off: 0, or 13 where it is answered "no".
-pub fn one_fault(total: u64) -> u32
-    ensures { result ≡ one_fault total }
+pub fn plan_total(body: &[u8], change: TotalChange) -> Result<Plan, Refusal>
+    ensures planned { Planned result body.now (change_total body.now change) }
+    ensures keeps_length { KeepsLength result }
+{
+    ask_head(body)?;
+    let total = changed(fields::get_u64_le(body, 0), change)?;
+    Ok(set_total(total))
+}
+
+// Question 13 of a total that one goes off.
+pub fn ask_one(total: u64) -> Result<(), Refusal>
+    ensures { result ≡ one_asked total }
 {
     if total < 2 {
-        return 13;
+        return Err(Refusal::LAST_ONE);
     }
-    0
+    Ok(())
 }
 
-// Questions 10 and 22 of an amount that is taken where so much stands: 0, or the one that is answered "no".
-pub fn part_fault(amount: u32, standing: u32) -> u32
-    ensures { result ≡ part_fault amount standing }
+// Questions 10 and 22 of an amount that is taken where so much stands.
+pub fn ask_part(amount: u32, standing: u32) -> Result<(), Refusal>
+    ensures { result ≡ part_asked amount standing }
 {
     if amount == 0 {
-        return 10;
+        return Err(Refusal::AMOUNT);
     }
     if standing < amount {
-        return 22;
+        return Err(Refusal::TOO_MUCH);
     }
-    0
+    Ok(())
 }
 
 // The total with an amount off. In a balanced list no total is below what stands; elsewhere it ends at 0.
 pub fn total_less(total: u64, amount: u32) -> u64
     ensures { result ≡ total - amount }
 {
-    let off = amount as u64;
-    if total < off {
-        return 0;
-    }
-    total - off
+    total.saturating_sub(amount as u64)
 }
 
 // An amount off the total, where so much stands.
-pub fn plan_total_part(body: &[u8], amount: u32, standing: u32) -> Plan
+pub fn plan_total_part(body: &[u8], amount: u32, standing: u32) -> Result<Plan, Refusal>
     ensures planned { Planned result body.now (on_total body.now (lowered_by_part amount standing)) }
-    ensures size_value { result.from + result.size ≡ result.to }
+    ensures keeps_length { KeepsLength result }
 {
-    let short = head_fault(body);
-    if short != 0 {
-        return crate::refuse(short);
-    }
-    let fault = part_fault(amount, standing);
-    if fault != 0 {
-        return crate::refuse(fault);
-    }
-    set_total(total_less(fields::get_u64_le(body, 0), amount))
+    ask_head(body)?;
+    ask_part(amount, standing)?;
+    let total = fields::get_u64_le(body, 0);
+    Ok(set_total(total_less(total, amount)))
 }
 
 // A number of eight bytes in front of zeros.
@@ -129,15 +119,18 @@ fn word_bytes(word: u64) -> [u8; 32]
     new
 }
 
-pub fn plan_with_flags(body: &[u8], set: u64) -> Plan
+pub fn plan_with_flags(body: &[u8], set: u64) -> Result<Plan, Refusal>
     ensures planned { Planned result body.now (with_flags body.now set) }
-    ensures size_value { result.from + result.size ≡ result.to }
+    ensures keeps_length { KeepsLength result }
 {
-    let fault = head_fault(body);
-    if fault != 0 {
-        return crate::refuse(fault);
-    }
-    let total = fields::get_u64_le(body, 0);
+    ask_head(body)?;
     let flags = fields::get_u64_le(body, 16) | set;
-    crate::edit(16, 24, word_bytes(flags), 8, total, 0)
+    Ok(Plan::Edit(BodyEdit {
+        from: 16,
+        to: 24,
+        new: word_bytes(flags),
+        size: 8,
+        total: fields::get_u64_le(body, 0),
+        count: 0,
+    }))
 }
