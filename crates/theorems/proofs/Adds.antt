@@ -3,12 +3,13 @@ use mathlib.Core.Path.{◌≡◌, refl, sym, ap, ◌∙◌, subst}
 use mathlib.Core.Logic.{◌⊎◌, inl, inr}
 use Prim.Native.Nat.{ℕ, zero, suc, ◌+◌, ◌^◌, ◌≤◌, ◌<◌}
 use native.Mathlib.Omega.{arith}
-use mathlib.Core.Bool.{Bool, true, false, not, ◌||◌}
+use mathlib.Core.Bool.{false, not, ◌||◌}
 use mathlib.Core.Option.{none, some}
 use mathlib.Core.List.{List, [], ◌∷◌, ◌++◌}
 use lib.ListN.{length}
 use lib.Dec.{T, leb, ltb, eqb, eqb→eq, leb→le, ltb→lt}
 use mir.Facts.{or_yes, T_not}
+use Rattle.std.proofs.Math.Bool.{or-false}
 use Rattle.fields.specs.Lists.{all, Cut}
 use Rattle.fields.proofs.Lists.{all-mid, all_rest, all-put}
 use Rattle.format.specs.declared.BlockRef.{BlockRef}
@@ -73,10 +74,6 @@ whole-new m n name_ok t l =
     go u (inl h) = absurd (T_not (counted m.kind) h u)
     go u (inr h) = eqb→eq n 1 h ∙ sym (weighs-one m.kind name_ok.naming 0 u)
 
-or-false : (a : Bool) → T (a || false) → T a
-or-false true t = tt
-or-false false t = t
-
 -- ---- an accepted addition at a good position is a step
 
 module _ (m : Name) (name_ok : NameOk m) (n : ℕ) (items : List Item) (c : Cut Item) (b : Body) (H : Here m items c b)
@@ -93,7 +90,7 @@ module _ (m : Name) (name_ok : NameOk m) (n : ℕ) (items : List Item) (c : Cut 
   added-whole (standing x) (at-standing f) nine ten eleven =
       let ws : T (all whole (x.front ++ x.hit ∷ x.back)) = rw f.same at H.sound.wholes in
       let k : x.hit.kind ≡ m.kind = (named-yes m.kind m.fields x.hit f.hit).0 in
-      let cn : T (counted x.hit.kind) = rw k (or-false (counted m.kind) nine) in
+      let cn : T (counted x.hit.kind) = rw k (subst T (or-false (counted m.kind)) nine) in
       all-put whole x.front (weighed x.hit (x.hit.weight + n)) x.back (all_rest whole x.front x.hit x.back ws)
       (whole-weighed x.hit (x.hit.weight + n) (all-mid whole x.front x.hit x.back ws) (λ _. eleven)
       (λ u. absurd (T_not (counted x.hit.kind) cn u)))

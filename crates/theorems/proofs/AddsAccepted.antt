@@ -1,12 +1,13 @@
 -- The three adds are accepted exactly if their questions are answered yes. Assumes nothing.
 use mathlib.Core.Path.{◌≡◌, refl, sym, ap, ◌∙◌, subst}
 use mathlib.Core.Logic.{◌≢◌, ◌⊎◌, inl, inr}
-use mathlib.Core.Bool.{Bool, true, false, not, ◌||◌, cond}
+use mathlib.Core.Bool.{Bool, true, false, ◌||◌, cond}
 use mathlib.Core.List.{List, [], ◌∷◌, ◌++◌}
 use Prim.Native.Nat.{ℕ, zero, suc, ◌+◌, ◌*◌, ◌^◌, ◌≤◌, ◌<◌}
 use native.Mathlib.Omega.{arith}
 use lib.Dec.{T, leb, ltb, eqb, eqb→eq, leb→le, le→leb, lt→ltb}
 use lib.ListN.{length, length-append}
+use borrow.Author.Tests.{ne_eqb}
 use mir.Facts.{or_yes, yes_eqb, no_eqb}
 use Rattle.fields.specs.Lists.{sum, all, Cut}
 use Rattle.fields.specs.Numbers.{word_bytes, are_bytes}
@@ -114,7 +115,7 @@ module _ (m : Name) (nm : Formed m) (n : ℕ) (items : List Item) (c : Cut Item)
       cond_no (eqb (inline m c) 0) (1 + payload_length m.kind) 0 (no_eqb ne) in
       record {
         weight = sym i;
-        free = sym (not-eq (eqb (inline m c) 0) (no_eqb ne));
+        free = sym (ne_eqb (inline m c) 0 ne);
         sized = λ total.
             (let e₁ = length-edit b total x.front (x.hit ∷ []) (x' ∷ []) x.back e in
             let e₂ = length-ref x.hit kn sz in
@@ -122,10 +123,6 @@ module _ (m : Name) (nm : Formed m) (n : ℕ) (items : List Item) (c : Cut Item)
             let e₄ = ap length (body_bytes-read c.hit.key.kind c.hit.bytes b H.bytes H.reads) in
             omega arith);
       }
-    where
-      not-eq : (d : Bool) → T (not d) → d ≡ false
-      not-eq true t = absurd t
-      not-eq false t = refl
 
   -- an accepted addition, and one that is
   record Adds (body : List ℕ) : Type 0 where
