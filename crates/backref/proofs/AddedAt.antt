@@ -8,11 +8,13 @@ use native.Mathlib.Omega.{arith}
 use lib.Dec.{T, eqb, leb, eqb→eq}
 use lib.ListN.{length, take, length-append}
 use mir.Facts.{and_yes}
+use Rattle.std.specs.Prelude.{Result, Ok, Err}
+use Rattle.format.specs.declared.Refusal.{Refusal}
 use Rattle.fields.specs.Lists.{sum, all, same, first_cut}
 use Rattle.fields.specs.Numbers.{le, le_bytes, are_bytes}
 use Rattle.fields.specs.Parts.{part, written, spliced}
 use Rattle.fields.proofs.Lists.{by-test, all_left, all_right, same-yes}
-use Rattle.format.specs.Questions.{Answer, refused, accepted, ask, bind}
+use Rattle.format.specs.Questions.{Answer, refused, accepted, ask, bind, denied}
 use Rattle.format.specs.References.{payload_length, Ref, make_ref, ref_bytes, refs_bytes, start_of, Body, body_with, read_body, body_bytes, total_of}
 use Rattle.format.specs.Bodies.{body_fits, on_body, named}
 use Rattle.format.proofs.Refs.{whole, length-ref_bytes, refs_bytes-append}
@@ -21,12 +23,11 @@ use Rattle.format.proofs.Splices.{body-edit}
 use Rattle.inline_refs.specs.declared.ref_name.RefName.{RefName}
 use Rattle.inline_refs.specs.declared.scan.Seen.{Seen}
 use Rattle.inline_refs.specs.declared.scan.Seen.TheVariants.{Open}
-use Rattle.inline_refs.specs.declared.scan.Scan.TheVariants.{Fault, Read as Scanned}
 use Rattle.inline_refs.specs.Scans.{kind_of, fields_of, is_wanted, ref_size_of, scan_of, refs_in}
 use borrow.Author.Tests.{le-leb, leb-true}
 use Rattle.inline_refs.proofs.Views.{Between, View, viewed}
-use Rattle.backref.specs.declared.plan.Outcome.TheVariants.{Edit}
 use Rattle.backref.specs.declared.plan.Plan.{Plan}
+use Rattle.backref.specs.declared.plan.Plan.TheVariants.{Edit}
 use Rattle.backref.specs.Plans.{edited, Planned}
 use Rattle.backref.proofs.NewBytes.{Holds}
 use Rattle.backref.proofs.Outcomes.{plan-edit}
@@ -64,14 +65,14 @@ unfolding total_of
 total-read type d r t e = sym (e ∙ read-total type d r.from r.read)
 
 module _ (type : ℕ) (d : List ℕ) (w : RefName) (place : ℕ) where
-  scan-other : {X : Type 0} (seen : Seen) (n : ℕ) → Scanned seen ≡ Fault n → X
+  scan-other : {X : Type 0} (seen : Seen) (n : ℕ) → ◌≡◌ {A = Result Seen Refusal} (Ok seen) (denied n) → X
   scan-other seen n e = let z : ◌≡◌ {A = ℕ} 0 1 = cc in absurd (omega arith)
 
-  pub scan-reads : (seen : Seen) → Scanned seen ≡ scan_of w place (start_of type d) (Open false) (refs_in type d) → ReadIn type d w place seen
+  pub scan-reads : (seen : Seen) → Ok seen ≡ scan_of w place (start_of type d) (Open false) (refs_in type d) → ReadIn type d w place seen
   unfolding scan_of refs_in
   scan-reads seen e = go (decide type d)
     where
-      inner : {s t : Seen} → Scanned s ≡ Scanned t → s ≡ t
+      inner : {s t : Seen} → ◌≡◌ {A = Result Seen Refusal} (Ok s) (Ok t) → s ≡ t
       inner q = cc
 
       go : Decided type d → ReadIn type d w place seen
@@ -83,13 +84,17 @@ module _ (type : ℕ) (d : List ℕ) (w : RefName) (place : ℕ) where
       }
       go (faulty n f) = scan-other seen n (rw (f (List Ref) (λ x. accepted x.refs)) at e)
 
-  pub scan-faults : {A : Type 0} (n : ℕ) (next : Body → Answer A) → Fault n ≡ scan_of w place (start_of type d) (Open false) (refs_in type d)
+  pub scan-faults : {A : Type 0} (n : ℕ) (next : Body → Answer A) → denied n ≡ scan_of w place (start_of type d) (Open false) (refs_in type d)
       → on_body type d next ≡ refused n
   unfolding scan_of refs_in
   scan-faults n next e = go (decide type d)
     where
-      inner : {s t : ℕ} → Fault s ≡ Fault t → t ≡ s
-      inner q = cc
+      number_in : Result Seen Refusal → ℕ
+      number_in (Ok seen) = 0
+      number_in (Err refusal) = refusal.number
+
+      inner : {s t : ℕ} → ◌≡◌ {A = Result Seen Refusal} (denied s) (denied t) → t ≡ s
+      inner q = sym (ap number_in q)
 
       go : Decided type d → on_body type d next ≡ refused n
       go (readable b h q) = scan-other _ n (sym (rw (on-body type d b (λ x. accepted x.refs) h q) at e))
@@ -144,17 +149,10 @@ module _ (type : ℕ) (d : List ℕ) (b : Body) (bytes : T (are_bytes d)) (e : r
 
 -- ---- a plan that edits there
 
-abbrev pub plan_of : ℕ → ℕ → List ℕ → ℕ → ℕ → ℕ → Plan
-plan_of p q new size t count = record { outcome = Edit; from = p; to = q; new = new; size = size; total = t; count = count }
+abbrev pub plan_of : ℕ → ℕ → List ℕ → ℕ → ℕ → ℕ → Result Plan Refusal
+plan_of p q new size t count = Ok (Edit (record { from = p; to = q; new = new; size = size; total = t; count = count }))
 
--- a plan that puts a reference there, by its own bytes
-pub own-bytes : (w : RefName) (count from to t size : ℕ) (new : List ℕ) (plan : Plan) → size ≡ 1 + payload_length (kind_of w) → Holds w count new
-    → plan ≡ plan_of from to new size t 0 → (plan ≡ plan_of from to plan.new (1 + payload_length (kind_of w)) t 0) × Holds w count plan.new
-own-bytes w count from to t size new plan s n e =
-    let is-new : new ≡ plan.new = ap (λ (q : Plan). q.new) (sym e) in
-    (e ∙ (λ j. plan_of from to (is-new j) (s j) t 0), subst (Holds w count) is-new n)
-
-pub adding-plan : (plan : Plan) (d : List ℕ) (b : Body) (front old back : List Ref) (p q : ℕ) (bytes : List ℕ) (size t count : ℕ) (new : List Ref)
+pub adding-plan : (plan : Result Plan Refusal) (d : List ℕ) (b : Body) (front old back : List Ref) (p q : ℕ) (bytes : List ℕ) (size t count : ℕ) (new : List Ref)
     (answer : Answer (List ℕ)) → Place d b front old back p q → length d ≤ 65535
     → plan ≡ plan_of p q bytes size t count
     → take size bytes ≡ refs_bytes new → length bytes ≡ 32 → size ≤ 29
@@ -162,11 +160,10 @@ pub adding-plan : (plan : Plan) (d : List ℕ) (b : Body) (front old back : List
     → Planned plan d answer
 unfolding edited
 adding-plan plan d b front old back p q bytes size t count new answer h fits e first_cut full small is =
-    subst (λ (x : Plan). Planned x d answer) (sym e)
-    (plan-edit (plan_of p q bytes size t count) d answer (body_bytes (body_with b t (front ++ (new ++ back)))) refl
+    plan-edit plan d answer _ (body_bytes (body_with b t (front ++ (new ++ back)))) e
     (record { low = h.low; order = h.order; high = h.high; fits = fits; small = small; full = full })
     is
-    (h.edits t new ∙ ap (λ (l : List ℕ). written 0 (le_bytes 8 t) (spliced p q l d)) (sym first_cut)))
+    (h.edits t new ∙ ap (λ (l : List ℕ). written 0 (le_bytes 8 t) (spliced p q l d)) (sym first_cut))
 
 -- ---- the wanted reference
 

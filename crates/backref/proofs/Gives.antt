@@ -8,11 +8,13 @@ use native.Mathlib.Omega.{arith}
 use lib.Dec.{T, eqb}
 use lib.ListN.{length, take}
 use borrow.Author.Tests.{le-ltb, lt-ltb}
+use Rattle.std.specs.Prelude.{Result, Ok, Err}
+use Rattle.format.specs.declared.Refusal.{Refusal}
 use Rattle.fields.specs.Lists.{all}
 use Rattle.fields.specs.Numbers.{le, are_bytes}
 use Rattle.fields.specs.Parts.{part}
 use Rattle.fields.proofs.Lists.{lt-or}
-use Rattle.format.specs.Questions.{Answer, refused, accepted, ask, bind}
+use Rattle.format.specs.Questions.{Answer, refused, accepted, ask, bind, denied}
 use Rattle.format.specs.References.{payload_length, counted, Ref, ref_bytes, start_of, rank_of, Body, body_with, read_body, body_bytes}
 use Rattle.format.specs.Bodies.{on_body, shared_kind, weighed, raised_by, RefPosition, gap, standing, position_anywhere, is_gap, standing_weight, added_at, add_at, add_inline_data, add_inline_shared, keyed_at}
 use Rattle.format.proofs.Bodies.{on-body}
@@ -21,20 +23,19 @@ use Rattle.inline_refs.specs.declared.ref_name.RefName.{RefName}
 use Rattle.inline_refs.specs.declared.ref_name.RefName.TheVariants.{Block, Data, SharedBlock, SharedData}
 use Rattle.inline_refs.specs.declared.scan.Seen.{Seen}
 use Rattle.inline_refs.specs.declared.scan.Seen.TheVariants.{Open, Gap, Hit, Late}
-use Rattle.inline_refs.specs.declared.scan.Scan.TheVariants.{Fault}
+use Rattle.inline_refs.specs.declared.noted.Found.{Found}
 use Rattle.inline_refs.specs.declared.noted.AddAt.{AddAt}
 use Rattle.inline_refs.specs.declared.noted.AddAt.TheVariants.{Gap as NewAt, Standing}
 use Rattle.inline_refs.specs.Scans.{kind_of, fields_of, scan_of, refs_in, add_anywhere, others_in}
 use Rattle.inline_refs.proofs.Views.{View, any_others}
 use Rattle.inline_refs.proofs.RefPositions.{PositionView, position-anywhere, position-by-scan}
-use Rattle.backref.specs.declared.plan.Outcome.TheVariants.{Refused}
 use Rattle.backref.specs.declared.plan.Plan.{Plan}
 use Rattle.backref.specs.Plans.{Planned}
-use Rattle.backref.specs.ByName.{new_ref, own_rank, by_scan, position_of, add_at_of, Raised, add_inline, add_keyed}
+use Rattle.backref.specs.ByName.{new_ref, own_rank, by_scan, position_of, add_at_of, PutsRef, Raised, add_inline, add_keyed}
 use Rattle.backref.proofs.NewBytes.{Holds, wanted-small}
 use Rattle.backref.proofs.Outcomes.{plan-refused}
 use Rattle.backref.proofs.PlannedTotals.{raised-yes, raised-no}
-use Rattle.backref.proofs.AddedAt.{ReadIn, total-read, scan-faults, ends, placed, plan_of, adding-plan, own-bytes, wanted-is}
+use Rattle.backref.proofs.AddedAt.{ReadIn, total-read, scan-faults, ends, placed, plan_of, adding-plan, wanted-is}
 
 or-true : (b : Bool) → b || true ≡ true
 or-true true = refl
@@ -60,7 +61,7 @@ any-position type d w rank seen i b r e =
 
 -- ---- the edit at a position
 
-module _ (type : ℕ) (d : List ℕ) (w : RefName) (amount : ℕ) (plan : Plan) (b : Body) (fits : length d ≤ 65535) (read : read_body type d ≡ accepted b)
+module _ (type : ℕ) (d : List ℕ) (w : RefName) (amount : ℕ) (plan : Result Plan Refusal) (b : Body) (fits : length d ≤ 65535) (read : read_body type d ≡ accepted b)
     (bytes : T (are_bytes d)) (t size : ℕ) (new : List ℕ) (s : size ≡ 1 + payload_length (kind_of w)) (answer : Answer (List ℕ)) where
   pub put-new : (p : ℕ) (position : RefPosition) → PositionView w (start_of type d) b.refs (NewAt p) position → Holds w amount new → plan ≡ plan_of p p new size t 0
       → answer ≡ accepted (body_bytes (body_with b t (added_at (new_ref w amount) position))) → Planned plan d answer
@@ -69,16 +70,16 @@ module _ (type : ℕ) (d : List ℕ) (w : RefName) (amount : ℕ) (plan : Plan) 
       (ap (λ (m : ℕ). take m new) s ∙ n.front ∙ sym (refs_bytes-one (new_ref w amount))) n.long (wanted-small w size s) e
   put-new p (standing c) v n o e = absurd v
 
-  pub put-more : (p q x : ℕ) (position : RefPosition) → PositionView w (start_of type d) b.refs (Standing p q x) position → Holds w (x + amount) new
-      → plan ≡ plan_of p q new size t 0
+  pub put-more : (f : Found) (position : RefPosition) → PositionView w (start_of type d) b.refs (Standing f) position → Holds w (f.weight + amount) new
+      → plan ≡ plan_of f.at f.next new size t 0
       → answer ≡ accepted (body_bytes (body_with b t (added_at (new_ref w amount) position))) → Planned plan d answer
-  put-more p q x (gap front back) v n o e = absurd v
-  put-more p q x (standing c) v n o e =
+  put-more f (gap front back) v n o e = absurd v
+  put-more f (standing c) v n o e =
       let left : Ref = weighed c.hit (c.hit.weight + amount) in
-      let same : left ≡ new_ref w (x + amount) =
+      let same : left ≡ new_ref w (f.weight + amount) =
       wanted-is w c.hit (c.hit.weight + amount) v.wanted ∙ ap (λ (m : ℕ). new_ref w (m + amount)) (sym v.weighs) in
-      adding-plan plan d b c.front (c.hit ∷ []) c.back p q new size t 0 (left ∷ []) answer
-      (placed type d b bytes read c.front (c.hit ∷ []) c.back p q v.between) fits o
+      adding-plan plan d b c.front (c.hit ∷ []) c.back f.at f.next new size t 0 (left ∷ []) answer
+      (placed type d b bytes read c.front (c.hit ∷ []) c.back f.at f.next v.between) fits o
       (ap (λ (m : ℕ). take m new) s ∙ n.front ∙ sym (ap ref_bytes same) ∙ sym (refs_bytes-one left)) n.long (wanted-small w size s) e
 
 -- ---- the questions of an added reference
@@ -99,26 +100,26 @@ module _ (start : ℕ) (refs : List Ref) (w : RefName) (amount : ℕ) (b : Body)
       simp (or-true, h, lt-ltb _ _ z, e)
   add-gap p (standing c) v h k a e = absurd v
 
-  pub add-nine : (p q x : ℕ) (position : RefPosition) → PositionView w start refs (Standing p q x) position → counted (kind_of w) ≡ false
+  pub add-nine : (f : Found) (position : RefPosition) → PositionView w start refs (Standing f) position → counted (kind_of w) ≡ false
       → add_at b (new_ref w amount) position ≡ refused 9
   unfolding add_at ask is_gap
-  add-nine p q x (gap front back) v h = absurd v
-  add-nine p q x (standing c) v h = simp h
+  add-nine f (gap front back) v h = absurd v
+  add-nine f (standing c) v h = simp h
 
-  pub add-eleven : (p q x : ℕ) (position : RefPosition) → PositionView w start refs (Standing p q x) position → counted (kind_of w) ≡ true → 4294967295 - amount < x
+  pub add-eleven : (f : Found) (position : RefPosition) → PositionView w start refs (Standing f) position → counted (kind_of w) ≡ true → 4294967295 - amount < f.weight
       → add_at b (new_ref w amount) position ≡ refused 11
   unfolding add_at ask is_gap standing_weight
-  add-eleven p q x (gap front back) v h k = absurd v
-  add-eleven p q x (standing c) v h k =
+  add-eleven f (gap front back) v h k = absurd v
+  add-eleven f (standing c) v h k =
       let z : 2 ^ 32 ≤ c.hit.weight + amount = omega (arith, v.weighs) in
       simp (h, le-ltb _ _ z)
 
-  pub add-standing : (p q x : ℕ) (position : RefPosition) → PositionView w start refs (Standing p q x) position → counted (kind_of w) ≡ true → x ≤ 4294967295 - amount
+  pub add-standing : (f : Found) (position : RefPosition) → PositionView w start refs (Standing f) position → counted (kind_of w) ≡ true → f.weight ≤ 4294967295 - amount
       → amount < 4294967296 → (a : Answer ℕ) → raised_by amount b.total ≡ a
       → add_at b (new_ref w amount) position ≡ bind a (λ total. accepted (body_bytes (body_with b total (added_at (new_ref w amount) position))))
   unfolding add_at ask is_gap standing_weight
-  add-standing p q x (gap front back) v h k l a e = absurd v
-  add-standing p q x (standing c) v h k l a e =
+  add-standing f (gap front back) v h k l a e = absurd v
+  add-standing f (standing c) v h k l a e =
       let z : c.hit.weight + amount < 2 ^ 32 = omega (arith, v.weighs) in
       simp (h, lt-ltb _ _ z, e)
 
@@ -133,7 +134,7 @@ add_is type d (SharedData parent) amount = refl
 
 -- ---- the ways out of an add, from what the scan and its position say
 
-module _ (type : ℕ) (d : List ℕ) (w : RefName) (rank amount : ℕ) (plan : Plan) (seen : Seen) (r : ReadIn type d w rank seen)
+module _ (type : ℕ) (d : List ℕ) (w : RefName) (rank amount : ℕ) (plan : Result Plan Refusal) (seen : Seen) (r : ReadIn type d w rank seen)
     (bytes : T (are_bytes d)) (own : rank ≡ own_rank w) where
   abbrev position : RefPosition
   position = position_of (by_scan w) w r.from.refs
@@ -151,11 +152,11 @@ module _ (type : ℕ) (d : List ℕ) (w : RefName) (rank amount : ℕ) (plan : P
   view-of i e = own-position type d w rank seen (by_scan w) i bytes own r e
 
   module _ (p : ℕ) (i : NewAt p ≡ add_at_of (by_scan w) (length d) seen) where
-    pub give-ten : counted (kind_of w) || eqb amount 1 ≡ false → plan.outcome ≡ Refused 10 → Planned plan d given
+    pub give-ten : counted (kind_of w) || eqb amount 1 ≡ false → plan ≡ denied 10 → Planned plan d given
     give-ten h o = plan-refused plan d given 10 o (given_is ∙ add-ten (start_of type d) r.from.refs w amount r.from p position (view-of (NewAt p) i) h)
 
     module _ (h : counted (kind_of w) || eqb amount 1 ≡ true) (small : amount < 4294967296) (t : ℕ) (is : t ≡ le (part 0 8 d)) where
-      give-full : 18446744073709551615 - amount < t → plan.outcome ≡ Refused 12 → Planned plan d given
+      give-full : 18446744073709551615 - amount < t → plan ≡ denied 12 → Planned plan d given
       unfolding bind
       give-full k o =
           plan-refused plan d given 12 o
@@ -175,55 +176,53 @@ module _ (type : ℕ) (d : List ℕ) (w : RefName) (rank amount : ℕ) (plan : P
         where
           go : (18446744073709551615 - amount < t) ⊎ (t ≤ 18446744073709551615 - amount) → Planned plan d given
           go (inl k) = give-full k (u.full k)
-          go (inr k) = give-new _ _ k refl (record { front = u.front k; long = u.long k }) (u.is k)
+          go (inr k) = let x = u.puts k in give-new _ _ k refl (record { front = x.2.front; long = x.2.long }) (x.1 ∙ ap Ok x.2.is)
 
-  module _ (p q x : ℕ) (i : Standing p q x ≡ add_at_of (by_scan w) (length d) seen) where
-    pub give-nine : counted (kind_of w) ≡ false → plan.outcome ≡ Refused 9 → Planned plan d given
-    give-nine h o = plan-refused plan d given 9 o (given_is ∙ add-nine (start_of type d) r.from.refs w amount r.from p q x position (view-of (Standing p q x) i) h)
+  module _ (f : Found) (i : Standing f ≡ add_at_of (by_scan w) (length d) seen) where
+    pub give-nine : counted (kind_of w) ≡ false → plan ≡ denied 9 → Planned plan d given
+    give-nine h o = plan-refused plan d given 9 o (given_is ∙ add-nine (start_of type d) r.from.refs w amount r.from f position (view-of (Standing f) i) h)
 
     module _ (h : counted (kind_of w) ≡ true) where
-      pub give-eleven : 4294967295 - amount < x → plan.outcome ≡ Refused 11 → Planned plan d given
+      pub give-eleven : 4294967295 - amount < f.weight → plan ≡ denied 11 → Planned plan d given
       give-eleven k o =
           plan-refused plan d given 11 o
-          (given_is ∙ add-eleven (start_of type d) r.from.refs w amount r.from p q x position (view-of (Standing p q x) i) h k)
+          (given_is ∙ add-eleven (start_of type d) r.from.refs w amount r.from f position (view-of (Standing f) i) h k)
 
-      module _ (l : x ≤ 4294967295 - amount) (small : amount < 4294967296) (t : ℕ) (is : t ≡ le (part 0 8 d)) where
-        give-full-more : 18446744073709551615 - amount < t → plan.outcome ≡ Refused 12 → Planned plan d given
+      module _ (l : f.weight ≤ 4294967295 - amount) (small : amount < 4294967296) (t : ℕ) (is : t ≡ le (part 0 8 d)) where
+        give-full-more : 18446744073709551615 - amount < t → plan ≡ denied 12 → Planned plan d given
         unfolding bind
         give-full-more k o =
             plan-refused plan d given 12 o
-            (given_is ∙ add-standing (start_of type d) r.from.refs w amount r.from p q x position (view-of (Standing p q x) i) h l small (refused 12)
+            (given_is ∙ add-standing (start_of type d) r.from.refs w amount r.from f position (view-of (Standing f) i) h l small (refused 12)
             (ap (raised_by amount) (total-read type d r t is) ∙ raised-no t amount k))
 
-        give-more : (size : ℕ) (new : List ℕ) → t ≤ 18446744073709551615 - amount → size ≡ 1 + payload_length (kind_of w) → Holds w (x + amount) new
-            → plan ≡ plan_of p q new size (t + amount) 0 → Planned plan d given
+        give-more : (size : ℕ) (new : List ℕ) → t ≤ 18446744073709551615 - amount → size ≡ 1 + payload_length (kind_of w) → Holds w (f.weight + amount) new
+            → plan ≡ plan_of f.at f.next new size (t + amount) 0 → Planned plan d given
         unfolding bind
         give-more size new k s n o =
-            put-more type d w amount plan r.from r.fits r.read bytes (t + amount) size new s given p q x position (view-of (Standing p q x) i) n o
-            (given_is ∙ add-standing (start_of type d) r.from.refs w amount r.from p q x position (view-of (Standing p q x) i) h l small (accepted (t + amount))
+            put-more type d w amount plan r.from r.fits r.read bytes (t + amount) size new s given f position (view-of (Standing f) i) n o
+            (given_is ∙ add-standing (start_of type d) r.from.refs w amount r.from f position (view-of (Standing f) i) h l small (accepted (t + amount))
             (ap (raised_by amount) (total-read type d r t is) ∙ raised-yes t amount k (omega arith)))
 
-        pub give-standing : Raised p q w (x + amount) t amount plan → Planned plan d given
+        pub give-standing : Raised f.at f.next w (f.weight + amount) t amount plan → Planned plan d given
         give-standing u = go (lt-or (18446744073709551615 - amount) t)
           where
             go : (18446744073709551615 - amount < t) ⊎ (t ≤ 18446744073709551615 - amount) → Planned plan d given
             go (inl k) = give-full-more k (u.full k)
-            go (inr k) = give-more _ _ k refl (record { front = u.front k; long = u.long k }) (u.is k)
+            go (inr k) = let x = u.puts k in give-more _ _ k refl (record { front = x.2.front; long = x.2.long }) (x.1 ∙ ap Ok x.2.is)
 
 -- ---- the edit where the total holds the sum, and where it does not
 
-module _ {from to : ℕ} {w : RefName} {count total amount : ℕ} {p : Plan} where
-  pub raise-full : 18446744073709551615 - amount < total → p.outcome ≡ Refused 12 → Raised from to w count total amount p
-  raise-full h o = record { full = λ _. o; is = λ k. absurd (omega arith); front = λ k. absurd (omega arith); long = λ k. absurd (omega arith) }
+module _ {from to : ℕ} {w : RefName} {count total amount : ℕ} {p : Result Plan Refusal} where
+  pub raise-full : 18446744073709551615 - amount < total → p ≡ denied 12 → Raised from to w count total amount p
+  raise-full h o = record { full = λ k. o; puts = λ k. absurd (omega arith) }
 
-  pub raise-edit : (size : ℕ) (new : List ℕ) → total ≤ 18446744073709551615 - amount → size ≡ 1 + payload_length (kind_of w) → Holds w count new
-      → p ≡ plan_of from to new size (total + amount) 0 → Raised from to w count total amount p
-  raise-edit size new h s n e =
-      let own = own-bytes w count from to (total + amount) size new p s n e in
-      record { full = λ k. absurd (omega arith); is = λ _. own.0; front = λ _. own.1.front; long = λ _. own.1.long }
+  pub raise-edit : (plan : Plan) → total ≤ 18446744073709551615 - amount → p ≡ Ok plan → PutsRef from to w count (total + amount) plan
+      → Raised from to w count total amount p
+  raise-edit plan h e q = record { full = λ k. absurd (omega arith); puts = λ k. (plan, e, q) }
 
-pub give-fault : (type : ℕ) (d : List ℕ) (w : RefName) (rank amount n : ℕ) (plan : Plan)
-    → Fault n ≡ scan_of w rank (start_of type d) (Open false) (refs_in type d) → plan.outcome ≡ Refused n → Planned plan d (add_inline type d w amount)
+pub give-fault : (type : ℕ) (d : List ℕ) (w : RefName) (rank amount n : ℕ) (plan : Result Plan Refusal)
+    → denied n ≡ scan_of w rank (start_of type d) (Open false) (refs_in type d) → plan ≡ denied n → Planned plan d (add_inline type d w amount)
 give-fault type d w rank amount n plan e o =
     plan-refused plan d (add_inline type d w amount) n o (add_is type d w amount ∙ scan-faults type d w rank n _ e)
 
@@ -242,14 +241,14 @@ others-are : (w : RefName) (rank start end p : ℕ) (refs : List Ref) (seen : Se
 unfolding others_in add_anywhere
 others-are w rank start end p refs (Open others) v e = v.2
 others-are w rank start end p refs (Gap at others) v e = v.2
-others-are w rank start end p refs (Hit a b c) v e = let z : ◌≡◌ {A = ℕ} 0 1 = cc in absurd (omega arith)
-others-are w rank start end p refs (Late g a b c) v e = let z : ◌≡◌ {A = ℕ} 0 1 = cc in absurd (omega arith)
+others-are w rank start end p refs (Hit f) v e = let z : ◌≡◌ {A = ℕ} 0 1 = cc in absurd (omega arith)
+others-are w rank start end p refs (Late g f) v e = let z : ◌≡◌ {A = ℕ} 0 1 = cc in absurd (omega arith)
 
 ten : (c others al : Bool) → al ≡ not others → not c || not true || al ≡ not c || not others
 ten true others al e = e
 ten false others al e = refl
 
-module _ (type : ℕ) (d : List ℕ) (w : RefName) (rank amount : ℕ) (plan : Plan) (seen : Seen) (r : ReadIn type d w rank seen)
+module _ (type : ℕ) (d : List ℕ) (w : RefName) (rank amount : ℕ) (plan : Result Plan Refusal) (seen : Seen) (r : ReadIn type d w rank seen)
     (bytes : T (are_bytes d)) where
   abbrev key_position : RefPosition
   key_position = position_anywhere (kind_of w) (fields_of w) rank r.from.refs
@@ -286,23 +285,23 @@ module _ (type : ℕ) (d : List ℕ) (w : RefName) (rank amount : ℕ) (plan : P
       simp (or-true, ten (counted (kind_of w)) (any_others w rank r.from.refs) (all (λ s. not (eqb s.kind (kind_of w))) r.from.refs) (all-not w rank r.from.refs) ∙ h, lt-ltb _ _ z)
   gap-yes p (standing c) v h k = absurd v
 
-  stands-nine : (p q x : ℕ) (position : RefPosition) → key_added (Standing p q x) position → counted (kind_of w) ≡ false → key_answer position ≡ refused 9
+  stands-nine : (f : Found) (position : RefPosition) → key_added (Standing f) position → counted (kind_of w) ≡ false → key_answer position ≡ refused 9
   unfolding keyed_at ask is_gap
-  stands-nine p q x (gap front back) v h = absurd v
-  stands-nine p q x (standing c) v h = simp h
+  stands-nine f (gap front back) v h = absurd v
+  stands-nine f (standing c) v h = simp h
 
-  stands-eleven : (p q x : ℕ) (position : RefPosition) → key_added (Standing p q x) position → counted (kind_of w) ≡ true → 4294967295 - amount < x → key_answer position ≡ refused 11
+  stands-eleven : (f : Found) (position : RefPosition) → key_added (Standing f) position → counted (kind_of w) ≡ true → 4294967295 - amount < f.weight → key_answer position ≡ refused 11
   unfolding keyed_at ask is_gap standing_weight
-  stands-eleven p q x (gap front back) v h k = absurd v
-  stands-eleven p q x (standing c) v h k =
+  stands-eleven f (gap front back) v h k = absurd v
+  stands-eleven f (standing c) v h k =
       let z : 2 ^ 32 ≤ c.hit.weight + amount = omega (arith, v.weighs) in
       simp (h, le-ltb _ _ z)
 
-  stands-yes : (p q x : ℕ) (position : RefPosition) → key_added (Standing p q x) position → counted (kind_of w) ≡ true → x ≤ 4294967295 - amount → amount < 4294967296
+  stands-yes : (f : Found) (position : RefPosition) → key_added (Standing f) position → counted (kind_of w) ≡ true → f.weight ≤ 4294967295 - amount → amount < 4294967296
       → key_answer position ≡ done position
   unfolding keyed_at ask is_gap standing_weight done
-  stands-yes p q x (gap front back) v h k l = absurd v
-  stands-yes p q x (standing c) v h k l =
+  stands-yes f (gap front back) v h k l = absurd v
+  stands-yes f (standing c) v h k l =
       let z : c.hit.weight + amount < 2 ^ 32 = omega (arith, v.weighs) in
       simp (h, lt-ltb _ _ z)
 
@@ -314,7 +313,7 @@ module _ (type : ℕ) (d : List ℕ) (w : RefName) (rank amount : ℕ) (plan : P
     others-here : others ≡ any_others w rank r.from.refs
     others-here = k ∙ others-are w rank (start_of type d) (length d) p r.from.refs seen r.view i
 
-    pub key-ten : not (counted (kind_of w)) || not others ≡ false → plan.outcome ≡ Refused 10 → Planned plan d keyed
+    pub key-ten : not (counted (kind_of w)) || not others ≡ false → plan ≡ denied 10 → Planned plan d keyed
     key-ten h o = plan-refused plan d keyed 10 o (keyed-is ∙ gap-no p key_position (key-view (NewAt p) i) (rw others-here at h))
 
     pub key-new : (t size : ℕ) (new : List ℕ) → not (counted (kind_of w)) || not others ≡ true → amount < 4294967296 → t ≡ le (part 0 8 d)
@@ -323,20 +322,20 @@ module _ (type : ℕ) (d : List ℕ) (w : RefName) (rank amount : ℕ) (plan : P
         put-new type d w amount plan r.from r.fits r.read bytes t size new s keyed p key_position (key-view (NewAt p) i) n o
         (keyed-is ∙ gap-yes p key_position (key-view (NewAt p) i) (rw others-here at h) small ∙ done_at t e key_position)
 
-  module _ (p q x : ℕ) (i : Standing p q x ≡ add_anywhere (length d) seen) where
-    pub key-nine : counted (kind_of w) ≡ false → plan.outcome ≡ Refused 9 → Planned plan d keyed
-    key-nine h o = plan-refused plan d keyed 9 o (keyed-is ∙ stands-nine p q x key_position (key-view (Standing p q x) i) h)
+  module _ (f : Found) (i : Standing f ≡ add_anywhere (length d) seen) where
+    pub key-nine : counted (kind_of w) ≡ false → plan ≡ denied 9 → Planned plan d keyed
+    key-nine h o = plan-refused plan d keyed 9 o (keyed-is ∙ stands-nine f key_position (key-view (Standing f) i) h)
 
-    pub key-eleven : counted (kind_of w) ≡ true → 4294967295 - amount < x → plan.outcome ≡ Refused 11 → Planned plan d keyed
-    key-eleven h k o = plan-refused plan d keyed 11 o (keyed-is ∙ stands-eleven p q x key_position (key-view (Standing p q x) i) h k)
+    pub key-eleven : counted (kind_of w) ≡ true → 4294967295 - amount < f.weight → plan ≡ denied 11 → Planned plan d keyed
+    key-eleven h k o = plan-refused plan d keyed 11 o (keyed-is ∙ stands-eleven f key_position (key-view (Standing f) i) h k)
 
-    pub key_more : (t size : ℕ) (new : List ℕ) → counted (kind_of w) ≡ true → x ≤ 4294967295 - amount → amount < 4294967296 → t ≡ le (part 0 8 d)
-        → size ≡ 1 + payload_length (kind_of w) → Holds w (x + amount) new → plan ≡ plan_of p q new size t 0 → Planned plan d keyed
+    pub key_more : (t size : ℕ) (new : List ℕ) → counted (kind_of w) ≡ true → f.weight ≤ 4294967295 - amount → amount < 4294967296 → t ≡ le (part 0 8 d)
+        → size ≡ 1 + payload_length (kind_of w) → Holds w (f.weight + amount) new → plan ≡ plan_of f.at f.next new size t 0 → Planned plan d keyed
     key_more t size new h k small e s n o =
-        put-more type d w amount plan r.from r.fits r.read bytes t size new s keyed p q x key_position (key-view (Standing p q x) i) n o
-        (keyed-is ∙ stands-yes p q x key_position (key-view (Standing p q x) i) h k small ∙ done_at t e key_position)
+        put-more type d w amount plan r.from r.fits r.read bytes t size new s keyed f key_position (key-view (Standing f) i) n o
+        (keyed-is ∙ stands-yes f key_position (key-view (Standing f) i) h k small ∙ done_at t e key_position)
 
-pub key-fault : (type : ℕ) (d : List ℕ) (w : RefName) (rank amount n : ℕ) (plan : Plan)
-    → Fault n ≡ scan_of w rank (start_of type d) (Open false) (refs_in type d) → plan.outcome ≡ Refused n → Planned plan d (add_keyed type d w rank amount)
+pub key-fault : (type : ℕ) (d : List ℕ) (w : RefName) (rank amount n : ℕ) (plan : Result Plan Refusal)
+    → denied n ≡ scan_of w rank (start_of type d) (Open false) (refs_in type d) → plan ≡ denied n → Planned plan d (add_keyed type d w rank amount)
 unfolding add_keyed
 key-fault type d w rank amount n plan e o = plan-refused plan d (add_keyed type d w rank amount) n o (scan-faults type d w rank n _ e)

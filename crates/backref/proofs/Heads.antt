@@ -8,14 +8,16 @@ use lib.Bits.{bit_or}
 use lib.Dec.{T, leb}
 use lib.ListN.{length, take, drop, replicate, take-append-drop}
 use borrow.Author.Tests.{le-leb, lt-leb, leb-true}
+use Rattle.std.specs.Prelude.{Option, Some, None, Result, Ok, Err}
+use Rattle.format.specs.declared.Refusal.{Refusal}
 use Rattle.fields.specs.Numbers.{le, le_bytes, are_bytes}
 use Rattle.fields.specs.Parts.{part, written, spliced}
 use Rattle.fields.proofs.Numbers.{length-le_bytes}
 use Rattle.format.specs.declared.Told.TheVariants.{Value, Refused as Untold}
-use Rattle.format.specs.Questions.{Answer, refused, accepted, ask, bind, told_of}
+use Rattle.format.specs.Questions.{Answer, refused, accepted, ask, bind, told_of, denied}
 use Rattle.format.specs.References.{total_of, flags_of}
 use Rattle.format.specs.Bodies.{body_fits, on_head, on_total, raise_total, lower_total, reduce_total, flags, with_flags}
-use Rattle.backref.specs.declared.plan.Outcome.TheVariants.{Edit, Refused}
+use Rattle.backref.specs.declared.plan.Plan.TheVariants.{Edit, Absent, Remove}
 use Rattle.backref.specs.declared.plan.Plan.{Plan}
 use Rattle.backref.specs.Plans.{edited, Planned}
 use Rattle.backref.specs.Reads.{head_of}
@@ -93,7 +95,7 @@ change-is body (Reduce amount) = refl
 pub change-told : {change that : TotalChange} {a : Answer ℕ} (t : ℕ) → change ≡ that → total_by that t ≡ a → total_by change t ≡ a
 change-told t e h = ap (λ (x : TotalChange). total_by x t) e ∙ h
 
-pub head-refused : (body : List ℕ) (n : ℕ) → n ≡ head_of body → (p : Plan) (next : Answer (List ℕ)) → (n ≡ 0 → ⊥) → p.outcome ≡ Refused n
+pub head-refused : (body : List ℕ) (n : ℕ) → n ≡ head_of body → (p : Result Plan Refusal) (next : Answer (List ℕ)) → (n ≡ 0 → ⊥) → p ≡ denied n
     → Planned p body (on_head body next)
 head-refused body n q p next z e = plan-refused p body (on_head body next) n e ((head body n q).refuses next z)
 
@@ -101,13 +103,13 @@ head-refused body n q p next z e = plan-refused p body (on_head body next) n e (
 module _ (body : List ℕ) (moved : ℕ → Answer ℕ) (answer : Answer (List ℕ)) where
   -- behind questions 3 and 6: the plan, once it is known what the total becomes
   pub record Behind (t : ℕ) : Type 0 where
-    pub refuses : (p : Plan) (m : ℕ) → moved t ≡ refused m → (p.outcome ≡ Refused m) × (p.from + p.size ≡ p.to)
+    pub refuses : (p : Result Plan Refusal) (m : ℕ) → moved t ≡ refused m → (p ≡ denied m) × (p.from + p.size ≡ p.to)
         → Planned p body answer × (p.from + p.size ≡ p.to)
-    pub plans : (p : Plan) (new : ℕ) → moved t ≡ accepted new → p ≡ total_plan new
+    pub plans : (p : Result Plan Refusal) (new : ℕ) → moved t ≡ accepted new → p ≡ total_plan new
         → Planned p body answer × (p.from + p.size ≡ p.to)
 
   module _ (whole : answer ≡ on_total body moved) (n : ℕ) (q : n ≡ head_of body) where
-    pub total_head : (p : Plan) → (n ≡ 0 → ⊥) → p.outcome ≡ Refused n → Planned p body answer
+    pub total_head : (p : Result Plan Refusal) → (n ≡ 0 → ⊥) → p ≡ denied n → Planned p body answer
     unfolding on_total
     total_head p z e = plan-same p body _ answer (sym whole) (head-refused body n q p _ z e)
 
@@ -142,7 +144,7 @@ module _ (body : List ℕ) (n : ℕ) (q : n ≡ head_of body) where
   unfolding told_of flags flags_of
   flags-are f z e = ap Value e ∙ sym (ap told_of ((head body n q).passes (accepted (flags_of body)) z))
 
-pub flags-plan : (body : List ℕ) (n t f set : ℕ) (p : Plan) (new : List ℕ) → n ≡ head_of body → n ≡ 0 → T (are_bytes body) → t ≡ le (part 0 8 body)
+pub flags-plan : (body : List ℕ) (n t f set : ℕ) (p : Result Plan Refusal) (new : List ℕ) → n ≡ head_of body → n ≡ 0 → T (are_bytes body) → t ≡ le (part 0 8 body)
     → f ≡ le (part 16 8 body) → new ≡ written 0 (le_bytes 8 (bit_or f set)) (replicate 32 0)
     → p ≡ record { outcome = Edit; from = 16; to = 24; new = new; size = 8; total = t; count = 0 }
     → Planned p body (with_flags body set)

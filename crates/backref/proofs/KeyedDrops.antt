@@ -7,15 +7,17 @@ use native.Mathlib.Omega.{arith}
 use lib.Dec.{T}
 use lib.ListN.{length, replicate}
 use borrow.Author.Tests.{le-leb, lt-leb, eq-eqb, ne_eqb}
+use Rattle.std.specs.Prelude.{Option, Some, None, Result, Ok, Err}
+use Rattle.format.specs.declared.Refusal.{Refusal}
 use Rattle.fields.specs.Lists.{same}
 use Rattle.fields.specs.Numbers.{le, le_bytes, words, are_bytes}
 use Rattle.fields.specs.Parts.{part, written}
 use Rattle.fields.proofs.Numbers.{length-le_bytes}
 use Rattle.format.specs.declared.DataRef.{DataRef}
-use Rattle.format.specs.Questions.{ask}
+use Rattle.format.specs.Questions.{ask, denied}
 use Rattle.format.specs.References.{row_in, payload_length, count_position}
 use Rattle.format.specs.Bodies.{body_fits, triple, keyed_count, drop_keyed_data_ref}
-use Rattle.backref.specs.declared.plan.Outcome.TheVariants.{Edit, Remove, Refused}
+use Rattle.backref.specs.declared.plan.Plan.TheVariants.{Edit, Absent, Remove}
 use Rattle.backref.specs.declared.plan.Plan.{Plan}
 use Rattle.backref.specs.Plans.{edited, Planned}
 use Rattle.backref.proofs.Outcomes.{plan-edit, plan-refused, plan-remove}
@@ -30,12 +32,12 @@ pub at-is : (n : ℕ) → n ≡ count_position 178 → n ≡ 24
 unfolding count_position row_in
 at-is n e = e
 
-module _ (item : List ℕ) (d : DataRef) (p : Plan) where
-  pub keyed-long : 65535 < length item → p.outcome ≡ Refused 3 → Planned p item (drop_keyed_data_ref item d)
+module _ (item : List ℕ) (d : DataRef) (p : Result Plan Refusal) where
+  pub keyed-long : 65535 < length item → p ≡ denied 3 → Planned p item (drop_keyed_data_ref item d)
   unfolding drop_keyed_data_ref ask body_fits
   keyed-long h o = plan-refused p item (drop_keyed_data_ref item d) 3 o (simp (lt-leb _ _ h))
 
-  pub keyed-size : length item ≤ 65535 → (length item ≡ 28 → ⊥) → p.outcome ≡ Refused 15 → Planned p item (drop_keyed_data_ref item d)
+  pub keyed-size : length item ≤ 65535 → (length item ≡ 28 → ⊥) → p ≡ denied 15 → Planned p item (drop_keyed_data_ref item d)
   unfolding drop_keyed_data_ref ask body_fits
   keyed-size h k o = plan-refused p item (drop_keyed_data_ref item d) 15 o (simp (le-leb _ _ h, ne_eqb _ _ k))
 
@@ -43,19 +45,19 @@ module _ (item : List ℕ) (d : DataRef) (p : Plan) where
     fits : length item ≤ 65535
     fits = omega arith
 
-    pub keyed-other : b ≡ false → p.outcome ≡ Refused 15 → Planned p item (drop_keyed_data_ref item d)
+    pub keyed-other : b ≡ false → p ≡ denied 15 → Planned p item (drop_keyed_data_ref item d)
     unfolding drop_keyed_data_ref ask body_fits
     keyed-other f o =
         plan-refused p item (drop_keyed_data_ref item d) 15 o (simp (le-leb _ _ fits, eq-eqb _ _ n, sym is ∙ f))
 
     module _ (t : b ≡ true) (count : ℕ) (q : count ≡ le (part 24 4 item)) where
-      pub keyed-none : count ≡ 0 → p.outcome ≡ Refused 16 → Planned p item (drop_keyed_data_ref item d)
+      pub keyed-none : count ≡ 0 → p ≡ denied 16 → Planned p item (drop_keyed_data_ref item d)
       unfolding drop_keyed_data_ref ask body_fits keyed_count
       keyed-none z o =
           let k : count < 1 = omega arith in
           plan-refused p item (drop_keyed_data_ref item d) 16 o (simp (le-leb _ _ fits, eq-eqb _ _ n, sym is ∙ t, ← q, lt-leb _ _ k))
 
-      pub keyed-last : count ≡ 1 → p.outcome ≡ Remove → Planned p item (drop_keyed_data_ref item d)
+      pub keyed-last : count ≡ 1 → p ≡ Ok Remove → Planned p item (drop_keyed_data_ref item d)
       unfolding drop_keyed_data_ref ask body_fits keyed_count
       keyed-last z o =
           let k : 1 ≤ count = omega arith in

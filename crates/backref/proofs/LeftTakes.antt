@@ -9,11 +9,13 @@ use lib.Dec.{T}
 use lib.ListN.{length, take, replicate}
 use borrow.Author.Tests.{lt-ltb, le-ltb}
 use mir.Facts.{and_yes}
+use Rattle.std.specs.Prelude.{Option, Some, None, Result, Ok, Err}
+use Rattle.format.specs.declared.Refusal.{Refusal}
 use Rattle.fields.specs.Lists.{sum, all, Cut, first_cut}
 use Rattle.fields.specs.Numbers.{le, are_bytes}
 use Rattle.fields.specs.Parts.{part}
 use Rattle.fields.proofs.Lists.{some_inj, sum-append, all_right, all-mid, cut-some}
-use Rattle.format.specs.Questions.{Answer, refused, accepted, bind, found}
+use Rattle.format.specs.Questions.{Answer, refused, accepted, bind, found, denied}
 use Rattle.format.specs.References.{payload_length, Ref, make_ref, ref_bytes, refs_bytes, start_of, Body, body_with, read_body, body_bytes, total_of}
 use Rattle.format.specs.Bodies.{on_body, named, less, weighed, drop_inline, drop_inline_tree_ref, drop_inline_data_ref}
 use Rattle.format.specs.Left.{left_among, left_in}
@@ -24,13 +26,10 @@ use Rattle.format.proofs.Left.{left_less}
 use Rattle.format.proofs.Splices.{refs_bytes-one}
 use Rattle.inline_refs.specs.declared.ref_name.RefName.{RefName}
 use Rattle.inline_refs.specs.declared.ref_name.RefName.TheVariants.{Block, Data, SharedBlock, SharedData}
-use Rattle.inline_refs.specs.declared.drop_scan.DropScan.{DropScan}
-use Rattle.inline_refs.specs.declared.drop_scan.DropScan.TheVariants.{Fault, Nothing, First}
 use Rattle.inline_refs.specs.Scans.{kind_of, fields_of, is_wanted, ref_size_of, refs_in, drop_walk, drop_scan_of}
 use Rattle.inline_refs.proofs.Views.{CutAt, DropView, drop-viewed}
 use Rattle.inline_refs.proofs.RefPositions.{cut-between, cut-passed}
-use Rattle.backref.specs.declared.plan.Outcome.{Outcome}
-use Rattle.backref.specs.declared.plan.Outcome.TheVariants.{Edit, Absent, Refused}
+use Rattle.backref.specs.declared.plan.Plan.TheVariants.{Edit, Absent, Remove}
 use Rattle.backref.specs.declared.plan.Plan.{Plan}
 use Rattle.backref.specs.declared.plan.DropPlan.{DropPlan}
 use Rattle.backref.specs.declared.offs.Off.{Off}
@@ -153,14 +152,14 @@ module _ (type : ℕ) (d : List ℕ) (w : RefName) (off : Off) (p : DropPlan) wh
   abbrev leaves : List ℕ → ℕ
   leaves = left_in type (kind_of w) (fields_of w)
 
-  off-refused : (n : ℕ) → dropped ≡ refused n → p.plan.outcome ≡ Refused n → PlannedOff p type d w off
+  off-refused : (n : ℕ) → dropped ≡ refused n → p.plan ≡ denied n → PlannedOff p type d w off
   off-refused n e o = record { drops = drop-refused p d dropped leaves n o e; counted = λ b c r k h. other-outcome n o h }
 
-  pub off-fault : (n : ℕ) → ScanSays type d w (Fault n) → p.plan.outcome ≡ Refused n → PlannedOff p type d w off
+  pub off-fault : (n : ℕ) → ScanSays type d w (Fault n) → p.plan ≡ denied n → PlannedOff p type d w off
   unfolding drop_inline
   off-fault n e o = off-refused n (e _) o
 
-  pub off-absent : DropIn type d w Nothing → p.plan.outcome ≡ Absent → PlannedOff p type d w off
+  pub off-absent : DropIn type d w Nothing → p.plan ≡ Ok Absent → PlannedOff p type d w off
   unfolding drop_inline found bind
   off-absent r o = record {
     drops = drop-absent p d dropped leaves o (on-body type d r.from _ r.fits r.read ∙ rw r.view refl);
@@ -184,7 +183,7 @@ module _ (type : ℕ) (d : List ℕ) (w : RefName) (off : Off) (p : DropPlan) wh
         ∙ ap (λ (b : Answer ℕ). bind b (λ total. accepted (made (less c.hit (amount_off off)) total)))
         (ap (λ (m : ℕ). lowered_off off m r.from.total) (sym hit.weighs) ∙ ap (lowered_off off x) (total-at type d r.from r.read t is) ∙ h)
 
-    pub off-stopped : (n ≡ 0 → ⊥) → p.plan.outcome ≡ Refused n → PlannedOff p type d w off
+    pub off-stopped : (n ≡ 0 → ⊥) → p.plan ≡ denied n → PlannedOff p type d w off
     unfolding bind
     off-stopped z o = off-refused n (off-found (refused n) ((off-asked off x n t asks).refuses z)) o
 

@@ -5,20 +5,21 @@ use mathlib.Core.List.{List}
 use Prim.Native.Nat.{ℕ}
 use lib.Dec.{T, eqb, eqb→eq}
 use borrow.Author.Tests.{ne_eqb}
+use Rattle.std.specs.Prelude.{Option, Some, None, Result, Ok, Err}
+use Rattle.format.specs.declared.Refusal.{Refusal}
 use Rattle.format.specs.declared.BlockRef.{BlockRef}
 use Rattle.format.specs.declared.DataRef.{DataRef}
 use Rattle.format.specs.declared.Keyed.{Keyed}
 use Rattle.format.specs.declared.Keyed.TheVariants.{Block as Tree, Data as File}
 use Rattle.format.specs.declared.SharedRef.{SharedRef}
 use Rattle.format.specs.declared.Edited.{Edited}
-use Rattle.format.specs.Questions.{ask, Answered}
+use Rattle.format.specs.Questions.{ask, Answered, denied}
 use Rattle.format.specs.Bodies.{held_body, one, shared_kind, add_inline_shared, add_inline_keyed, take_inline_shared}
 use Rattle.format.specs.References.{rank_of}
 use Rattle.inline_refs.specs.Scans.{kind_of, fields_of}
 use Rattle.inline_refs.specs.declared.ref_name.RefName.{RefName}
 use Rattle.inline_refs.specs.declared.ref_name.RefName.TheVariants.{Block, Data, SharedBlock, SharedData}
 use Rattle.backref.specs.declared.plan.Plan.{Plan}
-use Rattle.backref.specs.declared.plan.Outcome.TheVariants.{Refused}
 use Rattle.backref.specs.Plans.{Planned, PlannedTaken}
 use Rattle.backref.specs.ByName.{own_rank, position_of, add_inline, add_keyed, shared_ref, SharedName, take_inline}
 use Rattle.backref.proofs.Gives.{add_is}
@@ -45,7 +46,7 @@ named_by s (SharedBlock parent) h = rw h (refl, refl, refl)
 named_by s (SharedData parent) h = rw h (refl, refl, refl)
 
 -- of a kind that is shared
-module _ (type : ℕ) (d : List ℕ) (s : SharedRef) (plan : Plan) where
+module _ (type : ℕ) (d : List ℕ) (s : SharedRef) (plan : Result Plan Refusal) where
   module _ (w : RefName) (shared : shared_kind s.kind ≡ true) (name : SharedName s w) where
     names : (kind_of w ≡ s.kind) × (fields_of w ≡ one s.parent) × (own_rank w ≡ s.parent)
     names = named_by s w name
@@ -59,7 +60,7 @@ module _ (type : ℕ) (d : List ℕ) (s : SharedRef) (plan : Plan) where
     unfolding take_inline_shared take_inline ask
     take-is h = taken-same plan d _ _ (rw (shared, names.0, names.1) refl) h
 
-  module _ (other : shared_kind s.kind ≡ false) (o : plan.outcome ≡ Refused 3) where
+  module _ (other : shared_kind s.kind ≡ false) (o : plan ≡ denied 3) where
     pub shared-other : (amount : ℕ) → Planned plan d (add_inline_shared type d s amount)
     unfolding add_inline_shared ask
     shared-other amount = plan-refused plan d _ 3 o (rw other refl)
@@ -69,7 +70,7 @@ module _ (type : ℕ) (d : List ℕ) (s : SharedRef) (plan : Plan) where
     take-other = taken_refused plan d _ 3 o (rw other refl)
 
 -- the two cases of a keyed reference
-module _ (type : ℕ) (d : List ℕ) (keyed : Keyed) (count room : ℕ) {r : Edited} {old new : List ℕ} where
+module _ (type : ℕ) (d : List ℕ) (keyed : Keyed) (count room : ℕ) {r : Result Edited Refusal} {old new : List ℕ} where
   pub keyed-block : (name : BlockRef) → keyed ≡ Tree name → Answered (held_body room (add_keyed type d (Block name) name.tree 1)) r old new
       → Answered (held_body room (add_inline_keyed type d keyed count)) r old new
   unfolding add_inline_keyed add_keyed kind_of fields_of

@@ -2,6 +2,8 @@
 use mathlib.Core.Path.{◌≡◌, refl, sym, ap, subst, ◌∙◌}
 use mathlib.Core.List.{List}
 use Prim.Native.Nat.{ℕ}
+use Rattle.std.specs.Prelude.{Option, Some, None, Result, Ok, Err}
+use Rattle.format.specs.declared.Refusal.{Refusal}
 use Rattle.format.specs.declared.Dropped.{Dropped}
 use Rattle.format.specs.declared.Edited.{Edited}
 use Rattle.format.specs.declared.Taken.{Taken}
@@ -13,11 +15,11 @@ use Rattle.backref.specs.declared.plan.DropPlan.{DropPlan}
 use Rattle.backref.specs.declared.plan.Plan.{Plan}
 use Rattle.backref.specs.Plans.{plan_answer, plan_taken, Planned, PlannedTaken, PlannedDrop, dropped_from}
 
-pub answered : {p : Plan} {body : List ℕ} {a : Answer (List ℕ)} (room : ℕ) {r : Edited} {old new : List ℕ} → Planned p body a
+pub answered : {p : Result Plan Refusal} {body : List ℕ} {a : Answer (List ℕ)} (room : ℕ) {r : Result Edited Refusal} {old new : List ℕ} → Planned p body a
     → Answered (held_body room (plan_answer p body)) r old new → Answered (held_body room a) r old new
 answered room {r} {old} {new} h w = subst (λ (x : Answer (List ℕ)). Answered (held_body room x) r old new) h.says w
 
-pub answered-taken : {p : Plan} {body : List ℕ} {a : Answer TakenOut} (room : ℕ) {r : Taken} {old new : List ℕ} → PlannedTaken p body a
+pub answered-taken : {p : Result Plan Refusal} {body : List ℕ} {a : Answer TakenOut} (room : ℕ) {r : Result (Option Taken) Refusal} {old new : List ℕ} → PlannedTaken p body a
     → AnsweredTaken (held_taken room (plan_taken p body)) r old new → AnsweredTaken (held_taken room a) r old new
 answered-taken room {r} {old} {new} h w = subst (λ (x : Answer TakenOut). AnsweredTaken (held_taken room x) r old new) h.says w
 
@@ -30,12 +32,12 @@ dropped-is left absent = refl
 dropped-is left remove = refl
 dropped-is left (accepted result) = refl
 
-pub wrote-dropped : {a : Answer (List ℕ)} {e : Edited} {r : Dropped} {left : ℕ} {old new : List ℕ} → Answered a e old new → r ≡ dropped_from left e
+pub wrote-dropped : {a : Answer (List ℕ)} {e : Result Edited Refusal} {r : Result Dropped Refusal} {left : ℕ} {old new : List ℕ} → Answered a e old new → r ≡ dropped_from left e
     → AnsweredDropped a left r old new
 wrote-dropped {a} {left = left} w h = record { result = h ∙ ap (dropped_from left) w.result ∙ dropped-is left a; output = w.output }
 
 module _ (room : ℕ) (left : List ℕ → ℕ) {p : DropPlan} {body old new : List ℕ} where
-  pub answered-dropped : {a : Answer (List ℕ)} {r : Dropped} → PlannedDrop p body a left
+  pub answered-dropped : {a : Answer (List ℕ)} {r : Result Dropped Refusal} → PlannedDrop p body a left
       → AnsweredDropped (held_body room (plan_answer p.plan body)) p.left r old new → AnsweredDropped (held_body room a) (result_or 0 left a) r old new
   unfolding held_body
   answered-dropped {a} {r} h w =

@@ -8,16 +8,17 @@ use lib.Dec.{leb, le→leb}
 use lib.ListN.{length, take, drop}
 use lib.Seq.{drop_at}
 use borrow.Author.Tests.{le-leb, lt-leb}
+use Rattle.std.specs.Prelude.{Option, Some, None, Result, Ok, Err}
+use Rattle.format.specs.declared.Refusal.{Refusal}
 use Rattle.fields.specs.Numbers.{le, le_bytes}
 use Rattle.fields.specs.Parts.{part, written, spliced}
 use Rattle.fields.proofs.Numbers.{le-le_bytes, length-le_bytes}
 use Rattle.fields.proofs.Parts.{written-front, part-written}
-use Rattle.format.specs.Questions.{Answer, refused, absent, remove, accepted, ask, bind, if_absent}
+use Rattle.format.specs.Questions.{Answer, refused, absent, remove, accepted, ask, bind, if_absent, denied}
 use Rattle.format.specs.Bodies.{body_fits, on_head, reduced_by, on_total, reduce_total}
 use Rattle.format.specs.References.{total_of}
 use Rattle.format.proofs.Answers.{ask-yes, if_absent-ok, refused-not}
-use Rattle.backref.specs.declared.plan.Outcome.{Outcome}
-use Rattle.backref.specs.declared.plan.Outcome.TheVariants.{Edit, Absent, Remove, Refused}
+use Rattle.backref.specs.declared.plan.Plan.TheVariants.{Edit, Absent, Remove}
 use Rattle.backref.specs.declared.plan.Plan.{Plan}
 use Rattle.backref.specs.Plans.{edited, plan_outcome, plan_answer, EditIn, PlanIn, Planned, Whole, Reduces, Needs}
 use Rattle.backref.proofs.Outcomes.{plan-is, inside-edit, plan-refused}
@@ -33,7 +34,7 @@ overwritten t u x =
     (ap (drop (length b)) (written-front a x) ∙ drop_at a (drop (length a) x) (length b) n ∙ ap (λ (k : ℕ). drop k x) n)
     ∙ sym (written-front b x)
 
-module _ (plan : Plan) where
+module _ (plan : Result Plan Refusal) where
   -- ---- an amount off the total that was planned
 
   abbrev off : ℕ → List ℕ → Answer (List ℕ)
@@ -48,7 +49,7 @@ module _ (plan : Plan) where
           ap (λ (x : Answer (List ℕ)). bind x (off amount)) (plan-is plan body e)
           ∙ ap (λ (x : Answer ℕ). bind x (λ total. accepted (written 0 (le_bytes 8 total) (edited plan body)))) h
 
-      pub reduced-low : plan.total < amount → r.outcome ≡ Refused 14 → Reduces plan amount r
+      pub reduced-low : plan.total < amount → r ≡ denied 14 → Reduces plan amount r
       unfolding bind reduced_by ask
       reduced-low h o =
           let no : reduced_by amount plan.total ≡ refused 14 = simp (lt-leb _ _ h) in
@@ -87,15 +88,15 @@ module _ (plan : Plan) where
           inside = λ body i. i;
         }
 
-    pub reduced-absent : plan.outcome ≡ Absent → Reduces plan amount plan
+    pub reduced-absent : plan ≡ Ok Absent → Reduces plan amount plan
     unfolding plan_outcome bind
     reduced-absent e = reduced-same (λ body. (absent, (plan-is plan body e, refl)))
 
-    pub reduced-remove : plan.outcome ≡ Remove → Reduces plan amount plan
+    pub reduced-remove : plan ≡ Ok Remove → Reduces plan amount plan
     unfolding plan_outcome bind
     reduced-remove e = reduced-same (λ body. (remove, (plan-is plan body e, refl)))
 
-    pub reduced-refused : (n : ℕ) → plan.outcome ≡ Refused n → Reduces plan amount plan
+    pub reduced-refused : (n : ℕ) → plan ≡ denied n → Reduces plan amount plan
     unfolding plan_outcome bind
     reduced-refused n e = reduced-same (λ body. (refused n, (plan-is plan body e, refl)))
 
@@ -129,7 +130,7 @@ module _ (plan : Plan) where
 
   -- ---- what is absent is 5
 
-  pub needs-absent : (r : Plan) → plan.outcome ≡ Absent → r.outcome ≡ Refused 5 → Needs plan r
+  pub needs-absent : (r : Plan) → plan ≡ Ok Absent → r ≡ denied 5 → Needs plan r
   unfolding plan_outcome if_absent
   needs-absent r e o =
       record {
@@ -148,11 +149,11 @@ module _ (plan : Plan) where
   unfolding plan_outcome if_absent
   needs-edit e = needs-same (λ body. (accepted (edited plan body), (plan-is plan body e, refl)))
 
-  pub needs-remove : plan.outcome ≡ Remove → Needs plan plan
+  pub needs-remove : plan ≡ Ok Remove → Needs plan plan
   unfolding plan_outcome if_absent
   needs-remove e = needs-same (λ body. (remove, (plan-is plan body e, refl)))
 
-  pub needs-refused : (n : ℕ) → plan.outcome ≡ Refused n → Needs plan plan
+  pub needs-refused : (n : ℕ) → plan ≡ denied n → Needs plan plan
   unfolding plan_outcome if_absent
   needs-refused n e = needs-same (λ body. (refused n, (plan-is plan body e, refl)))
 

@@ -6,36 +6,36 @@ use Prim.Native.Nat.{ℕ}
 use native.Mathlib.Omega.{arith}
 use lib.Dec.{T}
 use lib.ListN.{replicate}
+use Rattle.std.specs.Prelude.{Option, Some, None, Result, Ok, Err}
+use Rattle.format.specs.declared.Refusal.{Refusal}
 use Rattle.fields.specs.Numbers.{le, are_bytes}
 use Rattle.fields.specs.Parts.{part}
-use Rattle.format.specs.Questions.{Answer, accepted, bind, found, TakenOut}
+use Rattle.format.specs.Questions.{Answer, accepted, bind, found, TakenOut, denied}
 use Rattle.format.specs.References.{refs_bytes, start_of, body_with, body_bytes}
 use Rattle.format.proofs.Bodies.{on-body}
 use Rattle.inline_refs.specs.declared.ref_name.RefName.{RefName}
 use Rattle.inline_refs.specs.declared.scan.Seen.{Seen}
 use Rattle.inline_refs.specs.declared.scan.Seen.TheVariants.{Open}
-use Rattle.inline_refs.specs.declared.scan.Scan.TheVariants.{Fault}
-use Rattle.inline_refs.specs.declared.noted.Found.TheVariants.{At, Nothing}
 use Rattle.inline_refs.specs.Scans.{is_wanted, scan_of, refs_in, hit_of}
 use Rattle.inline_refs.proofs.Views.{CutAt}
 use Rattle.inline_refs.proofs.RefPositions.{cut-between, found-view}
-use Rattle.backref.specs.declared.plan.Outcome.TheVariants.{Absent, Refused}
+use Rattle.backref.specs.declared.plan.Plan.TheVariants.{Edit, Absent, Remove}
 use Rattle.backref.specs.declared.plan.Plan.{Plan}
 use Rattle.backref.specs.Plans.{PlannedTaken}
 use Rattle.backref.proofs.TakenPlans.{with-count, taken_refused, taken-absent, taken-edit}
 use Rattle.backref.specs.ByName.{take_inline}
 use Rattle.backref.proofs.AddedAt.{ReadIn, total-read, scan-faults, placed, plan_of, adding-plan}
 
-module _ (type : ℕ) (d : List ℕ) (w : RefName) (plan : Plan) where
+module _ (type : ℕ) (d : List ℕ) (w : RefName) (plan : Result Plan Refusal) where
   abbrev taken : Answer TakenOut
   taken = take_inline type d w
 
-  pub take-fault : (n : ℕ) → Fault n ≡ scan_of w 0 (start_of type d) (Open false) (refs_in type d) → plan.outcome ≡ Refused n → PlannedTaken plan d taken
+  pub take-fault : (n : ℕ) → denied n ≡ scan_of w 0 (start_of type d) (Open false) (refs_in type d) → plan ≡ denied n → PlannedTaken plan d taken
   unfolding take_inline
   take-fault n e o = taken_refused plan d taken n o (scan-faults type d w 0 n _ e)
 
   module _ (seen : Seen) (r : ReadIn type d w 0 seen) where
-    pub take-absent : Nothing ≡ hit_of seen → plan.outcome ≡ Absent → PlannedTaken plan d taken
+    pub take-absent : Nothing ≡ hit_of seen → plan ≡ Ok Absent → PlannedTaken plan d taken
     unfolding take_inline found bind
     take-absent e o =
         taken-absent plan d taken o

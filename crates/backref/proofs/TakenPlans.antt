@@ -5,11 +5,13 @@ use mathlib.Core.List.{List}
 use Prim.Native.Nat.{ℕ}
 use lib.Dec.{leb}
 use lib.ListN.{length}
+use Rattle.std.specs.Prelude.{Option, Some, None, Result, Ok, Err}
+use Rattle.format.specs.declared.Refusal.{Refusal}
 use Rattle.format.specs.declared.Edited.{Edited}
 use Rattle.format.specs.declared.Taken.{Taken}
-use Rattle.format.specs.Questions.{Answer, refused, absent, remove, accepted, ask, bind, held, lent, edited_of, taken_of, bytes_of, TakenOut, Answered, AnsweredTaken}
+use Rattle.format.specs.Questions.{Answer, refused, absent, remove, accepted, ask, bind, held, lent, edited_of, taken_of, bytes_of, TakenOut, Answered, AnsweredTaken, denied}
 use Rattle.format.specs.Bodies.{body_fits, held_body, held_taken}
-use Rattle.backref.specs.declared.plan.Outcome.TheVariants.{Absent, Refused}
+use Rattle.backref.specs.declared.plan.Plan.TheVariants.{Edit, Absent, Remove}
 use Rattle.backref.specs.declared.plan.Plan.{Plan}
 use Rattle.backref.specs.Plans.{plan_answer, plan_taken, Planned, PlannedTaken, taken_from}
 use Rattle.backref.proofs.Outcomes.{plan-refused, plan-absent}
@@ -44,7 +46,7 @@ module _ (room count : ℕ) where
   taken-says remove = refl
   taken-says (accepted bytes) = asked-says count bytes (leb (length bytes) room && body_fits bytes)
 
-pub wrote-taken : (p : Plan) (body : List ℕ) (room : ℕ) (e : Edited) (r : Taken) (old new : List ℕ)
+pub wrote-taken : (p : Result Plan Refusal) (body : List ℕ) (room : ℕ) (e : Result Edited Refusal) (r : Result (Option Taken) Refusal) (old new : List ℕ)
     → Answered (held_body room (plan_answer p body)) e old new → r ≡ taken_from p.count e
     → AnsweredTaken (held_taken room (plan_taken p body)) r old new
 unfolding plan_taken
@@ -55,8 +57,8 @@ wrote-taken p body room e r old new w h = record {
 
 -- ---- the contract of such a plan
 
-module _ (p : Plan) (body : List ℕ) where
-  pub taken_refused : (answer : Answer TakenOut) (n : ℕ) → p.outcome ≡ Refused n → answer ≡ refused n → PlannedTaken p body answer
+module _ (p : Result Plan Refusal) (body : List ℕ) where
+  pub taken_refused : (answer : Answer TakenOut) (n : ℕ) → p ≡ denied n → answer ≡ refused n → PlannedTaken p body answer
   unfolding plan_taken bind
   taken_refused answer n o e =
       let h = plan-refused p body (refused n) n o refl in
@@ -65,7 +67,7 @@ module _ (p : Plan) (body : List ℕ) where
   pub taken-same : (answer other : Answer TakenOut) → answer ≡ other → PlannedTaken p body answer → PlannedTaken p body other
   taken-same answer other e h = record { says = h.says ∙ e; inside = h.inside }
 
-  pub taken-absent : (answer : Answer TakenOut) → p.outcome ≡ Absent → answer ≡ absent → PlannedTaken p body answer
+  pub taken-absent : (answer : Answer TakenOut) → p ≡ Ok Absent → answer ≡ absent → PlannedTaken p body answer
   unfolding plan_taken bind
   taken-absent answer o e =
       let h = plan-absent p body absent o refl in

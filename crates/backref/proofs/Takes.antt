@@ -7,9 +7,11 @@ use native.Mathlib.Omega.{arith}
 use lib.Dec.{T}
 use lib.ListN.{take, replicate}
 use borrow.Author.Tests.{lt-ltb, le-ltb}
+use Rattle.std.specs.Prelude.{Option, Some, None, Result, Ok, Err}
+use Rattle.format.specs.declared.Refusal.{Refusal}
 use Rattle.fields.specs.Numbers.{le, are_bytes}
 use Rattle.fields.specs.Parts.{part}
-use Rattle.format.specs.Questions.{Answer, refused, accepted, bind, found}
+use Rattle.format.specs.Questions.{Answer, refused, accepted, bind, found, denied}
 use Rattle.format.specs.References.{payload_length, Ref, make_ref, ref_bytes, refs_bytes, start_of, body_with, body_bytes}
 use Rattle.format.specs.Bodies.{one, triple, lowered_by_one, lowered_by_part, less, weighed, drop_inline, drop_inline_tree_ref, drop_inline_data_ref}
 use Rattle.format.proofs.Bodies.{on-body}
@@ -18,12 +20,10 @@ use Rattle.inline_refs.specs.declared.ref_name.RefName.{RefName}
 use Rattle.inline_refs.specs.declared.ref_name.RefName.TheVariants.{Block, Data, SharedBlock, SharedData}
 use Rattle.inline_refs.specs.declared.scan.Seen.{Seen}
 use Rattle.inline_refs.specs.declared.scan.Seen.TheVariants.{Open}
-use Rattle.inline_refs.specs.declared.scan.Scan.TheVariants.{Fault}
-use Rattle.inline_refs.specs.declared.noted.Found.TheVariants.{At, Nothing}
 use Rattle.inline_refs.specs.Scans.{kind_of, fields_of, is_wanted, scan_of, refs_in, hit_of}
 use Rattle.inline_refs.proofs.Views.{CutAt}
 use Rattle.inline_refs.proofs.RefPositions.{cut-between, cut-passed, found-view}
-use Rattle.backref.specs.declared.plan.Outcome.TheVariants.{Absent, Refused}
+use Rattle.backref.specs.declared.plan.Plan.TheVariants.{Edit, Absent, Remove}
 use Rattle.backref.specs.declared.plan.Plan.{Plan}
 use Rattle.backref.specs.Plans.{Planned}
 use Rattle.backref.specs.ByName.{OneOff, drop_named, drop_fault}
@@ -40,7 +40,7 @@ lowers_by (SharedBlock parent) amount = lowered_by_part amount
 lowers_by (SharedData parent) amount = lowered_by_part amount
 
 -- the definition without cases
-pub drop-named : {d : List ℕ} {plan : Plan} (type : ℕ) (w : RefName) (amount : ℕ) → OneOff w amount
+pub drop-named : {d : List ℕ} {plan : Result Plan Refusal} (type : ℕ) (w : RefName) (amount : ℕ) → OneOff w amount
     → Planned plan d (drop_inline type d (kind_of w) (fields_of w) amount (lowers_by w amount)) → Planned plan d (drop_named type d w amount)
 unfolding drop_inline_tree_ref drop_inline_data_ref kind_of fields_of
 drop-named {d} {plan} type (Block name) amount e h =
@@ -68,16 +68,16 @@ module _ (w : RefName) (amount standing n t : ℕ) (q : n ≡ drop_fault w amoun
   pub lowers-passed : (u : ℕ) → n ≡ 0 → u ≡ t - amount → lowers_by w amount standing t ≡ accepted u
   lowers-passed u z e = lowers.passes z ∙ ap accepted (sym e)
 
-module _ (type : ℕ) (d : List ℕ) (w : RefName) (amount : ℕ) (lowered : ℕ → ℕ → Answer ℕ) (plan : Plan) where
+module _ (type : ℕ) (d : List ℕ) (w : RefName) (amount : ℕ) (lowered : ℕ → ℕ → Answer ℕ) (plan : Result Plan Refusal) where
   abbrev dropped : Answer (List ℕ)
   dropped = drop_inline type d (kind_of w) (fields_of w) amount lowered
 
-  pub drop-fault : (n : ℕ) → Fault n ≡ scan_of w 0 (start_of type d) (Open false) (refs_in type d) → plan.outcome ≡ Refused n → Planned plan d dropped
+  pub drop-fault : (n : ℕ) → denied n ≡ scan_of w 0 (start_of type d) (Open false) (refs_in type d) → plan ≡ denied n → Planned plan d dropped
   unfolding drop_inline
   drop-fault n e o = plan-refused plan d dropped n o (scan-faults type d w 0 n _ e)
 
   module _ (seen : Seen) (r : ReadIn type d w 0 seen) where
-    pub drop-absent : Nothing ≡ hit_of seen → plan.outcome ≡ Absent → Planned plan d dropped
+    pub drop-absent : Nothing ≡ hit_of seen → plan ≡ Ok Absent → Planned plan d dropped
     unfolding drop_inline found bind
     drop-absent e o =
         plan-absent plan d dropped o
@@ -98,7 +98,7 @@ module _ (type : ℕ) (d : List ℕ) (w : RefName) (amount : ℕ) (lowered : ℕ
           ∙ ap (λ (b : Answer ℕ). bind b (left (less hit.parts.hit amount)))
           (ap (λ (m : ℕ). lowered m r.from.total) (sym hit.weighs) ∙ ap (lowered x) (total-read type d r t is) ∙ h)
 
-      pub drop-refused : (n : ℕ) → lowered x t ≡ refused n → plan.outcome ≡ Refused n → Planned plan d dropped
+      pub drop-refused : (n : ℕ) → lowered x t ≡ refused n → plan ≡ denied n → Planned plan d dropped
       unfolding bind
       drop-refused n h o = plan-refused plan d dropped n o (drop-found (refused n) h)
 

@@ -5,6 +5,8 @@ use Prim.Native.Nat.{ℕ, ◌≤◌}
 use native.Mathlib.Omega.{arith}
 use lib.Dec.{T, leb, leb→le}
 use lib.ListN.{length, length-append}
+use Rattle.std.specs.Prelude.{Option, Some, None, Result, Ok, Err}
+use Rattle.format.specs.declared.Refusal.{Refusal}
 use Rattle.fields.specs.Lists.{Cut, first_cut}
 use Rattle.fields.specs.Numbers.{are_bytes}
 use Rattle.fields.proofs.Lists.{Found, cut-some}
@@ -55,7 +57,7 @@ module _ (type : ℕ) (d : List ℕ) (s : SharedRef) where
       let fits = leb→le (length d) 65535 q₂.0 in
       (omega (arith, is, l.0), omega (arith, is, l.1, fits))
 
-  module _ (plan : Plan) (p : PlannedTaken plan d (take_inline_shared type d s)) where
+  module _ (plan : Result Plan Refusal) (p : PlannedTaken plan d (take_inline_shared type d s)) where
     pub taken-says : plan_answer plan d ≡ bytes_of (take_inline_shared type d s)
     unfolding plan_taken
     taken-says = sym (without-count (plan_answer plan d) plan.count) ∙ ap (λ (x : Answer TakenOut). bytes_of x) p.says
