@@ -2,7 +2,7 @@
 -- key stands twice. Assumes nothing.
 use mathlib.Core.Path.{◌≡◌, refl, sym, ap, ◌∙◌, subst}
 use mathlib.Core.Logic.{◌⊎◌, inl, inr}
-use mathlib.Core.Bool.{Bool, not, ◌&&◌, ◌||◌}
+use mathlib.Core.Bool.{Bool, true, false, not, cond, ◌&&◌, ◌||◌}
 use mathlib.Core.Option.{Option, none, some, map}
 use mathlib.Core.List.{List, [], ◌∷◌, ◌++◌, append-nil}
 use Prim.Native.Nat.{ℕ, ◌≤◌, ◌<◌}
@@ -11,6 +11,11 @@ use lib.Dec.{T, ltb, eqb, eqb→eq, eqb_refl, ltb→lt, lt→ltb, T_not, not_T}
 use mir.Facts.{and_yes, yes_and, yes_eqb, or_yes}
 use Rattle.fields.specs.Lists.{all, Cut, later, first_cut}
 use Rattle.fields.proofs.Lists.{or_left, or_right, cond_yes, cond_no, lt-or, all_left, all_both, all-mid, all_map, all_two, Found, cut-some, cut-none}
+use Rattle.std.proofs.Common.{Ordering, Less, Equal, Greater, Some, nat_cmp}
+use Rattle.std.specs.Ordering.{is_lt, is_gt, is_ge, is_some_and, ordering_then, partial_ordering_then, ordering_reverse, partial_lt, partial_ge}
+use Rattle.std.proofs.lemmas.Cmp.{nat_cmp_total}
+use Rattle.format.specs.contracts.KeyOrd.TheImpl as ord
+use Rattle.format.specs.contracts.KeyPartialOrd.TheImpl as partial
 use Rattle.format.specs.declared.Key.{Key}
 use Rattle.format.specs.Questions.{accepted}
 use Rattle.format.specs.Items.{Item, same_key, key_below, above, rising, with_bytes}
@@ -256,3 +261,60 @@ inserted-out new items result e =
               (subst (λ (l : List Item). T (all (λ i. not (has_key new.key i)) l)) k.same s)) k.miss;
           higher = k.hit;
         }
+
+-- ---- the order that the declared type derives, by which code compares keys
+
+key-order : (a b d e f g : Bool)
+    → is_lt (ordering_then (cond a Less (cond b Equal Greater)) (ordering_then (cond d Less (cond e Equal Greater)) (cond f Less (cond g Equal Greater))))
+    ≡ (a || (b && (d || (e && f))))
+key-order true b d e f g = refl
+key-order false true true e f g = refl
+key-order false true false true true g = refl
+key-order false true false true false true = refl
+key-order false true false true false false = refl
+key-order false true false false f g = refl
+key-order false false d e f g = refl
+
+-- by the three answers of `cmp`
+pub key_cmp : (a b : Key) → is_lt (ord.cmp-value.it a b) ≡ key_below a b
+unfolding key_below
+key_cmp a b =
+    key-order (ltb a.objectid b.objectid) (eqb a.objectid b.objectid) (ltb a.kind b.kind) (eqb a.kind b.kind) (ltb a.offset b.offset) (eqb a.offset b.offset)
+
+back : (x y z : Ordering) → is_gt (ordering_then (ordering_reverse x) (ordering_then (ordering_reverse y) (ordering_reverse z))) ≡ is_lt (ordering_then x (ordering_then y z))
+back Less y z = refl
+back Greater y z = refl
+back Equal Less z = refl
+back Equal Greater z = refl
+back Equal Equal Less = refl
+back Equal Equal Equal = refl
+back Equal Equal Greater = refl
+
+pub key_cmp_back : (a b : Key) → is_gt (ord.cmp-value.it a b) ≡ key_below b a
+key_cmp_back a b =
+    let e = nat_cmp_total.antisymm in
+    rw (e a.objectid b.objectid, e a.kind b.kind, e a.offset b.offset) (back (nat_cmp b.objectid a.objectid) (nat_cmp b.kind a.kind) (nat_cmp b.offset a.offset) ∙ key_cmp b a)
+
+-- by `<` and `>=`
+some-then : (x y : Ordering) → partial_ordering_then (Some x) (Some y) ≡ Some (ordering_then x y)
+some-then Less y = refl
+some-then Equal y = refl
+some-then Greater y = refl
+
+key-partial : (a b : Key) → partial.partial_cmp-value.it a b ≡ Some (ord.cmp-value.it a b)
+key-partial a b =
+    let x = nat_cmp a.objectid b.objectid in
+    let y = nat_cmp a.kind b.kind in
+    let z = nat_cmp a.offset b.offset in
+    ap (partial_ordering_then (Some x)) (some-then y z) ∙ some-then x (ordering_then y z)
+
+pub key_lt : (a b : Key) → partial_lt partial.partial_cmp-value.it a b ≡ key_below a b
+key_lt a b = ap (is_some_and is_lt) (key-partial a b) ∙ key_cmp a b
+
+ge-not : (x : Ordering) → is_ge x ≡ not (is_lt x)
+ge-not Less = refl
+ge-not Equal = refl
+ge-not Greater = refl
+
+pub key_ge : (a b : Key) → partial_ge partial.partial_cmp-value.it a b ≡ not (key_below a b)
+key_ge a b = ap (is_some_and is_ge) (key-partial a b) ∙ ge-not (ord.cmp-value.it a b) ∙ ap not (key_cmp a b)

@@ -45,7 +45,7 @@ pub const MOST_ITEMS: usize = 4096;
 pub const MOST_OFFSETS: usize = 4096;
 
 // The key of an item. Keys compare by objectid, kind, offset; `kind` is document 01's type.
-#[derive(Clone, Copy)]
+#[derive(Clone, Copy, PartialEq, Eq, PartialOrd, Ord, Default)]
 pub struct Key {
     pub objectid: u64,
     pub kind: u8,

@@ -12,7 +12,7 @@ use Rattle.std.specs.Prelude.{Result, Ok}
 use Rattle.fields.specs.Lists.{all}
 use Rattle.fields.specs.Numbers.{be_bytes}
 use Rattle.fields.specs.Parts.{part, written, spliced}
-use Rattle.fields.proofs.Lists.{and-false, T-eq}
+use Rattle.fields.proofs.Lists.{T-eq}
 use Rattle.fields.proofs.Numbers.{length-be_bytes}
 use Rattle.fields.proofs.Parts.{part-all, part-rest, written-pair, written_next, written-front, length-spliced}
 use Rattle.format.specs.declared.Key.{Key}
@@ -129,10 +129,6 @@ module _ (room size count : ℕ) where
   pub room-short : room < size → room_for room size count ≡ false
   unfolding room_for
   room-short h = rw (lt-leb size room h)
-
-  pub room-long : 262144 < size → room_for room size count ≡ false
-  unfolding room_for
-  room-long h = rw (lt-leb size 262144 h, and-false (leb size room))
 
   pub room-left : size ≤ room → size ≤ 262144 → leb count 4096 ≡ room_for room size count
   unfolding room_for

@@ -6,18 +6,18 @@ use mathlib.Core.Logic.{◌⊎◌, inl, inr}
 use Prim.Native.Nat.{ℕ, zero, suc, ◌+◌, ◌-◌, ◌≤◌, ◌<◌}
 use native.Mathlib.Numerals.{add-one}
 use native.Mathlib.Omega.{arith}
-use lib.Dec.{T, leb, eqb}
-use lib.ListN.{length, drop, get_or}
+use lib.Dec.{T, leb}
+use lib.ListN.{length, drop}
 use borrow.Author.Tests.{le-leb, lt-leb}
 use Rattle.std.specs.Prelude.{Option, Some, None, Result, Ok, Err}
-use Rattle.fields.proofs.Lists.{T-eq, and-true, and-false, lt-or}
+use Rattle.fields.proofs.Lists.{T-eq, and-true, lt-or}
 use Rattle.fields.specs.Lists.{all}
 use Rattle.fields.specs.Numbers.{are_bytes}
 use Rattle.format.specs.declared.Key.{Key}
 use Rattle.format.specs.declared.Refusal.{Refusal}
 use Rattle.format.specs.Questions.{Answer, refused, absent, remove, accepted, ask, bind, denied}
 use Rattle.format.specs.Apply.{is_record}
-use Rattle.format.specs.Items.{Item, key_below, above, rising, read_items, read_sheet, sheet_bytes, nodesize_fits}
+use Rattle.format.specs.Items.{Item, key_below, above, rising, read_items, read_sheet, sheet_bytes}
 use Rattle.format.proofs.Answers.{ask-ok}
 use Rattle.format.proofs.Items.{read_items-decides, read_items-count, ReadsSheet, sheet, broken, unsorted, read_sheet-decides, sane, sheet-sane, sheet_bytes-read}
 use Rattle.item_list.specs.declared.ItemPlace.{ItemPlace}
@@ -217,27 +217,7 @@ by_key (AtOrPast key) n i = refl
 pub passes-by-key : (query : ItemQuery) (n : ℕ) (here : Key) (i : Item) → here ≡ i.key → passing query n (record { key = here; bytes = [] }) ≡ passing query n i
 passes-by-key query n here i k = ap (λ (x : Key). passing query n (record { key = x; bytes = [] })) k ∙ by_key query n i
 
-pub following-more : (n : ℕ) (last key : Key) → (n ≡ 0 → ⊥) → following n last key ≡ key_below last key
-unfolding following
-following-more zero last key h = absurd (h refl)
-following-more (suc n) last key h = refl
-
 -- ---- question 1 before the items
-
-pub opens-empty : (s : List ℕ) → length s < 1 → false ≡ opens_list s
-unfolding opens_list
-opens-empty [] h = refl
-opens-empty (v ∷ s) h = absurd (omega arith)
-
-pub opens-long : (s : List ℕ) → 262144 < length s → false ≡ opens_list s
-unfolding opens_list
-opens-long [] h = refl
-opens-long (v ∷ s) h = rw (lt-leb (1 + length s) 262144 (omega arith), and-false (eqb v 1))
-
-pub opens-version : (s : List ℕ) → 1 ≤ length s → length s ≤ 262144 → eqb (get_or s 0 0) 1 ≡ opens_list s
-unfolding opens_list
-opens-version [] a b = absurd (omega arith)
-opens-version (v ∷ s) a b = rw (le-leb (1 + length s) 262144 (omega arith)) (sym (and-true (eqb v 1)))
 
 pub opens-some : (s : List ℕ) → opens_list s ≡ true → 1 ≤ length s
 unfolding opens_list
@@ -354,13 +334,3 @@ module _ (test : ℕ → Item → Bool) (s : List ℕ) where
 
   pub listing-refused : (e : Refusal) → listing_of test (read_sheet s) ≡ Err e → read_sheet s ≡ refused e.number
   listing-refused e h = sheet-refused s e (refused-is test (read_sheet s) e h)
-
--- ---- question 3 of a nodesize, as code tests it
-
-pub node-low : (n : ℕ) → n < 501 → false ≡ nodesize_fits n
-unfolding nodesize_fits
-node-low n h = rw (lt-leb 501 n h)
-
-pub node-high : (n : ℕ) → 501 ≤ n → leb n 65536 ≡ nodesize_fits n
-unfolding nodesize_fits
-node-high n h = rw (le-leb 501 n h)

@@ -1,44 +1,21 @@
 -- What the size of the item at a position says of the items from there on. Assumes nothing.
 use mathlib.Core.Path.{◌≡◌, refl, sym, ap, ◌∙◌, subst}
-use mathlib.Core.Bool.{Bool, true, false, ◌&&◌, ◌||◌, cond}
+use mathlib.Core.Bool.{Bool, true, false, ◌&&◌, cond}
 use mathlib.Core.List.{List, [], ◌∷◌}
 use Prim.Native.Nat.{ℕ, zero, suc, ◌+◌, ◌-◌, ◌≤◌, ◌<◌}
 use native.Mathlib.Omega.{arith}
-use lib.Dec.{T, leb, ltb}
+use lib.Dec.{T, leb}
 use lib.ListN.{length, drop, get_or, length-drop, drop_of_length-le}
 use lib.Seq.{drop-drop, get_or-drop, length-take-le}
-use borrow.Author.Tests.{le-leb, lt-leb, le-ltb, eq-eqb, ne_eqb}
+use borrow.Author.Tests.{le-leb, lt-leb}
 use Rattle.fields.proofs.Lists.{and-false}
 use Rattle.fields.specs.Numbers.{be}
 use Rattle.fields.specs.Parts.{part}
 use Rattle.fields.proofs.Parts.{part-drop}
 use Rattle.format.specs.Questions.{refused, accepted, ask, bind}
-use Rattle.format.specs.declared.Key.{Key}
-use Rattle.format.specs.Items.{key_of, key_below, item_length, whole_item, first_item, read_items}
+use Rattle.format.specs.Items.{key_of, item_length, whole_item, first_item, read_items}
 use Rattle.format.proofs.Items.{read_items-nil, read_items-full, read_items-more, whole_item-out}
 use Rattle.item_list.specs.Steps.{item_at, item_size_at}
-
-or-false : (a : Bool) → (a || false) ≡ a
-or-false true = refl
-or-false false = refl
-
--- ---- the order of keys, as code tests it
-
-module _ (a b : Key) where
-  pub below-objectid : (a.objectid ≡ b.objectid → ⊥) → ltb a.objectid b.objectid ≡ key_below a b
-  unfolding key_below
-  below-objectid h = rw (ne_eqb a.objectid b.objectid h) (sym (or-false (ltb a.objectid b.objectid)))
-
-  pub below-kind : a.objectid ≡ b.objectid → (a.kind ≡ b.kind → ⊥) → ltb a.kind b.kind ≡ key_below a b
-  unfolding key_below
-  below-kind e h =
-      rw (le-ltb a.objectid b.objectid (omega arith), eq-eqb a.objectid b.objectid e, ne_eqb a.kind b.kind h)
-      (sym (or-false (ltb a.kind b.kind)))
-
-  pub below-offset : a.objectid ≡ b.objectid → a.kind ≡ b.kind → ltb a.offset b.offset ≡ key_below a b
-  unfolding key_below
-  below-offset e h =
-      rw (le-ltb a.objectid b.objectid (omega arith), eq-eqb a.objectid b.objectid e, le-ltb a.kind b.kind (omega arith), eq-eqb a.kind b.kind h)
 
 -- ---- whether an item is whole
 

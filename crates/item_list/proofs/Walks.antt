@@ -5,14 +5,11 @@ use mathlib.Core.List.{List, [], ◌∷◌}
 use mathlib.Core.Logic.{◌⊎◌, inl, inr}
 use Prim.Native.Nat.{ℕ, zero, suc, ◌+◌, ◌≤◌, ◌<◌}
 use native.Mathlib.Omega.{arith}
-use lib.Dec.{eqb}
 use lib.ListN.{length, drop}
-use borrow.Author.Tests.{eq-eqb, ne_eqb}
 use Rattle.fields.proofs.Lists.{lt-or}
 use Rattle.format.specs.declared.Key.{Key}
 use Rattle.format.specs.Questions.{accepted}
 use Rattle.format.specs.Items.{Item, key_below, read_items}
-use Rattle.format.specs.Apply.{is_record, record_of}
 use Rattle.format.proofs.Answers.{refused-not, accepted-inj, bind_ok}
 use Rattle.format.proofs.Items.{sheet-out}
 use Rattle.item_list.specs.declared.Sought.TheVariants.{Present, Absent}
@@ -99,18 +96,3 @@ module _ (s : List ℕ) (at next : ℕ) (items : List Item) (r : More s at next 
   pub seek-here : key_below (item_at s at).key key ≡ false → key_below key (item_at s at).key ≡ false → seek_in key at items ≡ Present at next
   unfolding seek_in
   seek-here b a = rw (r.is, b, a, ends s at next r.whole)
-
--- ---- an extent's record, as code tests it
-
-module _ (extent : ℕ) (i : Item) where
-  pub record-168 : i.key.kind ≡ 168 → eqb i.key.objectid extent ≡ record_of extent i
-  unfolding is_record
-  record-168 e = rw (eq-eqb i.key.kind 168 e)
-
-  pub record-169 : (i.key.kind ≡ 168 → ⊥) → i.key.kind ≡ 169 → eqb i.key.objectid extent ≡ record_of extent i
-  unfolding is_record
-  record-169 n e = rw (ne_eqb i.key.kind 168 n, eq-eqb i.key.kind 169 e)
-
-  pub record-other : (i.key.kind ≡ 168 → ⊥) → (i.key.kind ≡ 169 → ⊥) → false ≡ record_of extent i
-  unfolding is_record
-  record-other n m = rw (ne_eqb i.key.kind 168 n, ne_eqb i.key.kind 169 m)

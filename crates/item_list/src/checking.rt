@@ -9,6 +9,7 @@ use super::{finding, stepping};
 use format::{ITEM_HEAD, Key, MOST_ITEMS, Refusal};
 
 // The answer after all items: whether they are too many, then whether their keys rise.
+#[tactic(auto, unfolding(crate::specs::Seeks::verdict_of))]
 pub fn verdict(count: usize, ordered: bool) -> Result<usize, Refusal>
     ensures { result ≡ verdict_of count ordered }
 {
@@ -58,17 +59,15 @@ pub fn check(sheet: &[u8]) -> Result<usize, Refusal>
     ensures { result ≡ checked_of (read_sheet sheet.now) }
 {
     if finding::opens(sheet) {
-        return check_behind(sheet, 1, 0, ITEM_HEAD, stepping::no_key(), true);
+        return check_behind(sheet, 1, 0, ITEM_HEAD, Key::default(), true);
     }
     Err(Refusal::NO_LIST)
 }
 
 // Question 3 of a nodesize.
+#[tactic(auto, unfolding(format::specs::Items::nodesize_fits))]
 pub fn nodesize_fits(nodesize: u32) -> bool
     ensures { result ≡ nodesize_fits nodesize }
 {
-    if nodesize < 501 {
-        return false;
-    }
-    nodesize <= 65536
+    (501..=65536).contains(&nodesize)
 }

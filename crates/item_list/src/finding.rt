@@ -11,39 +11,30 @@ use super::{ItemPlace, ItemQuery, Listing, checking, stepping};
 use format::{EXTENT_ITEM, ITEM_HEAD, Key, METADATA_ITEM, MOST_SHEET, Refusal};
 
 // Whether keys still rise after item number `n` with its key.
+#[tactic(auto, using(format::proofs::Keys::key_lt), unfolding(crate::specs::Steps::following))]
 pub fn follows(ordered: bool, n: usize, last: Key, key: Key) -> bool
     ensures { result ≡ (ordered && following n last key) }
 {
-    if ordered {
-        if n == 0 {
-            return true;
-        }
-        return stepping::below(last, key);
-    }
-    false
+    ordered && (n == 0 || last < key)
 }
 
 // Whether an item with this key is the record of an extent.
+#[tactic(auto, unfolding(format::specs::Apply::is_record))]
 fn is_record(key: Key, extent: u64) -> bool
     ensures { result ≡ record_of extent (record { key = key; bytes = [] }) }
 {
-    if key.kind == EXTENT_ITEM {
-        return key.objectid == extent;
-    }
-    if key.kind == METADATA_ITEM {
-        return key.objectid == extent;
-    }
-    false
+    matches!(key.kind, EXTENT_ITEM | METADATA_ITEM) && key.objectid == extent
 }
 
 // Whether item number `n` with its key is wanted.
+#[tactic(auto, using(format::proofs::Keys::key_ge), unfolding(crate::specs::Seeks::passing))]
 fn passes(query: ItemQuery, n: usize, key: Key) -> bool
     ensures { result ≡ passing query n (record { key = key; bytes = [] }) }
 {
     match query {
         ItemQuery::Index(index) => n == index,
         ItemQuery::Record(extent) => is_record(key, extent),
-        ItemQuery::AtOrPast(from) => !stepping::below(key, from),
+        ItemQuery::AtOrPast(from) => key >= from,
     }
 }
 
@@ -55,7 +46,7 @@ fn walk(s: &[u8], query: ItemQuery) -> Result<Listing, Refusal>
     let mut at: usize = 1;
     let mut n: usize = 0;
     let mut size = ITEM_HEAD;
-    let mut key = stepping::no_key();
+    let mut key = Key::default();
     let mut ordered = true;
     while at < s.len() {
         size = stepping::size_after(s, at, size);
@@ -86,16 +77,11 @@ fn walk(s: &[u8], query: ItemQuery) -> Result<Listing, Refusal>
 }
 
 // Question 1 before the items: version and length.
+#[tactic(auto, unfolding(crate::specs::Steps::opens_list))]
 pub fn opens(sheet: &[u8]) -> bool
     ensures { result ≡ opens_list sheet.now }
 {
-    if sheet.len() < 1 {
-        return false;
-    }
-    if MOST_SHEET < sheet.len() {
-        return false;
-    }
-    sheet[0] == 1
+    matches!(sheet, [1, ..]) && sheet.len() <= MOST_SHEET
 }
 
 // Whether the bytes are an item list, and where the first wanted item stands.

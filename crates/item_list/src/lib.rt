@@ -1,5 +1,6 @@
 // The reader and the writer of an item list (document 01's sheet): one step over items at a position, one pass that answers
 // questions 1 and 2 and finds an item, a further search in a list that passed them, and one splice.
+// Its loops are `while`: each step goes on by the size of the item that it has just read, which a `for` cannot say.
 #![tactic(auto)]
 
 mod checking;
@@ -13,7 +14,7 @@ pub use finding::{find, follows};
 use format::Key;
 pub use search::seek;
 pub use splicing::{append, append_head, put_item, remove_item, room_for};
-pub use stepping::{is_past, key_at, no_key, size_after, size_at};
+pub use stepping::{is_past, key_at, size_after, size_at};
 
 // Which item is wanted.
 #[derive(Clone, Copy)]

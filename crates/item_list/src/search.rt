@@ -5,6 +5,7 @@ ghost use Rattle.item_list.specs.Seeks.{seek_in};
 
 use super::{Sought, stepping};
 use format::Key;
+use std::cmp::Ordering;
 
 // Where a key stands among the items from `from` on, or where an item with it belongs.
 pub fn seek(s: &[u8], from: usize, key: Key) -> Sought
@@ -15,16 +16,15 @@ pub fn seek(s: &[u8], from: usize, key: Key) -> Sought
     while at < s.len() {
         let size = stepping::size_at(s, at);
         let here = stepping::key_at(s, at);
-        if stepping::below(here, key) {
-            at += size;
-        } else {
-            if stepping::below(key, here) {
-                return Sought::Absent { at };
+        match here.cmp(&key) {
+            Ordering::Less => at += size,
+            Ordering::Equal => {
+                return Sought::Present {
+                    start: at,
+                    end: at + size,
+                };
             }
-            return Sought::Present {
-                start: at,
-                end: at + size,
-            };
+            Ordering::Greater => return Sought::Absent { at },
         }
     }
     Sought::Absent { at }

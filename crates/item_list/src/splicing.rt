@@ -38,16 +38,11 @@ pub fn append_head(key: Key, size: usize, out: &mut [u8], at: usize) -> usize
 }
 
 // Question 21 of so many bytes and items.
+#[tactic(auto, unfolding(crate::specs::ItemWrites::room_for))]
 pub fn room_for(room: usize, size: usize, count: usize) -> bool
     ensures { result ≡ room_for room size count }
 {
-    if room < size {
-        return false;
-    }
-    if MOST_SHEET < size {
-        return false;
-    }
-    count <= MOST_ITEMS
+    size <= room && size <= MOST_SHEET && count <= MOST_ITEMS
 }
 
 // The bytes of `sheet` with an item in place of those from `start` up to `end`.

@@ -1,12 +1,13 @@
-// One step over items: what stands at a position, its key, and the order of keys.
+// One step over items: what stands at a position, and its key.
 ghost use Rattle.std.specs.Prelude.{◌≡◌, ◌+◌, ◌≤◌, length};
 ghost use Rattle.format.specs.Constants.{item_head};
-ghost use Rattle.format.specs.Items.{key_below, key_of};
+ghost use Rattle.format.specs.Items.{key_below};
 ghost use Rattle.item_list.specs.Steps.{item_at, item_size_at};
 
 use format::Key;
 
 // How many bytes the item at a position takes, or 0 if no whole item stands there.
+// A number and no `Option`: with an enum for each step of the pass `record_of` takes 185 instructions instead of 163.
 pub fn size_at(s: &[u8], at: usize) -> usize
     requires { at ≤ length s.now }
     ensures { result ≡ item_size_at s.now at }
@@ -16,13 +17,7 @@ pub fn size_at(s: &[u8], at: usize) -> usize
         return 0;
     }
     let length = fields::get_u32_be(s, at) as usize;
-    if length < 17 {
-        return 0;
-    }
-    if 65552 < length {
-        return 0;
-    }
-    if left < 4 + length {
+    if length < 17 || 65552 < length || left < 4 + length {
         return 0;
     }
     4 + length
@@ -54,34 +49,11 @@ pub fn key_at(s: &[u8], at: usize) -> Key
     }
 }
 
-// A key where there is none yet.
-pub fn no_key() -> Key
-    ensures { result ≡ key_of 0 0 0 }
-{
-    Key {
-        objectid: 0,
-        kind: 0,
-        offset: 0,
-    }
-}
-
-// Whether one key stands before another.
-pub fn below(a: Key, b: Key) -> bool
-    ensures { result ≡ key_below a b }
-{
-    if a.objectid == b.objectid {
-        if a.kind == b.kind {
-            return a.offset < b.offset;
-        }
-        return a.kind < b.kind;
-    }
-    a.objectid < b.objectid
-}
-
 // Whether the item that starts at `at` stands past a key.
+#[tactic(auto, using(format::proofs::Keys::key_lt))]
 pub fn is_past(s: &[u8], at: usize, key: Key) -> bool
     requires { at + item_head ≤ length s.now }
     ensures { result ≡ key_below key (item_at s.now at).key }
 {
-    below(key, key_at(s, at))
+    key < key_at(s, at)
 }
