@@ -16,10 +16,10 @@ pub fn verdict(count: usize, ordered: bool) -> Result<usize, Refusal>
     if MOST_ITEMS < count {
         return Err(Refusal::NO_LIST);
     }
-    if ordered {
-        return Ok(count);
+    if !ordered {
+        return Err(Refusal::KEYS);
     }
-    Err(Refusal::KEYS)
+    Ok(count)
 }
 
 // The items from `from` on, behind `before` others. The last of those takes `last_size` bytes and has the key `last`, and
@@ -58,10 +58,10 @@ pub fn check_behind(
 pub fn check(sheet: &[u8]) -> Result<usize, Refusal>
     ensures { result ≡ checked_of (read_sheet sheet.now) }
 {
-    if finding::opens(sheet) {
-        return check_behind(sheet, 1, 0, ITEM_HEAD, Key::default(), true);
+    if !finding::opens(sheet) {
+        return Err(Refusal::NO_LIST);
     }
-    Err(Refusal::NO_LIST)
+    check_behind(sheet, 1, 0, ITEM_HEAD, Key::default(), true)
 }
 
 // Question 3 of a nodesize.

@@ -88,8 +88,8 @@ pub fn opens(sheet: &[u8]) -> bool
 pub fn find(sheet: &[u8], query: ItemQuery) -> Result<Listing, Refusal>
     ensures { result ≡ listing_of (passing query) (read_sheet sheet.now) }
 {
-    if opens(sheet) {
-        return walk(sheet, query);
+    if !opens(sheet) {
+        return Err(Refusal::NO_LIST);
     }
-    Err(Refusal::NO_LIST)
+    walk(sheet, query)
 }

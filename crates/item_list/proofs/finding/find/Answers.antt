@@ -3,12 +3,12 @@ use Rattle.item_list.specs.Seeks.{passing, listing_of}
 use Rattle.item_list.proofs.Reading.{sheet-shut, sheet-read, opens-some}
 use Rattle.item_list.proofs.finding.find.Goals as goal
 
-pub returns-then-opens : goal.returns-then-opens
-returns-then-opens c = c.walk.ensures ∙ sym (ap (listing_of (passing c.args.query)) (sheet-read _ (sym c.opens.ensures ∙ c.if-opens.true)))
-
 pub returns : goal.returns
+returns c = c.walk.ensures ∙ sym (ap (listing_of (passing c.args.query)) (sheet-read _ (sym c.opens.ensures ∙ c.if-not-opens.false)))
+
+pub returns-then-not-opens : goal.returns-then-not-opens
 unfolding listing_of
-returns c = sym (ap (listing_of (passing c.args.query)) (sheet-shut _ (sym c.opens.ensures ∙ c.if-opens.false)))
+returns-then-not-opens c = sym (ap (listing_of (passing c.args.query)) (sheet-shut _ (sym c.opens.ensures ∙ c.if-not-opens.true)))
 
 pub walk-requires : goal.walk-requires
-walk-requires c = opens-some _ (sym c.opens.ensures ∙ c.if-opens.true)
+walk-requires c = opens-some _ (sym c.opens.ensures ∙ c.if-not-opens.false)
