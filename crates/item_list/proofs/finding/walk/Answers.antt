@@ -19,9 +19,6 @@ use Rattle.item_list.proofs.finding.walk.Goals.{Else-size-eq0, After-passes, Aft
 pub loop-at-init : goal.loop-at-init
 loop-at-init c = (past_first _ c.requires, omega arith, search-first c.args.s.now _ _)
 
-pub size_after-size-requires : goal.size_after-size-requires
-size_after-size-requires c = let b = c.loop-at.invariant.0 in (b.inside, b.low, b.high)
-
 pub returns-then-size-eq0 : goal.returns-then-size-eq0
 returns-then-size-eq0 c = sym (c.loop-at.invariant.2 ∙ search-broken _ _ _ _ _ _ c.loop-at-test.true (sym c.size_after-size.ensures ∙ c.if-size-eq0.true))
 

@@ -12,6 +12,3 @@ returns-then-get_u32_be-last c =
     let e : c.get_u32_be.result ≡ item_length (drop a.at a.s.now) = c.get_u32_be.ensures ∙ length_at a.s.now a.at in
     let is : a.last ≡ 4 + item_length (drop a.at a.s.now) = omega arith in
     is ∙ size-whole _ _ (omega arith) (omega arith) (omega arith)
-
-pub returns : goal.returns
-returns c = c.size_at.ensures
