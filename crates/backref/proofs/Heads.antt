@@ -13,67 +13,73 @@ use Rattle.format.specs.declared.Refusal.{Refusal}
 use Rattle.fields.specs.Numbers.{le, le_bytes, are_bytes}
 use Rattle.fields.specs.Parts.{part, written, spliced}
 use Rattle.fields.proofs.Numbers.{length-le_bytes}
-use Rattle.format.specs.declared.Told.TheVariants.{Value, Refused as Untold}
 use Rattle.format.specs.Questions.{Answer, refused, accepted, ask, bind, told_of, denied}
 use Rattle.format.specs.References.{total_of, flags_of}
-use Rattle.format.specs.Bodies.{body_fits, on_head, on_total, raise_total, lower_total, reduce_total, flags, with_flags}
+use Rattle.format.specs.Bodies.{body_fits, raised_by, lowered_by_one, reduced_by, on_head, on_total, raise_total, lower_total, reduce_total, flags, with_flags}
 use Rattle.backref.specs.declared.plan.Plan.TheVariants.{Edit, Absent, Remove}
 use Rattle.backref.specs.declared.plan.Plan.{Plan}
-use Rattle.backref.specs.Plans.{edited, Planned}
-use Rattle.backref.specs.Reads.{head_of}
+use Rattle.backref.specs.Plans.{edited, Planned, KeepsLength}
+use Rattle.backref.specs.Reads.{head_asked}
 use Rattle.backref.specs.declared.total_plans.TotalChange.{TotalChange}
 use Rattle.backref.specs.declared.total_plans.TotalChange.TheVariants.{Raise, LowerByOne, Reduce}
 use Rattle.backref.specs.Totals.{change_total, total_by}
-use Rattle.backref.proofs.Outcomes.{keeps-length, plan-edit, plan-refused, plan-same}
+use Rattle.backref.proofs.Outcomes.{plan-edit, plan-refused, keeps-refused}
 use Rattle.backref.proofs.PlannedTotals.{rewritten, word-front}
 
 -- ---- questions 3 and 6
 
 module _ (body : List ℕ) where
-  pub head-long : 65535 < length body → 3 ≡ head_of body
-  unfolding head_of body_fits
+  pub head-long : 65535 < length body → denied 3 ≡ head_asked body
+  unfolding head_asked body_fits
   head-long h = simp (lt-leb _ _ h)
 
-  pub head-short : length body ≤ 65535 → length body < 24 → 6 ≡ head_of body
-  unfolding head_of body_fits
+  pub head-short : length body ≤ 65535 → length body < 24 → denied 6 ≡ head_asked body
+  unfolding head_asked body_fits
   head-short h k = simp (le-leb _ _ h, lt-leb _ _ k)
 
-  pub head-whole : length body ≤ 65535 → 24 ≤ length body → 0 ≡ head_of body
-  unfolding head_of body_fits
+  pub head-whole : length body ≤ 65535 → 24 ≤ length body → Ok tt ≡ head_asked body
+  unfolding head_asked body_fits
   head-whole h k = simp (le-leb _ _ h, le-leb _ _ k)
 
-  pub record Head (n : ℕ) : Type 1 where
-    pub refuses : {A : Type 0} (next : Answer A) → (n ≡ 0 → ⊥) → on_head body next ≡ refused n
-    pub passes : {A : Type 0} (next : Answer A) → n ≡ 0 → on_head body next ≡ next
-    pub fits : n ≡ 0 → length body ≤ 65535
-    pub long : n ≡ 0 → 24 ≤ length body
+  pub record Head (r : Result (Unit {0}) Refusal) : Type 1 where
+    pub refuses : {A : Type 0} (next : Answer A) {x : Refusal} → r ≡ Err x → on_head body next ≡ refused x.number
+    pub passes : {A : Type 0} (next : Answer A) {u : Unit {0}} → r ≡ Ok u → on_head body next ≡ next
+    pub fits : {u : Unit {0}} → r ≡ Ok u → length body ≤ 65535
+    pub long : {u : Unit {0}} → r ≡ Ok u → 24 ≤ length body
 
-  heads : Head (head_of body)
-  unfolding head_of on_head ask body_fits
+  heads : Head (head_asked body)
+  unfolding head_asked on_head ask body_fits
   heads = go (leb (length body) 65535) refl (leb 24 (length body)) refl
     where
-      go : (x : Bool) → leb (length body) 65535 ≡ x → (y : Bool) → leb 24 (length body) ≡ y → Head (head_of body)
+      number_in : Result (Unit {0}) Refusal → ℕ
+      number_in (Ok u) = 0
+      number_in (Err x) = x.number
+
+      not-both : {X : Type 0} {r : Result (Unit {0}) Refusal} {x : Refusal} {u : Unit {0}} → r ≡ Err x → r ≡ Ok u → X
+      not-both e k = let z : ◌≡◌ {A = ℕ} 0 1 = cc in absurd (omega arith)
+
+      go : (x : Bool) → leb (length body) 65535 ≡ x → (y : Bool) → leb 24 (length body) ≡ y → Head (head_asked body)
       go true a true b = rw (a, b) (record {
-        refuses = λ next h. absurd (h refl);
+        refuses = λ next h. not-both h refl;
         passes = λ next h. rw (a, b) refl;
         fits = λ h. leb-true _ _ a;
         long = λ h. leb-true _ _ b;
       })
       go true a false b = rw (a, b) (record {
-        refuses = λ next h. rw (a, b) refl;
-        passes = λ next h. absurd (omega arith);
-        fits = λ h. absurd (omega arith);
-        long = λ h. absurd (omega arith);
+        refuses = λ next h. rw (a, b) (ap refused (ap number_in h));
+        passes = λ next h. not-both refl h;
+        fits = λ h. not-both refl h;
+        long = λ h. not-both refl h;
       })
       go false a y b = rw a (record {
-        refuses = λ next h. rw a refl;
-        passes = λ next h. absurd (omega arith);
-        fits = λ h. absurd (omega arith);
-        long = λ h. absurd (omega arith);
+        refuses = λ next h. rw a (ap refused (ap number_in h));
+        passes = λ next h. not-both refl h;
+        fits = λ h. not-both refl h;
+        long = λ h. not-both refl h;
       })
 
-  pub head : (n : ℕ) → n ≡ head_of body → Head n
-  head n e = subst Head (sym e) heads
+  pub head : (r : Result (Unit {0}) Refusal) → r ≡ head_asked body → Head r
+  head r e = subst Head (sym e) heads
 
 -- ---- totals
 
@@ -83,7 +89,7 @@ total-only t body =
     ap (written 0 (le_bytes 8 t)) (sym (take-append-drop 8 body) ∙ ap (λ (l : List ℕ). l ++ drop 8 body) (sym (append-nil (take 8 body))))
 
 abbrev pub total_plan : ℕ → Plan
-total_plan t = record { outcome = Edit; from = 8; to = 8; new = replicate 32 0; size = 0; total = t; count = 0 }
+total_plan t = Edit (record { from = 8; to = 8; new = replicate 32 0; size = 0; total = t; count = 0 })
 
 pub change-is : (body : List ℕ) (change : TotalChange) → change_total body change ≡ on_total body (total_by change)
 unfolding raise_total lower_total reduce_total
@@ -91,73 +97,86 @@ change-is body (Raise amount) = refl
 change-is body LowerByOne = refl
 change-is body (Reduce amount) = refl
 
--- what becomes of a total, once it is known which change it is
-pub change-told : {change that : TotalChange} {a : Answer ℕ} (t : ℕ) → change ≡ that → total_by that t ≡ a → total_by change t ≡ a
-change-told t e h = ap (λ (x : TotalChange). total_by x t) e ∙ h
+-- what becomes of a total, by what the code was told of it
+module _ (change : TotalChange) (t : ℕ) (r : Result ℕ Refusal) (e : r ≡ told_of (total_by change t)) where
+  abbrev Said : Result ℕ Refusal → Answer ℕ → Type 0
+  Said (Ok new) a = a ≡ accepted new
+  Said (Err x) a = a ≡ refused x.number
 
-pub head-refused : (body : List ℕ) (n : ℕ) → n ≡ head_of body → (p : Result Plan Refusal) (next : Answer (List ℕ)) → (n ≡ 0 → ⊥) → p ≡ denied n
-    → Planned p body (on_head body next)
-head-refused body n q p next z e = plan-refused p body (on_head body next) n e ((head body n q).refuses next z)
+  asked-said : (b : Bool) (n new : ℕ) → Said (told_of (ask b n (accepted new))) (ask b n (accepted new))
+  unfolding told_of ask
+  asked-said true n new = refl
+  asked-said false n new = refl
+
+  said : (c : TotalChange) → Said (told_of (total_by c t)) (total_by c t)
+  unfolding raised_by lowered_by_one reduced_by
+  said (Raise amount) = asked-said _ _ _
+  said LowerByOne = asked-said _ _ _
+  said (Reduce amount) = asked-said _ _ _
+
+  pub changed-no : {x : Refusal} → r ≡ Err x → total_by change t ≡ refused x.number
+  changed-no {x} k = subst (λ (y : Result ℕ Refusal). Said y (total_by change t)) (sym e ∙ k) (said change)
+
+  pub changed-to : {new : ℕ} → r ≡ Ok new → total_by change t ≡ accepted new
+  changed-to {new} k = subst (λ (y : Result ℕ Refusal). Said y (total_by change t)) (sym e ∙ k) (said change)
 
 -- a call that moves the total
-module _ (body : List ℕ) (moved : ℕ → Answer ℕ) (answer : Answer (List ℕ)) where
-  -- behind questions 3 and 6: the plan, once it is known what the total becomes
-  pub record Behind (t : ℕ) : Type 0 where
-    pub refuses : (p : Result Plan Refusal) (m : ℕ) → moved t ≡ refused m → (p ≡ denied m) × (p.from + p.size ≡ p.to)
-        → Planned p body answer × (p.from + p.size ≡ p.to)
-    pub plans : (p : Result Plan Refusal) (new : ℕ) → moved t ≡ accepted new → p ≡ total_plan new
-        → Planned p body answer × (p.from + p.size ≡ p.to)
+module _ (body : List ℕ) (moved : ℕ → Answer ℕ) (answer : Answer (List ℕ)) (whole : answer ≡ on_total body moved)
+    (r : Result (Unit {0}) Refusal) (q : r ≡ head_asked body) (p : Result Plan Refusal) where
+  pub total_head : {x : Refusal} → r ≡ Err x → p ≡ Err x → Planned p body answer × KeepsLength p
+  unfolding on_total
+  total_head {x} z e = (plan-refused p body answer x.number e (whole ∙ (head body r q).refuses _ z), keeps-refused e)
 
-  module _ (whole : answer ≡ on_total body moved) (n : ℕ) (q : n ≡ head_of body) where
-    pub total_head : (p : Result Plan Refusal) → (n ≡ 0 → ⊥) → p ≡ denied n → Planned p body answer
-    unfolding on_total
-    total_head p z e = plan-same p body _ answer (sym whole) (head-refused body n q p _ z e)
+  module _ (t : ℕ) {u : Unit {0}} (z : r ≡ Ok u) (is : t ≡ le (part 0 8 body)) where
+    becomes : (a : Answer ℕ) → moved t ≡ a → answer ≡ bind a (λ total. accepted (written 0 (le_bytes 8 total) body))
+    unfolding on_total total_of
+    becomes a h =
+        whole ∙ (head body r q).passes _ z
+        ∙ ap (λ (x : Answer ℕ). bind x (λ total. accepted (written 0 (le_bytes 8 total) body))) (ap moved (sym is) ∙ h)
 
-    module _ (t : ℕ) (z : n ≡ 0) (is : t ≡ le (part 0 8 body)) where
-      becomes : (a : Answer ℕ) → moved t ≡ a → answer ≡ bind a (λ total. accepted (written 0 (le_bytes 8 total) body))
-      unfolding on_total total_of
-      becomes a h =
-          whole ∙ (head body n q).passes _ z
-          ∙ ap (λ (x : Answer ℕ). bind x (λ total. accepted (written 0 (le_bytes 8 total) body))) (ap moved (sym is) ∙ h)
+    pub total_refused : {x : Refusal} → moved t ≡ refused x.number → p ≡ Err x → Planned p body answer × KeepsLength p
+    unfolding bind
+    total_refused {x} h e = (plan-refused p body answer x.number e (becomes (refused x.number) h), keeps-refused e)
 
-      pub behind : Behind t
-      unfolding edited bind
-      behind = record {
-        refuses = λ p m h o. (plan-refused p body answer m o.0 (becomes (refused m) h), o.1);
-        plans = λ p new h o. (
-          subst (λ (x : Plan). Planned x body answer) (sym o)
-              (plan-edit (total_plan new) body answer (written 0 (le_bytes 8 new) body) refl
-              (record { low = omega arith; order = omega arith; high = omega (arith, (head body n q).long z); fits = (head body n q).fits z; small = omega arith; full = refl })
-              (becomes (accepted new) h) (total-only new body)),
-          keeps-length o refl,
-        );
-      }
+    pub total_moved : {new : ℕ} {plan : Plan} → moved t ≡ accepted new → plan ≡ total_plan new → p ≡ Ok plan → Planned p body answer × KeepsLength p
+    unfolding edited bind KeepsLength
+    total_moved {new} h o e = (
+      plan-edit p body answer _ (written 0 (le_bytes 8 new) body) (e ∙ ap Ok o)
+          (record { low = omega arith; order = omega arith; high = omega (arith, (head body r q).long z); fits = (head body r q).fits z; small = omega arith; full = refl })
+          (becomes (accepted new) h) (total-only new body),
+      subst KeepsLength (sym (e ∙ ap Ok o)) refl,
+    )
 
 -- ---- flags
 
-module _ (body : List ℕ) (n : ℕ) (q : n ≡ head_of body) where
-  pub flags-refused : (n ≡ 0 → ⊥) → Untold n ≡ told_of (flags body)
+module _ (body : List ℕ) (r : Result (Unit {0}) Refusal) (q : r ≡ head_asked body) where
+  pub flags-refused : {x : Refusal} → r ≡ Err x → Err x ≡ told_of (flags body)
   unfolding told_of flags
-  flags-refused h = sym (ap told_of ((head body n q).refuses (accepted (flags_of body)) h))
+  flags-refused h = sym (ap told_of ((head body r q).refuses (accepted (flags_of body)) h))
 
-  pub flags-are : (f : ℕ) → n ≡ 0 → f ≡ le (part 16 8 body) → Value f ≡ told_of (flags body)
+  pub flags-are : (f : ℕ) {u : Unit {0}} → r ≡ Ok u → f ≡ le (part 16 8 body) → Ok f ≡ told_of (flags body)
   unfolding told_of flags flags_of
-  flags-are f z e = ap Value e ∙ sym (ap told_of ((head body n q).passes (accepted (flags_of body)) z))
+  flags-are f z e = ap Ok e ∙ sym (ap told_of ((head body r q).passes (accepted (flags_of body)) z))
 
-pub flags-plan : (body : List ℕ) (n t f set : ℕ) (p : Result Plan Refusal) (new : List ℕ) → n ≡ head_of body → n ≡ 0 → T (are_bytes body) → t ≡ le (part 0 8 body)
-    → f ≡ le (part 16 8 body) → new ≡ written 0 (le_bytes 8 (bit_or f set)) (replicate 32 0)
-    → p ≡ record { outcome = Edit; from = 16; to = 24; new = new; size = 8; total = t; count = 0 }
-    → Planned p body (with_flags body set)
-unfolding with_flags flags_of edited
-flags-plan body n t f set p new q z b e₁ e₂ e₃ e =
-    let plan : Plan = record { outcome = Edit; from = 16; to = 24; new = new; size = 8; total = t; count = 0 } in
-    let h = head body n q in
-    let long : 24 ≤ length body = h.long z in
-    let word : List ℕ = le_bytes 8 (bit_or f set) in
-    let n8 : length word ≡ 8 = length-le_bytes 8 (bit_or f set) in
-    let New-is = word-front word new 8 n8 (omega arith) e₃ in
-    subst (λ (x : Plan). Planned x body (with_flags body set)) (sym e)
-    (plan-edit plan body (with_flags body set) (written 16 word body) refl
-    (record { low = omega arith; order = omega arith; high = long; fits = h.fits z; small = omega arith; full = New-is.1 })
-    (h.passes _ z ∙ ap (λ (x : ℕ). accepted (written 16 (le_bytes 8 (bit_or x set)) body)) (sym e₂))
-    (rewritten body word new t 16 8 b e₁ (omega arith) long n8 New-is.0))
+  module _ (set : ℕ) (p : Result Plan Refusal) where
+    pub flags-head : {x : Refusal} → r ≡ Err x → p ≡ Err x → Planned p body (with_flags body set) × KeepsLength p
+    unfolding with_flags
+    flags-head {x} z e = (plan-refused p body (with_flags body set) x.number e ((head body r q).refuses _ z), keeps-refused e)
+
+    pub flags-plan : (t f : ℕ) (new : List ℕ) {u : Unit {0}} → r ≡ Ok u → T (are_bytes body) → t ≡ le (part 0 8 body)
+        → f ≡ le (part 16 8 body) → new ≡ written 0 (le_bytes 8 (bit_or f set)) (replicate 32 0)
+        → p ≡ Ok (Edit (record { from = 16; to = 24; new = new; size = 8; total = t; count = 0 }))
+        → Planned p body (with_flags body set) × KeepsLength p
+    unfolding with_flags flags_of edited KeepsLength
+    flags-plan t f new z b e₁ e₂ e₃ e =
+        let h = head body r q in
+        let long : 24 ≤ length body = h.long z in
+        let word : List ℕ = le_bytes 8 (bit_or f set) in
+        let n8 : length word ≡ 8 = length-le_bytes 8 (bit_or f set) in
+        let New-is = word-front word new 8 n8 (omega arith) e₃ in (
+          plan-edit p body (with_flags body set) _ (written 16 word body) e
+              (record { low = omega arith; order = omega arith; high = long; fits = h.fits z; small = omega arith; full = New-is.1 })
+              (h.passes _ z ∙ ap (λ (x : ℕ). accepted (written 16 (le_bytes 8 (bit_or x set)) body)) (sym e₂))
+              (rewritten body word new t 16 8 b e₁ (omega arith) long n8 New-is.0),
+          subst KeepsLength (sym e) refl,
+        )

@@ -65,7 +65,7 @@ module _ (item : List ℕ) (d : DataRef) (p : Result Plan Refusal) where
 
       pub keyed-less : (tree : ℕ) (new : List ℕ) → T (are_bytes item) → (count ≡ 0 → ⊥) → (count ≡ 1 → ⊥) → tree ≡ le (part 0 8 item)
           → new ≡ written 0 (le_bytes 4 (count - 1)) (replicate 32 0)
-          → p ≡ record { outcome = Edit; from = 24; to = 28; new = new; size = 4; total = tree; count = 0 }
+          → p ≡ Ok (Edit (record { from = 24; to = 28; new = new; size = 4; total = tree; count = 0 }))
           → Planned p item (drop_keyed_data_ref item d)
       unfolding drop_keyed_data_ref ask body_fits keyed_count edited
       keyed-less tree new bytes y z e w o =
@@ -73,10 +73,8 @@ module _ (item : List ℕ) (d : DataRef) (p : Result Plan Refusal) where
           let word : List ℕ = le_bytes 4 (count - 1) in
           let n4 : length word ≡ 4 = length-le_bytes 4 (count - 1) in
           let New-is = word-front word new 4 n4 (omega arith) w in
-          let plan : Plan = record { outcome = Edit; from = 24; to = 28; new = new; size = 4; total = tree; count = 0 } in
           let high : 28 ≤ length item = omega arith in
-          subst (λ (x : Plan). Planned x item (drop_keyed_data_ref item d)) (sym o)
-          (plan-edit plan item (drop_keyed_data_ref item d) (written 24 word item) refl
+          plan-edit p item (drop_keyed_data_ref item d) _ (written 24 word item) o
           (record { low = omega arith; order = omega arith; high = high; fits = fits; small = omega arith; full = New-is.1 })
           (simp (le-leb _ _ fits, eq-eqb _ _ n, sym is ∙ t, ← q, le-leb _ _ k, ne_eqb _ _ z))
-          (rewritten item word new tree 24 4 bytes e (omega arith) high n4 New-is.0))
+          (rewritten item word new tree 24 4 bytes e (omega arith) high n4 New-is.0)

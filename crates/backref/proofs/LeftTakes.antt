@@ -31,15 +31,17 @@ use Rattle.inline_refs.proofs.Views.{CutAt, DropView, drop-viewed}
 use Rattle.inline_refs.proofs.RefPositions.{cut-between, cut-passed}
 use Rattle.backref.specs.declared.plan.Plan.TheVariants.{Edit, Absent, Remove}
 use Rattle.backref.specs.declared.plan.Plan.{Plan}
+use Rattle.inline_refs.specs.declared.drop_scan.First.{First}
+use Rattle.backref.specs.declared.plan.BodyEdit.{BodyEdit}
 use Rattle.backref.specs.declared.plan.DropPlan.{DropPlan}
 use Rattle.backref.specs.declared.offs.Off.{Off}
 use Rattle.backref.specs.declared.offs.Off.TheVariants.{One, Part, Whole}
 use Rattle.backref.specs.Plans.{PlannedDrop}
 use Rattle.backref.specs.ByName.{drop_named}
-use Rattle.backref.specs.Offs.{off_of, off_fault, amount_off, total_off, lowered_off, drop_off, PlannedOff}
+use Rattle.backref.specs.Offs.{off_of, off_asked, amount_off, total_off, lowered_off, drop_off, PlannedOff}
 use Rattle.backref.proofs.NewBytes.{Holds, wanted-small}
 use Rattle.backref.proofs.Outcomes.{drop-refused, drop-absent, drop-edit}
-use Rattle.backref.proofs.PlannedTotals.{Asked, one-asked, part-asked}
+use Rattle.backref.proofs.PlannedTotals.{Asked, asked-yes, asked-by, one-asks, part-asks}
 use Rattle.backref.proofs.AddedAt.{Decided, readable, faulty, decide, ends, placed, plan_of, adding-plan, wanted-is}
 
 -- the total of the body that was read
@@ -49,12 +51,12 @@ total-at type d b r t e = sym (e ∙ read-total type d b r)
 
 -- ---- what goes off
 
--- the question that code asks is that of the new total
-off-asked : (off : Off) (standing n t : ℕ) → n ≡ off_fault off standing t → Asked n (lowered_off off standing t) (total_off off t)
-unfolding off_fault lowered_off total_off
-off-asked One standing n t q = one-asked 1 n t q refl
-off-asked (Part amount) standing n t q = part-asked amount standing n t q
-off-asked Whole standing n t q = record { refuses = λ h. absurd (h q); passes = λ h. refl }
+-- what code asks is the question of the new total
+off-asks : (off : Off) (standing t : ℕ) → Asked (off_asked off standing t) (lowered_off off standing t) (total_off off t)
+unfolding off_asked lowered_off total_off
+off-asks One standing t = one-asks 1 t refl
+off-asks (Part amount) standing t = part-asks amount standing t
+off-asks Whole standing t = asked-yes t
 
 off-least : (off : Off) (t : ℕ) → total_off off t ≤ t
 unfolding total_off
@@ -91,37 +93,31 @@ left-bound kind fields (r ∷ refs) t =
 
 -- ---- what the scan says of the body
 
-pub record DropIn (type : ℕ) (d : List ℕ) (w : RefName) (s : DropScan) : Type 0 where
+pub record DropIn (type : ℕ) (d : List ℕ) (w : RefName) (s : Option First) : Type 0 where
   pub from : Body
   pub fits : length d ≤ 65535
   pub read : read_body type d ≡ accepted from
   pub view : DropView w (start_of type d) from.refs s
 
 module _ (type : ℕ) (d : List ℕ) (w : RefName) where
-  abbrev pub ScanSays : DropScan → Type 0
-  ScanSays (Fault n) = (next : Body → Answer (List ℕ)) → on_body type d next ≡ refused n
-  ScanSays Nothing = DropIn type d w Nothing
-  ScanSays (First p q x behind) = DropIn type d w (First p q x behind)
+  abbrev pub ScanSays : Result (Option First) Refusal → Type 0
+  ScanSays (Err x) = (next : Body → Answer (List ℕ)) → on_body type d next ≡ refused x.number
+  ScanSays (Ok first) = DropIn type d w first
 
-  read-says : (b : Body) → length d ≤ 65535 → read_body type d ≡ accepted b → (s : DropScan) → DropView w (start_of type d) b.refs s → ScanSays s
-  read-says b h q (Fault n) v = absurd v
-  read-says b h q Nothing v = record { from = b; fits = h; read = q; view = v }
-  read-says b h q (First at next x behind) v = record { from = b; fits = h; read = q; view = v }
-
-  pub scan-says : (s : DropScan) → s ≡ drop_scan_of w (start_of type d) (refs_in type d) → ScanSays s
+  pub scan-says : (s : Result (Option First) Refusal) → s ≡ drop_scan_of w (start_of type d) (refs_in type d) → ScanSays s
   unfolding drop_scan_of refs_in
   scan-says s e = subst ScanSays (sym e) (go (decide type d))
     where
       go : Decided type d → ScanSays (drop_scan_of w (start_of type d) (refs_in type d))
       go (readable b h q) =
           rw (on-body type d b (λ x. accepted x.refs) h q)
-          (read-says b h q (drop_walk w (start_of type d) b.refs) (drop-viewed w (start_of type d) b.refs _ refl))
+          (record { from = b; fits = h; read = q; view = drop-viewed w (start_of type d) b.refs _ refl })
       go (faulty n f) = rw (f (List Ref) (λ x. accepted x.refs)) (f (List ℕ))
 
   -- the sum of what is left does not wrap
-  pub scan-small : {at next x behind : ℕ} → DropIn type d w (First at next x behind) → T (are_bytes d) → behind + x < 18446744073709551616
-  scan-small {at} {next} {x} {behind} r bytes =
-      let hit : CutAt (is_wanted w) (start_of type d) r.from.refs at next x = r.view.hit in
+  pub scan-small : {f : First} → DropIn type d w (Some f) → T (are_bytes d) → f.behind + f.found.weight < 18446744073709551616
+  scan-small {f} r bytes =
+      let hit : CutAt (is_wanted w) (start_of type d) r.from.refs f.found.at f.found.next f.found.weight = r.view.hit in
       let c : Cut Ref = hit.parts in
       let same : r.from.refs ≡ c.front ++ c.hit ∷ c.back = (cut-some (is_wanted w) r.from.refs hit.cuts).same in
       let wholes : T (all whole (c.front ++ c.hit ∷ c.back)) = rw same at (read-sound type d r.from bytes r.read).wholes in
@@ -139,11 +135,20 @@ module _ (type : ℕ) (d : List ℕ) (w : RefName) where
 
 -- ---- the plan
 
-other-outcome : {X : Type 0} {o : Outcome} (n : ℕ) → o ≡ Refused n → o ≡ Edit → X
-other-outcome n e h = let z : Refused n ≡ Edit = sym e ∙ h in let y : ◌≡◌ {A = ℕ} 0 1 = cc in absurd (omega arith)
+count-of : {a b : BodyEdit} → ◌≡◌ {A = Result Plan Refusal} (Ok (Edit a)) (Ok (Edit b)) → a.count ≡ b.count
+count-of e = ap count_in e
+  where
+    count_in : Result Plan Refusal → ℕ
+    count_in (Ok (Edit x)) = x.count
+    count_in (Ok Absent) = 0
+    count_in (Ok Remove) = 0
+    count_in (Err x) = 0
 
-absent-outcome : {X : Type 0} {o : Outcome} → o ≡ Absent → o ≡ Edit → X
-absent-outcome e h = let z : Absent ≡ Edit = sym e ∙ h in let y : ◌≡◌ {A = ℕ} 0 1 = cc in absurd (omega arith)
+other-outcome : {X : Type 0} {p : Result Plan Refusal} {x : Refusal} {e : BodyEdit} → p ≡ Err x → p ≡ Ok (Edit e) → X
+other-outcome k h = let z : ◌≡◌ {A = ℕ} 0 1 = cc in absurd (omega arith)
+
+absent-outcome : {X : Type 0} {p : Result Plan Refusal} {e : BodyEdit} → p ≡ Ok Absent → p ≡ Ok (Edit e) → X
+absent-outcome k h = let z : ◌≡◌ {A = ℕ} 0 1 = cc in absurd (omega arith)
 
 module _ (type : ℕ) (d : List ℕ) (w : RefName) (off : Off) (p : DropPlan) where
   abbrev dropped : Answer (List ℕ)
@@ -153,21 +158,21 @@ module _ (type : ℕ) (d : List ℕ) (w : RefName) (off : Off) (p : DropPlan) wh
   leaves = left_in type (kind_of w) (fields_of w)
 
   off-refused : (n : ℕ) → dropped ≡ refused n → p.plan ≡ denied n → PlannedOff p type d w off
-  off-refused n e o = record { drops = drop-refused p d dropped leaves n o e; counted = λ b c r k h. other-outcome n o h }
+  off-refused n e o = record { drops = drop-refused p d dropped leaves n o e; counted = λ b c r k edit h. other-outcome o h }
 
-  pub off-fault : (n : ℕ) → ScanSays type d w (Fault n) → p.plan ≡ denied n → PlannedOff p type d w off
+  pub off-fault : {x : Refusal} → ScanSays type d w (Err x) → p.plan ≡ Err x → PlannedOff p type d w off
   unfolding drop_inline
-  off-fault n e o = off-refused n (e _) o
+  off-fault {x} e o = off-refused x.number (e _) o
 
-  pub off-absent : DropIn type d w Nothing → p.plan ≡ Ok Absent → PlannedOff p type d w off
+  pub off-absent : DropIn type d w None → p.plan ≡ Ok Absent → PlannedOff p type d w off
   unfolding drop_inline found bind
   off-absent r o = record {
     drops = drop-absent p d dropped leaves o (on-body type d r.from _ r.fits r.read ∙ rw r.view refl);
-    counted = λ b c q k h. absent-outcome o h;
+    counted = λ b c q k edit h. absent-outcome o h;
   }
 
-  module _ {at next x behind : ℕ} (r : DropIn type d w (First at next x behind)) (n t : ℕ) (is : t ≡ le (part 0 8 d)) (asks : n ≡ off_fault off x t) where
-    hit : CutAt (is_wanted w) (start_of type d) r.from.refs at next x
+  module _ {f : First} (r : DropIn type d w (Some f)) (t : ℕ) (is : t ≡ le (part 0 8 d)) (said : Result (Unit {0}) Refusal) (asks : said ≡ off_asked off f.found.weight t) where
+    hit : CutAt (is_wanted w) (start_of type d) r.from.refs f.found.at f.found.next f.found.weight
     hit = r.view.hit
 
     abbrev c : Cut Ref
@@ -176,64 +181,67 @@ module _ (type : ℕ) (d : List ℕ) (w : RefName) (off : Off) (p : DropPlan) wh
     abbrev made : List Ref → ℕ → List ℕ
     made new total = body_bytes (body_with r.from total (c.front ++ (new ++ c.back)))
 
-    off-found : (a : Answer ℕ) → lowered_off off x t ≡ a → dropped ≡ bind a (λ total. accepted (made (less c.hit (amount_off off)) total))
+    off-found : (a : Answer ℕ) → lowered_off off f.found.weight t ≡ a → dropped ≡ bind a (λ total. accepted (made (less c.hit (amount_off off)) total))
     unfolding drop_inline found bind
     off-found a h =
         on-body type d r.from _ r.fits r.read ∙ rw hit.cuts refl
         ∙ ap (λ (b : Answer ℕ). bind b (λ total. accepted (made (less c.hit (amount_off off)) total)))
-        (ap (λ (m : ℕ). lowered_off off m r.from.total) (sym hit.weighs) ∙ ap (lowered_off off x) (total-at type d r.from r.read t is) ∙ h)
+        (ap (λ (m : ℕ). lowered_off off m r.from.total) (sym hit.weighs) ∙ ap (lowered_off off f.found.weight) (total-at type d r.from r.read t is) ∙ h)
 
-    pub off-stopped : (n ≡ 0 → ⊥) → p.plan ≡ denied n → PlannedOff p type d w off
+    asked : Asked said (lowered_off off f.found.weight t) (total_off off t)
+    asked = asked-by asks (off-asks off f.found.weight t)
+
+    pub off-stopped : {x : Refusal} → said ≡ Err x → p.plan ≡ Err x → PlannedOff p type d w off
     unfolding bind
-    off-stopped z o = off-refused n (off-found (refused n) ((off-asked off x n t asks).refuses z)) o
+    off-stopped {x} z o = off-refused x.number (off-found (refused x.number) (asked.refuses z)) o
 
-    module _ (bytes : T (are_bytes d)) (z : n ≡ 0) (u : ℕ) (rest : u ≡ total_off off t) where
+    module _ (bytes : T (are_bytes d)) {ok : Unit {0}} (z : said ≡ Ok ok) (u : ℕ) (rest : u ≡ total_off off t) where
       off-done : dropped ≡ accepted (made (less c.hit (amount_off off)) u)
       unfolding bind
       off-done =
-          off-found (accepted u) ((off-asked off x n t asks).passes z ∙ ap accepted (sym rest))
+          off-found (accepted u) (asked.passes z ∙ ap accepted (sym rest))
 
       small : u < 18446744073709551616
       small = omega (arith, rest, off-least off t, total-at type d r.from r.read t is, (read-sound type d r.from bytes r.read).fits)
 
-      off-left : leaves (made (less c.hit (amount_off off)) u) ≡ (x - amount_off off) + behind
+      off-left : leaves (made (less c.hit (amount_off off)) u) ≡ (f.found.weight - amount_off off) + f.behind
       unfolding hit
       off-left =
           left_less type (kind_of w) (fields_of w) d r.from r.read bytes c hit.cuts u small (amount_off off)
           ∙ (λ i. (sym hit.weighs i - amount_off off) + sym r.view.sums i)
 
-      off-counted : (b : Body) (k : Cut Ref) → read_body type d ≡ accepted b → first_cut (named (kind_of w) (fields_of w)) b.refs ≡ some k → x ≡ k.hit.weight
-      off-counted b k e f =
+      off-counted : (b : Body) (k : Cut Ref) → read_body type d ≡ accepted b → first_cut (named (kind_of w) (fields_of w)) b.refs ≡ some k → f.found.weight ≡ k.hit.weight
+      off-counted b k e c₂ =
           let same : r.from ≡ b = accepted-inj (sym r.read ∙ e) in
-          let cut : c ≡ k = some_inj (sym hit.cuts ∙ ap (λ (y : Body). first_cut (named (kind_of w) (fields_of w)) y.refs) same ∙ f) in
+          let cut : c ≡ k = some_inj (sym hit.cuts ∙ ap (λ (y : Body). first_cut (named (kind_of w) (fields_of w)) y.refs) same ∙ c₂) in
           hit.weighs ∙ ap (λ (y : Cut Ref). y.hit.weight) cut
 
-      off-edit : (new : List Ref) (word : List ℕ) (size : ℕ) → less c.hit (amount_off off) ≡ new → p.plan ≡ plan_of at next word size u x
-          → p.left ≡ (x - amount_off off) + behind → take size word ≡ refs_bytes new → length word ≡ 32 → size ≤ 29 → PlannedOff p type d w off
+      off-edit : (new : List Ref) (word : List ℕ) (size : ℕ) → less c.hit (amount_off off) ≡ new → p.plan ≡ plan_of f.found.at f.found.next word size u f.found.weight
+          → p.left ≡ (f.found.weight - amount_off off) + f.behind → take size word ≡ refs_bytes new → length word ≡ 32 → size ≤ 29 → PlannedOff p type d w off
       off-edit new word size k o l front long low = record {
         drops = drop-edit p d dropped leaves (made (less c.hit (amount_off off)) u)
-            (adding-plan p.plan d r.from c.front (c.hit ∷ []) c.back at next word size u x new dropped
-            (placed type d r.from bytes r.read c.front (c.hit ∷ []) c.back at next (cut-between (is_wanted w) (start_of type d) r.from.refs at next x hit))
+            (adding-plan p.plan d r.from c.front (c.hit ∷ []) c.back f.found.at f.found.next word size u f.found.weight new dropped
+            (placed type d r.from bytes r.read c.front (c.hit ∷ []) c.back f.found.at f.found.next (cut-between (is_wanted w) (start_of type d) r.from.refs f.found.at f.found.next f.found.weight hit))
             r.fits o front long low (off-done ∙ ap (λ (m : List Ref). accepted (made m u)) k))
             off-done (l ∙ sym off-left);
-        counted = λ b q e f h. ap (λ (y : Plan). y.count) o ∙ off-counted b q e f;
+        counted = λ b q e c₂ edit h. count-of (sym h ∙ o) ∙ off-counted b q e c₂;
       }
 
       module _ (amount : ℕ) (by : amount ≡ amount_off off) where
-        pub off-gone : x ≤ amount → p.plan ≡ plan_of at next (replicate 32 0) 0 u x → p.left ≡ behind → PlannedOff p type d w off
+        pub off-gone : f.found.weight ≤ amount → p.plan ≡ plan_of f.found.at f.found.next (replicate 32 0) 0 u f.found.weight → p.left ≡ f.behind → PlannedOff p type d w off
         unfolding less refs_bytes
         off-gone k o l =
             let low : c.hit.weight ≤ amount_off off = omega (arith, hit.weighs) in
             off-edit [] (replicate 32 0) 0 (simp (le-ltb _ _ low)) o (omega (arith, l)) refl refl (omega arith)
 
-        pub off-kept : (word : List ℕ) (size : ℕ) → amount < x → Holds w (x - amount) word → size ≡ 1 + payload_length (kind_of w)
-            → p.plan ≡ plan_of at next word size u x → p.left ≡ behind + (x - amount) → PlannedOff p type d w off
+        pub off-kept : (word : List ℕ) (size : ℕ) → amount < f.found.weight → Holds w (f.found.weight - amount) word → size ≡ 1 + payload_length (kind_of w)
+            → p.plan ≡ plan_of f.found.at f.found.next word size u f.found.weight → p.left ≡ f.behind + (f.found.weight - amount) → PlannedOff p type d w off
         unfolding less
         off-kept word size k h s o l =
             let high : amount_off off < c.hit.weight = omega (arith, hit.weighs) in
             let fewer : Ref = weighed c.hit (c.hit.weight - amount_off off) in
-            let same : fewer ≡ make_ref (kind_of w) (fields_of w) (x - amount) =
-            wanted-is w c.hit (c.hit.weight - amount_off off) (cut-passed (is_wanted w) (start_of type d) r.from.refs at next x hit)
+            let same : fewer ≡ make_ref (kind_of w) (fields_of w) (f.found.weight - amount) =
+            wanted-is w c.hit (c.hit.weight - amount_off off) (cut-passed (is_wanted w) (start_of type d) r.from.refs f.found.at f.found.next f.found.weight hit)
             ∙ (λ i. make_ref (kind_of w) (fields_of w) (sym hit.weighs i - sym by i)) in
             off-edit (fewer ∷ []) word size (simp (lt-ltb _ _ high)) o (omega (arith, l))
             (ap (λ (m : ℕ). take m word) s ∙ h.front ∙ sym (ap ref_bytes same) ∙ sym (refs_bytes-one fewer))

@@ -24,21 +24,21 @@ use Rattle.backref.proofs.Writes.{front_of, length-edit, same}
 
 -- ---- the writer
 
-module _ {p : Result Plan Refusal} {body : List ℕ} where
+pub keeps-edit : {p : Result Plan Refusal} {e : BodyEdit} → p ≡ Ok (Edit e) → KeepsLength p → e.from + e.size ≡ e.to
+unfolding KeepsLength
+keeps-edit k h = subst KeepsLength k h
+
+module _ (body : List ℕ) {p : Result Plan Refusal} where
   pub inside-edit : {e : BodyEdit} → p ≡ Ok (Edit e) → PlanIn p body → EditIn e body
   unfolding PlanIn
   inside-edit k h = subst (λ (q : Result Plan Refusal). PlanIn q body) k h
 
-  pub keeps-edit : {e : BodyEdit} → p ≡ Ok (Edit e) → KeepsLength p → e.from + e.size ≡ e.to
-  unfolding KeepsLength
-  keeps-edit k h = subst KeepsLength k h
+  pub wrote : (room : ℕ) {old new : List ℕ} {e : BodyEdit} {r : Result Edited Refusal} → p ≡ Ok (Edit e) → Answered (held_body room (accepted (edited e body))) r old new
+      → Answered (held_body room (plan_answer p body)) r old new
+  unfolding plan_answer
+  wrote room {old} {new} {r = r} k h = subst (λ (q : Result Plan Refusal). Answered (held_body room (plan_answer q body)) r old new) (sym k) h
 
-  module _ (room : ℕ) {old new : List ℕ} where
-    pub wrote : {e : BodyEdit} {r : Result Edited Refusal} → p ≡ Ok (Edit e) → Answered (held_body room (accepted (edited e body))) r old new
-        → Answered (held_body room (plan_answer p body)) r old new
-    unfolding plan_answer
-    wrote {r = r} k h = subst (λ (q : Result Plan Refusal). Answered (held_body room (plan_answer q body)) r old new) (sym k) h
-
+  module _ (room : ℕ) (old : List ℕ) where
     pub wrote-absent : p ≡ Ok Absent → Answered (held_body room (plan_answer p body)) (Ok NoMatch) old old
     unfolding plan_answer held_body held bind lent edited_of
     wrote-absent k = subst (λ (q : Result Plan Refusal). Answered (held_body room (plan_answer q body)) (Ok NoMatch) old old) (sym k) (record { result = refl; output = refl })

@@ -10,15 +10,12 @@ use Rattle.fields.specs.Numbers.{le}
 use Rattle.fields.specs.Parts.{part}
 use Rattle.fields.proofs.Numbers.{words-at}
 use Rattle.format.specs.declared.InlineRef.{InlineRef}
-use Rattle.format.specs.declared.Picked.{Picked}
-use Rattle.format.specs.declared.Picked.TheVariants.{Ref as Reference, Refused as Unpicked}
-use Rattle.format.specs.Questions.{Answer, refused, absent, remove, accepted, bind, needed, code_of, lent_number, lent_part, picked_of}
+use Rattle.format.specs.Questions.{Answer, refused, absent, remove, accepted, bind, needed, code_of, lent_number, lent_part, told_of, denied}
 use Rattle.format.specs.References.{payload_length, field_count, Ref, ref_at, start_of}
 use Rattle.format.specs.Bodies.{positions, ref_numbered, inline_ref, inline_payload}
 use Rattle.format.proofs.Answers.{accepted-inj, refused-not}
 use Rattle.format.proofs.Refs.{read_refs-decides}
 use Rattle.format.proofs.Rows.{payload-fields, some-field}
-use Rattle.inline_refs.specs.declared.count.Counted.TheVariants.{Count, Refused}
 use Rattle.inline_refs.specs.Steps.{read_from}
 use Rattle.inline_refs.specs.Scans.{refs_in, ref_count_of}
 use Rattle.inline_refs.proofs.Steps.{At, ends-within}
@@ -50,16 +47,16 @@ pub record Going (s : List ℕ) (start index at left : ℕ) : Type 0 where
   pub same : ref_numbered at left rest ≡ pick_in start index (read_from s start)
 
 module _ (s : List ℕ) (start index : ℕ) where
-  pub going-none : (count : ℕ) → Count count ≡ ref_count_of (read_from s start) → Going s start index start index
+  pub going-none : (count : ℕ) → Ok count ≡ ref_count_of (read_from s start) → Going s start index start index
   unfolding pick_in bind
   going-none count e =
       let w = count-reads (read_from s start) count e in
       record { rest = w.refs; reads = w.is; same = sym (ap (pick_in start index) w.is) }
 
   module _ (at left : ℕ) (g : Going s start index at left) where
-    pub pick-ended : read_from s at ≡ accepted [] → Unpicked 5 ≡ picked_of (pick_in start index (read_from s start))
-    unfolding ref_numbered bind needed picked_of
-    pick-ended e = ap (λ (l : List Ref). picked_of (ref_numbered at left l)) (accepted-inj (sym e ∙ g.reads)) ∙ ap picked_of g.same
+    pub pick-ended : read_from s at ≡ accepted [] → denied 5 ≡ told_of (pick_in start index (read_from s start))
+    unfolding ref_numbered bind needed told_of
+    pick-ended e = ap (λ (l : List Ref). told_of (ref_numbered at left l)) (accepted-inj (sym e ∙ g.reads)) ∙ ap told_of g.same
 
     pub pick-fault : (m : ℕ) {X : Type 0} → read_from s at ≡ refused m → X
     pick-fault m e = refused-not (sym e ∙ g.reads)
@@ -78,14 +75,14 @@ module _ (s : List ℕ) (start index : ℕ) where
           }
 
       pub pick-found : (offset : ℕ) → left ≡ 0 → offset ≡ le (part p 8 s)
-          → Reference (record { kind = k; offset = offset; start = p; len = n }) ≡ picked_of (pick_in start index (read_from s start))
-      unfolding ref_numbered bind needed picked_of ref_at
+          → Ok (record { kind = k; offset = offset; start = p; len = n }) ≡ told_of (pick_in start index (read_from s start))
+      unfolding ref_numbered bind needed told_of ref_at
       pick-found offset z e =
           let f = further s at k p n q next h g.rest g.reads in
           let first : offset ≡ get_or (ref_at k (drop p s)).fields 0 0 = e ∙ sym (words-at (field_count k) 0 (drop p s) (some-field k h.kind_known)) in
           let is : by (at ∷ positions next f.others) 0 (ref_at k (drop p s) ∷ f.others) ≡ ref_numbered at left g.rest =
           sym (ap₂ (λ (a : List ℕ) (b : List Ref). by a 0 b) f.places f.is) ∙ ap (λ (m : ℕ). ref_numbered at m g.rest) (sym z) in
-          (λ i. Reference (record { kind = k; offset = first i; start = h.start i; len = h.long i })) ∙ ap picked_of (is ∙ g.same)
+          (λ i. Ok (record { kind = k; offset = first i; start = h.start i; len = h.long i })) ∙ ap told_of (is ∙ g.same)
 
 -- ---- the call
 
@@ -94,52 +91,56 @@ module _ (type : ℕ) (s : List ℕ) (index : ℕ) where
   unfolding inline_ref pick_in
   calls = on-refs type s (ref_numbered (start_of type s) index)
 
-  pub pick-shut : (m : ℕ) → refs_in type s ≡ refused m → Unpicked m ≡ picked_of (inline_ref type s index)
-  unfolding pick_in bind picked_of
-  pick-shut m e = sym (ap picked_of (calls ∙ ap (pick_in (start_of type s) index) e))
+  pub pick-shut : (m : ℕ) → refs_in type s ≡ refused m → denied m ≡ told_of (inline_ref type s index)
+  unfolding pick_in bind told_of
+  pick-shut m e = sym (ap told_of (calls ∙ ap (pick_in (start_of type s) index) e))
 
   module _ (start : ℕ) (o : Opens type s start) where
-    pub pick-refused : (m : ℕ) → Refused m ≡ ref_count_of (read_from s start) → Unpicked m ≡ picked_of (inline_ref type s index)
+    pub pick-refused : (m : ℕ) → denied m ≡ ref_count_of (read_from s start) → denied m ≡ told_of (inline_ref type s index)
     unfolding read_from
     pick-refused m e = pick-shut m (o.reads ∙ fault-reads (read_from s start) m (read_refs-decides (length (drop start s)) (drop start s)) e)
 
-    pub pick_is : picked_of (pick_in start index (read_from s start)) ≡ picked_of (inline_ref type s index)
-    pick_is = ap picked_of (ap₂ (λ (a : ℕ) (b : Answer (List Ref)). pick_in a index b) o.at (sym o.reads) ∙ sym calls)
+    pub pick_is : told_of (pick_in start index (read_from s start)) ≡ told_of (inline_ref type s index)
+    pick_is = ap told_of (ap₂ (λ (a : ℕ) (b : Answer (List Ref)). pick_in a index b) o.at (sym o.reads) ∙ sym calls)
 
 -- ---- the payload
 
-reference-not : {X : Type 0} {m : ℕ} {r : InlineRef} → Unpicked m ≡ Reference r → X
+reference-not : {X : Type 0} {m : ℕ} {r : InlineRef} → ◌≡◌ {A = Result InlineRef Refusal} (denied m) (Ok r) → X
 reference-not e = let z : ◌≡◌ {A = ℕ} 0 1 = cc in absurd (omega arith)
 
-unpicked-inj : {m n : ℕ} → Unpicked m ≡ Unpicked n → m ≡ n
-unpicked-inj e = cc
+unpicked-inj : {m n : ℕ} → ◌≡◌ {A = Result InlineRef Refusal} (denied m) (denied n) → m ≡ n
+unpicked-inj e = ap number_in e
+  where
+    number_in : Result InlineRef Refusal → ℕ
+    number_in (Ok r) = 0
+    number_in (Err refusal) = refusal.number
 
 abbrev payload_in : List ℕ → Answer InlineRef → Answer (List ℕ)
 payload_in s x = bind x (λ r. accepted (part r.start r.len s))
 
 module _ (s : List ℕ) where
-  nothing-in : (x : Answer InlineRef) (m : ℕ) → Unpicked m ≡ picked_of x
+  nothing-in : (x : Answer InlineRef) (m : ℕ) → denied m ≡ told_of x
       → ([] ≡ lent_part (payload_in s x)) × (m ≡ code_of (payload_in s x)) × (0 ≡ start_in x)
-  unfolding picked_of bind lent_part code_of lent_number
+  unfolding told_of bind lent_part code_of lent_number
   nothing-in (refused n) m e = (refl, unpicked-inj e, refl)
   nothing-in absent m e = (refl, unpicked-inj e, refl)
   nothing-in remove m e = (refl, unpicked-inj e, refl)
   nothing-in (accepted r) m e = reference-not e
 
-  is-in : (x : Answer InlineRef) (r : InlineRef) → Reference r ≡ picked_of x → x ≡ accepted r
-  unfolding picked_of
+  is-in : (x : Answer InlineRef) (r : InlineRef) → Ok r ≡ told_of x → x ≡ accepted r
+  unfolding told_of
   is-in (refused n) r e = reference-not (sym e)
   is-in absent r e = reference-not (sym e)
   is-in remove r e = reference-not (sym e)
   is-in (accepted r') r e = let z : r ≡ r' = cc in ap accepted (sym z)
 
-  module _ (type index : ℕ) (p : Picked) (is : p ≡ picked_of (inline_ref type s index)) where
-    pub no_payload : (m : ℕ) → p ≡ Unpicked m
-        → ([] ≡ lent_part (inline_payload type s index)) × (m ≡ code_of (inline_payload type s index)) × (0 ≡ start_in (inline_ref type s index))
+  module _ (type index : ℕ) (p : Result InlineRef Refusal) (is : p ≡ told_of (inline_ref type s index)) where
+    pub no_payload : (x : Refusal) → p ≡ Err x
+        → ([] ≡ lent_part (inline_payload type s index)) × (x.number ≡ code_of (inline_payload type s index)) × (0 ≡ start_in (inline_ref type s index))
     unfolding inline_payload
-    no_payload m e = nothing-in (inline_ref type s index) m (sym e ∙ is)
+    no_payload x e = nothing-in (inline_ref type s index) x.number (sym e ∙ is)
 
-    pub a-payload : (r : InlineRef) (end : ℕ) → p ≡ Reference r → end ≡ r.start + r.len
+    pub a-payload : (r : InlineRef) (end : ℕ) → p ≡ Ok r → end ≡ r.start + r.len
         → (part r.start (end - r.start) s ≡ lent_part (inline_payload type s index)) × (0 ≡ code_of (inline_payload type s index)) × (r.start ≡ start_in (inline_ref type s index))
     unfolding inline_payload bind lent_part code_of lent_number
     a-payload r end e q =
@@ -150,5 +151,5 @@ module _ (s : List ℕ) where
           sym (ap start_in x),
         )
 
-pub inside_is : (p : Picked) (r : InlineRef) (size : ℕ) → p ≡ Reference r → Inside p size → r.start + r.len ≤ size
-inside_is p r size e h = subst (λ (x : Picked). Inside x size) e h
+pub inside_is : (p : Result InlineRef Refusal) (r : InlineRef) (size : ℕ) → p ≡ Ok r → Inside p size → r.start + r.len ≤ size
+inside_is p r size e h = subst (λ (x : Result InlineRef Refusal). Inside x size) e h

@@ -14,9 +14,9 @@ use Rattle.fields.specs.Numbers.{le, le_bytes, are_bytes}
 use Rattle.fields.specs.Parts.{part, written, spliced}
 use Rattle.fields.proofs.Numbers.{are_bytes-take, le_bytes-le-at, length-le_bytes}
 use Rattle.fields.proofs.Parts.{length-written, written-front, spliced-written}
-use Rattle.format.specs.Questions.{Answer, refused, accepted, ask}
+use Rattle.format.specs.Questions.{Answer, refused, accepted, ask, denied}
 use Rattle.format.specs.Bodies.{raised_by, lowered_by_one, lowered_by_part, reduced_by}
-use Rattle.backref.specs.Totals.{one_fault, part_fault}
+use Rattle.backref.specs.Totals.{one_asked, part_asked}
 
 -- ---- a total that is moved
 
@@ -49,63 +49,48 @@ pub lowered-no : (t : ℕ) → t < 2 → lowered_by_one t ≡ refused 13
 unfolding lowered_by_one ask
 lowered-no t h = simp (lt-leb _ _ h)
 
--- the questions of what goes off a total, as one number: 0, or the one that is answered "no"
-pub record Asked (n : ℕ) (answer : Answer ℕ) (result : ℕ) : Type 0 where
-  pub refuses : (n ≡ 0 → ⊥) → answer ≡ refused n
-  pub passes : n ≡ 0 → answer ≡ accepted result
+-- the questions of what goes off a total
+pub record Asked (r : Result (Unit {0}) Refusal) (answer : Answer ℕ) (result : ℕ) : Type 0 where
+  pub refuses : {x : Refusal} → r ≡ Err x → answer ≡ refused x.number
+  pub passes : {u : Unit {0}} → r ≡ Ok u → answer ≡ accepted result
 
-pub one-low : (t : ℕ) → t < 2 → 13 ≡ one_fault t
-unfolding one_fault
-one-low t h = simp (lt-leb _ _ h)
-
-pub one_right : (t : ℕ) → 2 ≤ t → 0 ≡ one_fault t
-unfolding one_fault
-one_right t h = simp (le-leb _ _ h)
-
-pub one-asked : (amount n t : ℕ) → n ≡ one_fault t → amount ≡ 1 → Asked n (lowered_by_one t) (t - amount)
-unfolding one_fault lowered_by_one ask
-one-asked amount n t q e =
-    subst (λ (m : ℕ). Asked m (lowered_by_one t) (t - amount)) (sym q) (subst (λ (k : ℕ). Asked (one_fault t) (lowered_by_one t) (t - k)) (sym e) (go (leb 2 t)))
+-- one question, or two
+asked-no : (n : ℕ) (result : ℕ) → Asked (denied n) (refused n) result
+asked-no n result = record { refuses = λ e. ap refused (ap number_in e); passes = λ e. absurd (not-both e) }
   where
-    go : (x : Bool) → Asked (cond x 0 13) (ask x 13 (accepted (t - 1))) (t - 1)
-    go true = record { refuses = λ h. absurd (h refl); passes = λ h. refl }
-    go false = record { refuses = λ h. refl; passes = λ h. absurd (omega arith) }
+    number_in : Result (Unit {0}) Refusal → ℕ
+    number_in (Ok u) = 0
+    number_in (Err x) = x.number
 
-two-asked : (x y : Bool) (result : ℕ) → Asked (cond x (cond y 0 22) 10) (ask x 10 (ask y 22 (accepted result))) result
-unfolding ask
-two-asked true true result = record { refuses = λ h. absurd (h refl); passes = λ h. refl }
-two-asked true false result = record { refuses = λ h. refl; passes = λ h. absurd (omega arith) }
-two-asked false y result = record { refuses = λ h. refl; passes = λ h. absurd (omega arith) }
+    not-both : {u : Unit {0}} → ◌≡◌ {A = Result (Unit {0}) Refusal} (denied n) (Ok u) → ⊥
+    not-both e = let z : ◌≡◌ {A = ℕ} 0 1 = cc in omega arith
 
-module _ (amount standing : ℕ) where
-  pub part_none : amount ≡ 0 → 10 ≡ part_fault amount standing
-  unfolding part_fault
-  part_none h =
-      let z : amount < 1 = omega arith in
-      simp (lt-leb _ _ z)
+pub asked-yes : (result : ℕ) → Asked (Ok tt) (accepted result) result
+asked-yes result = record { refuses = λ e. absurd (not-both e); passes = λ e. refl }
+  where
+    not-both : {x : Refusal} → ◌≡◌ {A = Result (Unit {0}) Refusal} (Ok tt) (Err x) → ⊥
+    not-both e = let z : ◌≡◌ {A = ℕ} 0 1 = cc in omega arith
 
-  pub part-much : (amount ≡ 0 → ⊥) → standing < amount → 22 ≡ part_fault amount standing
-  unfolding part_fault
-  part-much h k =
-      let z : 1 ≤ amount = omega arith in
-      simp (le-leb _ _ z, lt-leb _ _ k)
+pub one-asks : (amount t : ℕ) → amount ≡ 1 → Asked (one_asked t) (lowered_by_one t) (t - amount)
+unfolding one_asked lowered_by_one ask
+one-asks amount t e = subst (λ (k : ℕ). Asked (one_asked t) (lowered_by_one t) (t - k)) (sym e) (go (leb 2 t))
+  where
+    go : (x : Bool) → Asked (cond x (Ok tt) (denied 13)) (ask x 13 (accepted (t - 1))) (t - 1)
+    go true = asked-yes (t - 1)
+    go false = asked-no 13 (t - 1)
 
-  pub part_right : (amount ≡ 0 → ⊥) → amount ≤ standing → 0 ≡ part_fault amount standing
-  unfolding part_fault
-  part_right h k =
-      let z : 1 ≤ amount = omega arith in
-      simp (le-leb _ _ z, le-leb _ _ k)
+pub part-asks : (amount standing t : ℕ) → Asked (part_asked amount standing) (lowered_by_part amount standing t) (t - amount)
+unfolding part_asked lowered_by_part ask
+part-asks amount standing t = go (leb 1 amount) (leb amount standing)
+  where
+    go : (x y : Bool) → Asked (cond x (cond y (Ok tt) (denied 22)) (denied 10)) (ask x 10 (ask y 22 (accepted (t - amount)))) (t - amount)
+    go true true = asked-yes (t - amount)
+    go true false = asked-no 22 (t - amount)
+    go false y = asked-no 10 (t - amount)
 
-  module _ (n t : ℕ) (q : n ≡ part_fault amount standing) where
-    pub part-asked : Asked n (lowered_by_part amount standing t) (t - amount)
-    unfolding part_fault lowered_by_part
-    part-asked = subst (λ (m : ℕ). Asked m (lowered_by_part amount standing t) (t - amount)) (sym q) (two-asked (leb 1 amount) (leb amount standing) (t - amount))
-
-    pub part-refused : (n ≡ 0 → ⊥) → lowered_by_part amount standing t ≡ refused n
-    part-refused z = part-asked.refuses z
-
-    pub part-passed : (u : ℕ) → n ≡ 0 → u ≡ t - amount → lowered_by_part amount standing t ≡ accepted u
-    part-passed u z e = part-asked.passes z ∙ ap accepted (sym e)
+-- the same by what the code was told
+pub asked-by : {r s : Result (Unit {0}) Refusal} {answer : Answer ℕ} {result : ℕ} → r ≡ s → Asked s answer result → Asked r answer result
+asked-by {answer = answer} {result = result} e h = subst (λ (x : Result (Unit {0}) Refusal). Asked x answer result) (sym e) h
 
 -- ---- a body whose first eight bytes stay
 

@@ -11,8 +11,8 @@ use Rattle.format.specs.declared.Refusal.{Refusal}
 use Rattle.fields.specs.Parts.{written}
 use Rattle.fields.proofs.Numbers.{length-words}
 use Rattle.fields.proofs.Parts.{stores_one, written_next, length-written}
-use Rattle.format.specs.declared.Edited.TheVariants.{Written, Refused as Denied}
-use Rattle.format.specs.Questions.{Answer, refused, accepted, ask, bind, held, Answered}
+use Rattle.format.specs.declared.Edited.TheVariants.{Written}
+use Rattle.format.specs.Questions.{Answer, refused, accepted, ask, bind, denied, held, Answered}
 use Rattle.format.specs.References.{counted, field_count, Ref, ref_at, start_of}
 use Rattle.format.specs.Bodies.{positions, inline_refs}
 use Rattle.format.specs.Sheets.{held_cuts}
@@ -24,7 +24,6 @@ use Rattle.inline_refs.specs.Steps.{read_from}
 use Rattle.inline_refs.specs.Scans.{refs_in, ref_count_of}
 use Rattle.inline_refs.proofs.Steps.{At}
 use Rattle.inline_refs.proofs.Notes.{Opens, on-refs}
-use Rattle.inline_refs.specs.declared.count.Counted.TheVariants.{Count, Refused}
 use Rattle.inline_refs.proofs.Counts.{count-reads, fault-reads}
 use Rattle.backref.specs.Reads.{positions_in}
 
@@ -71,7 +70,7 @@ pub record Placing (s lent₀ now : List ℕ) (start at i : ℕ) : Type 0 where
   pub room : i + length (positions at rest) ≤ length lent₀
 
 module _ (s lent₀ : List ℕ) (start : ℕ) where
-  pub placing-none : (count : ℕ) → Count count ≡ ref_count_of (read_from s start) → count ≤ length lent₀ → Placing s lent₀ lent₀ start start 0
+  pub placing-none : (count : ℕ) → Ok count ≡ ref_count_of (read_from s start) → count ≤ length lent₀ → Placing s lent₀ lent₀ start start 0
   unfolding positions_in
   placing-none count e h =
       let w = count-reads (read_from s start) count e in
@@ -133,18 +132,18 @@ module _ (type : ℕ) (s : List ℕ) where
   unfolding inline_refs
   calls = on-refs type s (λ refs. accepted (positions (start_of type s) refs))
 
-  pub call-shut : (n : ℕ) (old : List ℕ) → refs_in type s ≡ refused n → Answered (held_cuts (length old) (inline_refs type s)) (Denied n) old old
+  pub call-shut : (n : ℕ) (old : List ℕ) → refs_in type s ≡ refused n → Answered (held_cuts (length old) (inline_refs type s)) (denied n) old old
   unfolding held_cuts held bind
   call-shut n old e =
       answered-refused old (ap (held_cuts (length old)) (calls ∙ ap (λ (x : Answer (List Ref)). bind x (λ refs. accepted (positions (start_of type s) refs))) e))
 
   module _ (start : ℕ) (o : Opens type s start) where
-    pub call-fault : (n : ℕ) (old : List ℕ) → Refused n ≡ ref_count_of (read_from s start)
-        → Answered (held_cuts (length old) (inline_refs type s)) (Denied n) old old
+    pub call-fault : (n : ℕ) (old : List ℕ) → denied n ≡ ref_count_of (read_from s start)
+        → Answered (held_cuts (length old) (inline_refs type s)) (denied n) old old
     unfolding read_from
     call-fault n old e = call-shut n old (o.reads ∙ fault-reads (read_from s start) n (read_refs-decides (length (drop start s)) (drop start s)) e)
 
-    module _ (count : ℕ) (e : Count count ≡ ref_count_of (read_from s start)) where
+    module _ (count : ℕ) (e : Ok count ≡ ref_count_of (read_from s start)) where
       call-is : (inline_refs type s ≡ accepted (positions_in start (read_from s start))) × (count ≡ length (positions_in start (read_from s start)))
       unfolding positions_in bind
       call-is =
@@ -155,17 +154,17 @@ module _ (type : ℕ) (s : List ℕ) where
             w.many ∙ sym (ap length z ∙ length-positions start w.refs),
           )
 
-      pub call-short : (old : List ℕ) → length old < count → Answered (held_cuts (length old) (inline_refs type s)) (Denied 21) old old
+      pub call-short : (old : List ℕ) → length old < count → Answered (held_cuts (length old) (inline_refs type s)) (denied 21) old old
       unfolding held_cuts held bind ask
       call-short old h =
           let l : length old < length (positions_in start (read_from s start)) = omega (arith, call-is.1) in
           answered-refused old (ap (held_cuts (length old)) call-is.0 ∙ simp (lt-leb _ _ l))
 
       pub call-writes : (old new : List ℕ) → count ≤ length old → new ≡ written 0 (positions_in start (read_from s start)) old
-          → Answered (held_cuts (length old) (inline_refs type s)) (Written count) old new
+          → Answered (held_cuts (length old) (inline_refs type s)) (Ok (Written count)) old new
       unfolding held_cuts held bind ask
       call-writes old new h w =
           let l : length (positions_in start (read_from s start)) ≤ length old = omega (arith, call-is.1) in
           let fits : held_cuts (length old) (accepted (positions_in start (read_from s start))) ≡ accepted (positions_in start (read_from s start)) = simp (le-leb _ _ l) in
-          subst (λ (m : ℕ). Answered (held_cuts (length old) (inline_refs type s)) (Written m) old new) (sym call-is.1)
+          subst (λ (m : ℕ). Answered (held_cuts (length old) (inline_refs type s)) (Ok (Written m)) old new) (sym call-is.1)
           (answered-written (ap (held_cuts (length old)) call-is.0 ∙ fits) w)

@@ -14,6 +14,7 @@ use Rattle.format.specs.Questions.{Answer, accepted, bind, found, TakenOut, deni
 use Rattle.format.specs.References.{refs_bytes, start_of, body_with, body_bytes}
 use Rattle.format.proofs.Bodies.{on-body}
 use Rattle.inline_refs.specs.declared.ref_name.RefName.{RefName}
+use Rattle.inline_refs.specs.declared.noted.Found.{Found}
 use Rattle.inline_refs.specs.declared.scan.Seen.{Seen}
 use Rattle.inline_refs.specs.declared.scan.Seen.TheVariants.{Open}
 use Rattle.inline_refs.specs.Scans.{is_wanted, scan_of, refs_in, hit_of}
@@ -35,16 +36,16 @@ module _ (type : ℕ) (d : List ℕ) (w : RefName) (plan : Result Plan Refusal) 
   take-fault n e o = taken_refused plan d taken n o (scan-faults type d w 0 n _ e)
 
   module _ (seen : Seen) (r : ReadIn type d w 0 seen) where
-    pub take-absent : Nothing ≡ hit_of seen → plan ≡ Ok Absent → PlannedTaken plan d taken
+    pub take-absent : None ≡ hit_of seen → plan ≡ Ok Absent → PlannedTaken plan d taken
     unfolding take_inline found bind
     take-absent e o =
         taken-absent plan d taken o
         (on-body type d r.from _ r.fits r.read
-        ∙ rw (found-view w 0 (start_of type d) r.from.refs seen Nothing e r.view) refl)
+        ∙ rw (found-view w 0 (start_of type d) r.from.refs seen None e r.view) refl)
 
-    module _ (p q x t : ℕ) (e : At p q x ≡ hit_of seen) (is : t ≡ le (part 0 8 d)) where
-      hit : CutAt (is_wanted w) (start_of type d) r.from.refs p q x
-      hit = found-view w 0 (start_of type d) r.from.refs seen (At p q x) e r.view
+    module _ (f : Found) (t : ℕ) (e : Some f ≡ hit_of seen) (is : t ≡ le (part 0 8 d)) where
+      hit : CutAt (is_wanted w) (start_of type d) r.from.refs f.at f.next f.weight
+      hit = found-view w 0 (start_of type d) r.from.refs seen (Some f) e r.view
 
       abbrev left : ℕ → List ℕ
       left total = body_bytes (body_with r.from total (hit.parts.front ++ hit.parts.back))
@@ -53,13 +54,12 @@ module _ (type : ℕ) (d : List ℕ) (w : RefName) (plan : Result Plan Refusal) 
       unfolding take_inline found bind
       take_found = on-body type d r.from _ r.fits r.read ∙ rw hit.cuts refl
 
-      pub take-gone : T (are_bytes d) → plan ≡ plan_of p q (replicate 32 0) 0 t x → PlannedTaken plan d taken
+      pub take-gone : T (are_bytes d) → plan ≡ plan_of f.at f.next (replicate 32 0) 0 t f.weight → PlannedTaken plan d taken
       unfolding refs_bytes
       take-gone bytes o =
           let c = hit.parts in
-          let counts : plan.count ≡ c.hit.weight = ap (λ (y : Plan). y.count) o ∙ hit.weighs in
-          taken-edit plan d taken (left t)
-          (adding-plan plan d r.from c.front (c.hit ∷ []) c.back p q (replicate 32 0) 0 t x [] (accepted (left t))
-          (placed type d r.from bytes r.read c.front (c.hit ∷ []) c.back p q (cut-between (is_wanted w) (start_of type d) r.from.refs p q x hit))
+          taken-edit plan d taken (left t) _ o
+          (adding-plan plan d r.from c.front (c.hit ∷ []) c.back f.at f.next (replicate 32 0) 0 t f.weight [] (accepted (left t))
+          (placed type d r.from bytes r.read c.front (c.hit ∷ []) c.back f.at f.next (cut-between (is_wanted w) (start_of type d) r.from.refs f.at f.next f.weight hit))
           r.fits o refl refl (omega arith) refl)
-          (take_found ∙ ap (λ (m : ℕ). with-count m (left r.from.total)) (sym counts) ∙ ap (λ (m : ℕ). with-count plan.count (left m)) (total-read type d r t is))
+          (take_found ∙ ap (λ (m : ℕ). with-count m (left r.from.total)) (sym hit.weighs) ∙ ap (λ (m : ℕ). with-count f.weight (left m)) (total-read type d r t is))

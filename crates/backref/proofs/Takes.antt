@@ -18,6 +18,7 @@ use Rattle.format.proofs.Bodies.{on-body}
 use Rattle.format.proofs.Splices.{refs_bytes-one}
 use Rattle.inline_refs.specs.declared.ref_name.RefName.{RefName}
 use Rattle.inline_refs.specs.declared.ref_name.RefName.TheVariants.{Block, Data, SharedBlock, SharedData}
+use Rattle.inline_refs.specs.declared.noted.Found.{Found}
 use Rattle.inline_refs.specs.declared.scan.Seen.{Seen}
 use Rattle.inline_refs.specs.declared.scan.Seen.TheVariants.{Open}
 use Rattle.inline_refs.specs.Scans.{kind_of, fields_of, is_wanted, scan_of, refs_in, hit_of}
@@ -26,10 +27,10 @@ use Rattle.inline_refs.proofs.RefPositions.{cut-between, cut-passed, found-view}
 use Rattle.backref.specs.declared.plan.Plan.TheVariants.{Edit, Absent, Remove}
 use Rattle.backref.specs.declared.plan.Plan.{Plan}
 use Rattle.backref.specs.Plans.{Planned}
-use Rattle.backref.specs.ByName.{OneOff, drop_named, drop_fault}
+use Rattle.backref.specs.ByName.{OneOff, drop_named, drop_asked}
 use Rattle.backref.proofs.NewBytes.{Holds, wanted-small}
 use Rattle.backref.proofs.Outcomes.{plan-absent, plan-refused}
-use Rattle.backref.proofs.PlannedTotals.{Asked, one-asked, part-asked}
+use Rattle.backref.proofs.PlannedTotals.{Asked, one-asks, part-asks}
 use Rattle.backref.proofs.AddedAt.{ReadIn, total-read, scan-faults, placed, plan_of, adding-plan, wanted-is}
 
 -- how the total is lowered, by the name
@@ -50,23 +51,17 @@ drop-named {d} {plan} type (Data name) amount e h =
 drop-named type (SharedBlock parent) amount e h = h
 drop-named type (SharedData parent) amount e h = h
 
--- the fault that code asks for is the refusal of the total
-module _ (w : RefName) (amount standing n t : ℕ) (q : n ≡ drop_fault w amount standing t) (one : OneOff w amount) where
-  lowers : Asked n (lowers_by w amount standing t) (t - amount)
-  unfolding drop_fault
-  lowers = go w one q
+-- what code asks is the question of the total
+module _ (w : RefName) (amount standing t : ℕ) (one : OneOff w amount) where
+  pub lowers : Asked (drop_asked w amount standing t) (lowers_by w amount standing t) (t - amount)
+  unfolding drop_asked
+  lowers = go w one
     where
-      go : (v : RefName) → OneOff v amount → n ≡ drop_fault v amount standing t → Asked n (lowers_by v amount standing t) (t - amount)
-      go (Block name) o e = one-asked amount n t e o
-      go (Data name) o e = one-asked amount n t e o
-      go (SharedBlock parent) o e = part-asked amount standing n t e
-      go (SharedData parent) o e = part-asked amount standing n t e
-
-  pub lowers-refused : (n ≡ 0 → ⊥) → lowers_by w amount standing t ≡ refused n
-  lowers-refused z = lowers.refuses z
-
-  pub lowers-passed : (u : ℕ) → n ≡ 0 → u ≡ t - amount → lowers_by w amount standing t ≡ accepted u
-  lowers-passed u z e = lowers.passes z ∙ ap accepted (sym e)
+      go : (v : RefName) → OneOff v amount → Asked (drop_asked v amount standing t) (lowers_by v amount standing t) (t - amount)
+      go (Block name) o = one-asks amount t o
+      go (Data name) o = one-asks amount t o
+      go (SharedBlock parent) o = part-asks amount standing t
+      go (SharedData parent) o = part-asks amount standing t
 
 module _ (type : ℕ) (d : List ℕ) (w : RefName) (amount : ℕ) (lowered : ℕ → ℕ → Answer ℕ) (plan : Result Plan Refusal) where
   abbrev dropped : Answer (List ℕ)
@@ -77,59 +72,59 @@ module _ (type : ℕ) (d : List ℕ) (w : RefName) (amount : ℕ) (lowered : ℕ
   drop-fault n e o = plan-refused plan d dropped n o (scan-faults type d w 0 n _ e)
 
   module _ (seen : Seen) (r : ReadIn type d w 0 seen) where
-    pub drop-absent : Nothing ≡ hit_of seen → plan ≡ Ok Absent → Planned plan d dropped
+    pub drop-absent : None ≡ hit_of seen → plan ≡ Ok Absent → Planned plan d dropped
     unfolding drop_inline found bind
     drop-absent e o =
         plan-absent plan d dropped o
         (on-body type d r.from _ r.fits r.read
-        ∙ rw (found-view w 0 (start_of type d) r.from.refs seen Nothing e r.view) refl)
+        ∙ rw (found-view w 0 (start_of type d) r.from.refs seen None e r.view) refl)
 
-    module _ (p q x t : ℕ) (e : At p q x ≡ hit_of seen) (is : t ≡ le (part 0 8 d)) where
-      hit : CutAt (is_wanted w) (start_of type d) r.from.refs p q x
-      hit = found-view w 0 (start_of type d) r.from.refs seen (At p q x) e r.view
+    module _ (f : Found) (t : ℕ) (e : Some f ≡ hit_of seen) (is : t ≡ le (part 0 8 d)) where
+      hit : CutAt (is_wanted w) (start_of type d) r.from.refs f.at f.next f.weight
+      hit = found-view w 0 (start_of type d) r.from.refs seen (Some f) e r.view
 
       abbrev left : List Ref → ℕ → Answer (List ℕ)
       left new total = accepted (body_bytes (body_with r.from total (hit.parts.front ++ (new ++ hit.parts.back))))
 
-      drop-found : (a : Answer ℕ) → lowered x t ≡ a → dropped ≡ bind a (left (less hit.parts.hit amount))
+      drop-found : (a : Answer ℕ) → lowered f.weight t ≡ a → dropped ≡ bind a (left (less hit.parts.hit amount))
       unfolding drop_inline found bind
       drop-found a h =
           on-body type d r.from _ r.fits r.read ∙ rw hit.cuts refl
           ∙ ap (λ (b : Answer ℕ). bind b (left (less hit.parts.hit amount)))
-          (ap (λ (m : ℕ). lowered m r.from.total) (sym hit.weighs) ∙ ap (lowered x) (total-read type d r t is) ∙ h)
+          (ap (λ (m : ℕ). lowered m r.from.total) (sym hit.weighs) ∙ ap (lowered f.weight) (total-read type d r t is) ∙ h)
 
-      pub drop-refused : (n : ℕ) → lowered x t ≡ refused n → plan ≡ denied n → Planned plan d dropped
+      pub drop-refused : (n : ℕ) → lowered f.weight t ≡ refused n → plan ≡ denied n → Planned plan d dropped
       unfolding bind
       drop-refused n h o = plan-refused plan d dropped n o (drop-found (refused n) h)
 
-      module _ (bytes : T (are_bytes d)) (u : ℕ) (h : lowered x t ≡ accepted u) where
+      module _ (bytes : T (are_bytes d)) (u : ℕ) (h : lowered f.weight t ≡ accepted u) where
         drop-edit : (new : List Ref) → less hit.parts.hit amount ≡ new → dropped ≡ left new u
         unfolding bind
         drop-edit new k = drop-found (accepted u) h ∙ ap (λ (l : List Ref). left l u) k
 
-        pub drop-gone : x ≤ amount → plan ≡ plan_of p q (replicate 32 0) 0 u 0 → Planned plan d dropped
+        pub drop-gone : f.weight ≤ amount → plan ≡ plan_of f.at f.next (replicate 32 0) 0 u 0 → Planned plan d dropped
         unfolding less refs_bytes
         drop-gone k o =
             let c = hit.parts in
             let z : c.hit.weight ≤ amount = omega (arith, hit.weighs) in
             let none_left : less c.hit amount ≡ [] = simp (le-ltb _ _ z) in
-            adding-plan plan d r.from c.front (c.hit ∷ []) c.back p q (replicate 32 0) 0 u 0 [] dropped
-            (placed type d r.from bytes r.read c.front (c.hit ∷ []) c.back p q (cut-between (is_wanted w) (start_of type d) r.from.refs p q x hit))
+            adding-plan plan d r.from c.front (c.hit ∷ []) c.back f.at f.next (replicate 32 0) 0 u 0 [] dropped
+            (placed type d r.from bytes r.read c.front (c.hit ∷ []) c.back f.at f.next (cut-between (is_wanted w) (start_of type d) r.from.refs f.at f.next f.weight hit))
             r.fits o refl refl (omega arith) (drop-edit [] none_left)
 
-        pub drop-kept : (new : List ℕ) (size : ℕ) → amount < x → Holds w (x - amount) new → size ≡ 1 + payload_length (kind_of w)
-            → plan ≡ plan_of p q new size u 0 → Planned plan d dropped
+        pub drop-kept : (new : List ℕ) (size : ℕ) → amount < f.weight → Holds w (f.weight - amount) new → size ≡ 1 + payload_length (kind_of w)
+            → plan ≡ plan_of f.at f.next new size u 0 → Planned plan d dropped
         unfolding less
         drop-kept new size k n s o =
             let c = hit.parts in
             let z : amount < c.hit.weight = omega (arith, hit.weighs) in
             let fewer : Ref = weighed c.hit (c.hit.weight - amount) in
             let one_left : less c.hit amount ≡ fewer ∷ [] = simp (lt-ltb _ _ z) in
-            let same : fewer ≡ make_ref (kind_of w) (fields_of w) (x - amount) =
-            wanted-is w c.hit (c.hit.weight - amount) (cut-passed (is_wanted w) (start_of type d) r.from.refs p q x hit)
+            let same : fewer ≡ make_ref (kind_of w) (fields_of w) (f.weight - amount) =
+            wanted-is w c.hit (c.hit.weight - amount) (cut-passed (is_wanted w) (start_of type d) r.from.refs f.at f.next f.weight hit)
             ∙ ap (λ (m : ℕ). make_ref (kind_of w) (fields_of w) (m - amount)) (sym hit.weighs) in
-            adding-plan plan d r.from c.front (c.hit ∷ []) c.back p q new size u 0 (fewer ∷ []) dropped
-            (placed type d r.from bytes r.read c.front (c.hit ∷ []) c.back p q (cut-between (is_wanted w) (start_of type d) r.from.refs p q x hit))
+            adding-plan plan d r.from c.front (c.hit ∷ []) c.back f.at f.next new size u 0 (fewer ∷ []) dropped
+            (placed type d r.from bytes r.read c.front (c.hit ∷ []) c.back f.at f.next (cut-between (is_wanted w) (start_of type d) r.from.refs f.at f.next f.weight hit))
             r.fits o
             (ap (λ (m : ℕ). take m new) s ∙ n.front ∙ sym (ap ref_bytes same) ∙ sym (refs_bytes-one fewer))
             n.long (wanted-small w size s) (drop-edit (fewer ∷ []) one_left)

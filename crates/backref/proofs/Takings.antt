@@ -17,6 +17,7 @@ use Rattle.format.specs.Bodies.{body_fits, shared_kind, on_body, named, one, tak
 use Rattle.format.proofs.Answers.{ask-ok, bind_ok, found_ok, accepted-inj}
 use Rattle.format.proofs.Refs.{refs_bytes-append}
 use Rattle.format.proofs.Bodies.{fixed-long, length-body_bytes, read-sound, body_bytes-read}
+use Rattle.backref.specs.declared.plan.Plan.TheVariants.{Edit, Absent, Remove}
 use Rattle.backref.specs.declared.plan.Plan.{Plan}
 use Rattle.backref.specs.Plans.{plan_answer, plan_taken, PlannedTaken, Whole}
 
@@ -34,12 +35,12 @@ left-length type d bytes b h c same =
     let n₆ = fixed-long type b (read-sound type d b bytes h) in
     (omega (arith, n₁, n₆), omega (arith, n₁, n₂, n₃, n₄, n₅))
 
-without-count : (a : Answer (List ℕ)) (count : ℕ) → bytes_of (bind a (λ bytes. accepted (record { bytes = bytes; count = count }))) ≡ a
-unfolding bind
-without-count (refused n) count = refl
-without-count absent count = refl
-without-count remove count = refl
-without-count (accepted rest) count = refl
+without-count : (p : Result Plan Refusal) (body : List ℕ) → bytes_of (plan_taken p body) ≡ plan_answer p body
+unfolding plan_taken plan_answer bind
+without-count (Ok (Edit e)) body = refl
+without-count (Ok Absent) body = refl
+without-count (Ok Remove) body = refl
+without-count (Err x) body = refl
 
 module _ (type : ℕ) (d : List ℕ) (s : SharedRef) where
   taken-length : T (are_bytes d) → (out : TakenOut) → take_inline_shared type d s ≡ accepted out → (24 ≤ length out.bytes) × (length out.bytes ≤ 65535)
@@ -59,8 +60,7 @@ module _ (type : ℕ) (d : List ℕ) (s : SharedRef) where
 
   module _ (plan : Result Plan Refusal) (p : PlannedTaken plan d (take_inline_shared type d s)) where
     pub taken-says : plan_answer plan d ≡ bytes_of (take_inline_shared type d s)
-    unfolding plan_taken
-    taken-says = sym (without-count (plan_answer plan d) plan.count) ∙ ap (λ (x : Answer TakenOut). bytes_of x) p.says
+    taken-says = sym (without-count plan d) ∙ ap (λ (x : Answer TakenOut). bytes_of x) p.says
 
     pub taken-whole : T (are_bytes d) → Whole plan d
     unfolding Whole
