@@ -57,6 +57,7 @@ fn edit_raised(
 }
 
 // Questions 9 and 11 of a reference that stands: its count with the amount added, if it has one that holds the sum.
+#[tactic(auto, unfolding(crate::specs::ByName::raised_count))]
 fn raised_count(wanted: RefName, weight: u32, amount: u32) -> Result<u32, Refusal>
     ensures { result ≡ raised_count wanted weight amount }
 {

@@ -8,6 +8,7 @@ use format::Refusal;
 use inline_refs::RefName;
 
 // The questions of a drop: 13 of a block or data reference, 10 and 22 of a shared one.
+#[tactic(auto, unfolding(crate::specs::ByName::drop_asked))]
 fn ask_drop(wanted: RefName, amount: u32, weight: u32, total: u64) -> Result<(), Refusal>
     ensures { result ≡ drop_asked wanted amount weight total }
 {

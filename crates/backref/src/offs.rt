@@ -15,6 +15,7 @@ pub enum Off {
 }
 
 // What a drop takes off: one of a block or data reference, the amount of a shared one.
+#[tactic(auto, unfolding(crate::specs::Offs::off_of))]
 pub fn off_of(wanted: RefName, amount: u32) -> Off
     ensures { result ≡ off_of wanted amount }
 {
@@ -27,6 +28,7 @@ pub fn off_of(wanted: RefName, amount: u32) -> Off
 }
 
 // The questions of it: 13, or 10 and 22, or none.
+#[tactic(auto, unfolding(crate::specs::Offs::off_asked))]
 fn ask_off(off: Off, weight: u32, total: u64) -> Result<(), Refusal>
     ensures { result ≡ off_asked off weight total }
 {
@@ -38,6 +40,7 @@ fn ask_off(off: Off, weight: u32, total: u64) -> Result<(), Refusal>
 }
 
 // How much that is; no count is above the highest number.
+#[tactic(auto, unfolding(crate::specs::Offs::amount_off))]
 fn amount_off(off: Off) -> u32
     ensures { result ≡ amount_off off }
 {
@@ -49,6 +52,7 @@ fn amount_off(off: Off) -> u32
 }
 
 // The new total.
+#[tactic(auto, unfolding(crate::specs::Offs::total_off))]
 fn total_off(off: Off, total: u64) -> u64
     ensures { result ≡ total_off off total }
 {

@@ -70,6 +70,7 @@ pub fn plan_total(body: &[u8], change: TotalChange) -> Result<Plan, Refusal>
 }
 
 // Question 13 of a total that one goes off.
+#[tactic(auto, unfolding(crate::specs::Totals::one_asked))]
 pub fn ask_one(total: u64) -> Result<(), Refusal>
     ensures { result ≡ one_asked total }
 {
@@ -80,6 +81,7 @@ pub fn ask_one(total: u64) -> Result<(), Refusal>
 }
 
 // Questions 10 and 22 of an amount that is taken where so much stands.
+#[tactic(auto, unfolding(crate::specs::Totals::part_asked))]
 pub fn ask_part(amount: u32, standing: u32) -> Result<(), Refusal>
     ensures { result ≡ part_asked amount standing }
 {

@@ -72,6 +72,7 @@ pub fn write_plan(
 }
 
 // An edit's answer with how many are left.
+#[tactic(auto, unfolding(crate::specs::Plans::dropped_from))]
 pub fn with_left(answer: Result<Edited, Refusal>, left: u64) -> Result<Dropped, Refusal>
     ensures { result ≡ dropped_from left answer }
 {
