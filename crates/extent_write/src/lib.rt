@@ -9,7 +9,6 @@ ghost use Rattle.fields.specs.Parts.{written};
 ghost use Rattle.format.specs.Questions.{Answered, accepted};
 ghost use Rattle.format.specs.Hash.{data_ref_hash};
 ghost use Rattle.format.specs.Bodies.{held_body, data_extent_body, tree_block_body, tree_block_key};
-ghost use Rattle.extent_write.specs.Runs.{RunFits};
 
 use format::{
     EXTENT_DATA_REF, Edited, FLAG_DATA, FLAG_TREE_BLOCK, METADATA_ITEM, MOST_DATA, Refusal,
@@ -28,10 +27,11 @@ fn joined(one: u32, two: u32) -> u64
 pub struct TreeRun {
     pub tree: u64,
     pub register: u32,
+    pub ghost is_of_tree: { register ≡ crc_run crc32c all_ones (le_bytes 8 tree) },
 }
 
 pub fn tree_run(tree: u64) -> TreeRun
-    ensures { (result.tree ≡ tree) × RunFits result }
+    ensures { result.tree ≡ tree }
 {
     TreeRun {
         tree,
@@ -41,7 +41,7 @@ pub fn tree_run(tree: u64) -> TreeRun
 
 // Tree 0, whose register is known, where no tree is asked for.
 pub fn no_tree_run() -> TreeRun
-    ensures { (result.tree ≡ 0) × RunFits result }
+    ensures { result.tree ≡ 0 }
 {
     TreeRun {
         tree: 0,
@@ -51,7 +51,6 @@ pub fn no_tree_run() -> TreeRun
 
 // The hash of a data reference of a tree whose register is at hand.
 pub fn hash_with(own: TreeRun, objectid: u64, offset: u64) -> u64
-    requires { RunFits own }
     ensures { result ≡ data_ref_hash own.tree objectid offset }
 {
     joined(own.register, crc32c::run_two(objectid, offset))
@@ -66,7 +65,6 @@ pub fn data_ref_hash(tree: u64, objectid: u64, offset: u64) -> u64
 
 // The register of a tree, without a run where it is the one at hand.
 fn register_of(tree: u64, own: TreeRun) -> u32
-    requires { RunFits own }
     ensures { result ≡ crc_run crc32c all_ones (le_bytes 8 tree) }
 {
     if tree == own.tree {
@@ -78,7 +76,6 @@ fn register_of(tree: u64, own: TreeRun) -> u32
 // Whether the hash of a data reference is below a rank. Its top 32 bits are those of the first register alone, so the second
 // run is made only where they are equal.
 pub fn hash_below(tree: u64, objectid: u64, offset: u64, own: TreeRun, rank: u64) -> bool
-    requires { RunFits own }
     ensures { result ≡ ltb (data_ref_hash tree objectid offset) rank }
 {
     let one = register_of(tree, own);

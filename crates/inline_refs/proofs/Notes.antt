@@ -242,9 +242,9 @@ module _ (type : ℕ) (s : List ℕ) (w : RefName) (rank : ℕ) where
 -- ---- a name's own place
 
 -- a scan by a place that is the name's own
-pub by_rank : (w : RefName) (ranked : Ranked) (start : ℕ) (x : Answer (List Ref)) {scan : Result Seen Refusal} → RankedFor w ranked
-    → scan ≡ scan_of w ranked.rank start (Open false) x → scan ≡ scan_of w (rank_of (kind_of w) (fields_of w)) start (Open false) x
-by_rank w ranked start x h e = e ∙ ap (λ (rank : ℕ). scan_of w rank start (Open false) x) h.0
+pub by_rank : (w : RefName) {rank : ℕ} (start : ℕ) (x : Answer (List Ref)) {scan : Result Seen Refusal} → rank ≡ rank_of (kind_of w) (fields_of w)
+    → scan ≡ scan_of w rank start (Open false) x → scan ≡ scan_of w (rank_of (kind_of w) (fields_of w)) start (Open false) x
+by_rank w start x h e = e ∙ ap (λ (r : ℕ). scan_of w r start (Open false) x) h
 
 pub known-ranked : (w : RefName) {known : Option Ranked} {ranked : Ranked} → KnownFor w known → known ≡ Some ranked → RankedFor w ranked
 known-ranked w h e = subst (KnownFor w) e h

@@ -5,7 +5,6 @@ use Rattle.format.specs.Questions.{Answer, accepted, denied, result_or_code}
 use Rattle.format.specs.References.{payload_length, Ref, rank_of}
 use Rattle.format.specs.Bodies.{on_body, named, one, triple, stops}
 use Rattle.format.specs.Left.{left_among}
-use Rattle.extent_write.specs.Runs.{RunFits}
 use Rattle.inline_refs.specs.declared.ref_name.RefName.{RefName}
 use Rattle.inline_refs.specs.declared.ref_name.RefName.TheVariants.{Block, Data, SharedBlock, SharedData}
 use Rattle.inline_refs.specs.declared.ref_name.Ranked.{Ranked}
@@ -36,9 +35,9 @@ tree_of (Data name) = name.tree
 tree_of (SharedBlock parent) = 0
 tree_of (SharedData parent) = 0
 
--- a name's own rank, with a run over a tree
+-- a name's own rank
 abbrev pub RankedFor : RefName → Ranked → Type 0
-RankedFor wanted ranked = (ranked.rank ≡ rank_of (kind_of wanted) (fields_of wanted)) × RunFits ranked.own
+RankedFor wanted ranked = ranked.rank ≡ rank_of (kind_of wanted) (fields_of wanted)
 
 abbrev pub KnownFor : RefName → Option Ranked → Type 0
 KnownFor wanted (Some ranked) = RankedFor wanted ranked

@@ -2,7 +2,6 @@
 ghost use Rattle.std.specs.Prelude.{◌≡◌, ◌||◌, ◌+◌, ◌≤◌, T, eqb, ltb, length, drop, get_or};
 ghost use Rattle.format.specs.References.{known, payload_length, ref_at, rank, rank_of};
 ghost use Rattle.format.specs.Bodies.{named, stops, triple};
-ghost use Rattle.extent_write.specs.Runs.{RunFits};
 ghost use Rattle.fields.specs.Lists.{same};
 ghost use Rattle.fields.specs.Numbers.{words};
 ghost use Rattle.inline_refs.specs.Scans.{kind_of, fields_of, tree_of, RankedFor, KnownFor};
@@ -117,7 +116,7 @@ pub fn rank_at(body: &[u8], kind: u8, start: usize) -> u64
 
 // Whether that is below a limit. A triple seldom costs a whole hash here, least of all one of the tree `own`.
 pub fn rank_below(body: &[u8], kind: u8, start: usize, own: TreeRun, limit: u64) -> bool
-    requires { T (known kind) × (start + payload_length kind ≤ length body.now) × RunFits own }
+    requires { T (known kind) × (start + payload_length kind ≤ length body.now) }
     ensures { result ≡ ltb (rank (ref_at kind (drop start body.now))) limit }
 {
     if kind != EXTENT_DATA_REF {
@@ -135,7 +134,7 @@ pub fn rank_below(body: &[u8], kind: u8, start: usize, own: TreeRun, limit: u64)
 // The run over the wanted one's own tree. Only a data reference has hashes compared with its own.
 #[tactic(auto, unfolding(crate::specs::Scans::tree_of))]
 fn run_of(wanted: RefName) -> TreeRun
-    ensures { (result.tree ≡ tree_of wanted) × RunFits result }
+    ensures { result.tree ≡ tree_of wanted }
 {
     match wanted {
         RefName::Data(name) => extent_write::tree_run(name.tree),
@@ -147,7 +146,7 @@ fn run_of(wanted: RefName) -> TreeRun
 
 // What the wanted reference is ordered by, from the run over its own tree.
 fn rank_with(wanted: RefName, own: TreeRun) -> u64
-    requires { (own.tree ≡ tree_of wanted) × RunFits own }
+    requires { own.tree ≡ tree_of wanted }
     ensures { result ≡ rank_of (kind_of wanted) (fields_of wanted) }
 {
     match wanted {
@@ -188,7 +187,7 @@ pub fn rank_by(wanted: RefName, known: Option<Ranked>) -> Ranked
 // Whether a new reference of kind `wanted` with a rank goes before this one. Nothing has a rank below 0, so that rank
 // costs no hash.
 pub fn stops_at(wanted: u8, rank: u64, own: TreeRun, body: &[u8], kind: u8, start: usize) -> bool
-    requires { T (known kind) × (start + payload_length kind ≤ length body.now) × RunFits own }
+    requires { T (known kind) × (start + payload_length kind ≤ length body.now) }
     ensures { result ≡ stops wanted rank (ref_at kind (drop start body.now)) }
 {
     if kind == EXTENT_OWNER_REF {

@@ -1,6 +1,5 @@
 // The one scan over the references of a body.
 ghost use Rattle.std.specs.Prelude.{◌≡◌, false, ℕ, ◌+◌, ◌≤◌, T, length, drop};
-ghost use Rattle.extent_write.specs.Runs.{RunFits};
 ghost use Rattle.format.specs.References.{known, payload_length, count_position, ref_at, start_of, rank_of};
 ghost use Rattle.inline_refs.specs.Steps.{read_from};
 ghost use Rattle.inline_refs.specs.Scans.{kind_of, fields_of, KnownFor, found_at, scan_of, rest_of, refs_in};
@@ -98,7 +97,6 @@ fn scan_from(
     rank: u64,
     own: TreeRun,
 ) -> Result<Seen, Refusal>
-    requires { RunFits own }
     ensures { result ≡ scan_of wanted rank start (Seen.Open false) (read_from body.now start) }
 {
     let sought = crate::ref_name::kind_of(wanted);

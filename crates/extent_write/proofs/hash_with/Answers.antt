@@ -7,4 +7,4 @@ use Rattle.extent_write.proofs.hash_with.Goals as goal
 pub returns : goal.returns
 unfolding data_ref_hash
 returns c =
-    c.joined.ensures ∙ ap₂ (λ (x y : ℕ). bit_xor (x * 2 ^ 31) y) c.requires c.run_two.ensures
+    c.joined.ensures ∙ ap₂ (λ (x y : ℕ). bit_xor (x * 2 ^ 31) y) c.args.own.is_of_tree c.run_two.ensures

@@ -5,6 +5,6 @@ use Rattle.extent_write.proofs.no_tree_run.Goals as goal
 
 -- The register is computed here.
 
-pub returns : goal.returns
+pub invariant_of-result : goal.invariant_of-result
 unfolding le_bytes crc_run byte_step steps step
-returns c = (refl, refl)
+invariant_of-result c = record { is_of_tree = refl }

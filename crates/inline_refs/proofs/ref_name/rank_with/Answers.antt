@@ -16,7 +16,7 @@ returns-in-Data c =
     let name = c.in-Data.name in
     rw c.in-Data.is
     (c.hash_with.ensures
-    ∙ ap (λ (tree : ℕ). data_ref_hash tree name.objectid name.offset) (c.requires.0 ∙ ap tree_of c.in-Data.is))
+    ∙ ap (λ (tree : ℕ). data_ref_hash tree name.objectid name.offset) (c.requires ∙ ap tree_of c.in-Data.is))
 
 pub returns-in-SharedBlock : goal.returns-in-SharedBlock
 unfolding rank_of kind_of fields_of

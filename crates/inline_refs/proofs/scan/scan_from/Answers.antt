@@ -43,7 +43,7 @@ returns-then-names c =
 pub stops_at-requires : goal.stops_at-requires
 stops_at-requires c =
     let w = stepped _ _ c.step.ensures c.in_ok-reference.was c.in-Some.is in
-    (w.kind_known, ends-within _ _ _ _ _ _ _ w, c.requires)
+    (w.kind_known, ends-within _ _ _ _ _ _ _ w)
 
 pub returns-then-stops_at : goal.returns-then-stops_at
 unfolding ref_at kind_of

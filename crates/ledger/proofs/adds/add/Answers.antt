@@ -33,7 +33,7 @@ pub slice_bounds-plan_add-end : goal.slice_bounds-plan_add-end
 slice_bounds-plan_add-end c = let d = found c.before.before.before in d.within
 
 pub ask_add-asked-requires : goal.ask_add-asked-requires
-ask_add-asked-requires c = record { stands_for = c.requires.stands_for; t = c.requires.t; rank_value = c.rank_of-ranked.ensures.0 }
+ask_add-asked-requires c = record { stands_for = c.requires.stands_for; t = c.requires.t; rank_value = c.rank_of-ranked.ensures }
 
 pub overflow_add-start-2 : goal.overflow_add-start-2
 overflow_add-start-2 c = let d = found c.before.before.before.before.before.before in let p = d.ordered in let q = d.within in let m = d.small in omega arith
