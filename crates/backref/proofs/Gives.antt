@@ -5,15 +5,15 @@ use mathlib.Core.Bool.{Bool, true, false, not, ◌&&◌, ◌||◌}
 use mathlib.Core.List.{List, [], ◌∷◌}
 use Prim.Native.Nat.{ℕ, ◌+◌, ◌-◌, ◌^◌, ◌≤◌, ◌<◌}
 use native.Mathlib.Omega.{arith}
-use lib.Dec.{T, eqb}
+use lib.Dec.{T, eqb, ltb}
 use lib.ListN.{length, take}
-use borrow.Author.Tests.{le-ltb, lt-ltb}
+use borrow.Author.Tests.{le-ltb, lt-ltb, ltb-true, ltb-false}
 use Rattle.std.specs.Prelude.{Result, Ok, Err}
 use Rattle.format.specs.declared.Refusal.{Refusal}
 use Rattle.fields.specs.Lists.{all}
 use Rattle.fields.specs.Numbers.{le, are_bytes}
 use Rattle.fields.specs.Parts.{part}
-use Rattle.fields.proofs.Lists.{lt-or}
+use Rattle.fields.proofs.Lists.{by-test, lt-or}
 use Rattle.format.specs.Questions.{Answer, refused, accepted, ask, bind, denied}
 use Rattle.format.specs.References.{payload_length, counted, Ref, ref_bytes, start_of, rank_of, Body, body_with, read_body, body_bytes}
 use Rattle.format.specs.Bodies.{on_body, shared_kind, weighed, raised_by, RefPosition, gap, standing, position_anywhere, is_gap, standing_weight, added_at, add_at, add_inline_data, add_inline_shared, keyed_at}
@@ -31,7 +31,7 @@ use Rattle.inline_refs.proofs.Views.{View, any_others}
 use Rattle.inline_refs.proofs.RefPositions.{PositionView, position-anywhere, position-by-scan}
 use Rattle.backref.specs.declared.plan.Plan.{Plan}
 use Rattle.backref.specs.Plans.{Planned}
-use Rattle.backref.specs.ByName.{new_ref, own_rank, by_scan, position_of, add_at_of, PutsRef, Raised, add_inline, add_keyed}
+use Rattle.backref.specs.ByName.{new_ref, own_rank, by_scan, position_of, add_at_of, PutsRef, Raised, raised_count, add_inline, add_keyed}
 use Rattle.backref.proofs.NewBytes.{Holds, wanted-small}
 use Rattle.backref.proofs.Outcomes.{plan-refused}
 use Rattle.backref.proofs.PlannedTotals.{raised-yes, raised-no}
@@ -40,6 +40,35 @@ use Rattle.backref.proofs.AddedAt.{ReadIn, total-read, scan-faults, ends, placed
 or-true : (b : Bool) → b || true ≡ true
 or-true true = refl
 or-true false = refl
+
+-- ---- the count of a reference that stands, with the amount added
+
+abbrev count-in : Result ℕ Refusal → ℕ
+count-in (Ok n) = n
+count-in (Err x) = x.number
+
+abbrev pub NoCount : RefName → ℕ → ℕ → Refusal → Type 0
+NoCount w x amount y =
+    ((counted (kind_of w) ≡ false) × (y ≡ record { number = 9 })) ⊎ ((counted (kind_of w) ≡ true) × (4294967295 - amount < x) × (y ≡ record { number = 11 }))
+
+module _ (w : RefName) (x amount : ℕ) (small : amount < 4294967296) where
+  pub count-no : {y : Refusal} → Err y ≡ raised_count w x amount → NoCount w x amount y
+  unfolding raised_count
+  count-no {y} e =
+      by-test (counted (kind_of w))
+      (λ t. by-test (ltb (x + amount) (2 ^ 32))
+      (λ l. let z : Err y ≡ Ok (x + amount) = rw (t, l) at e in let q : ◌≡◌ {A = ℕ} 0 1 = cc in absurd (omega arith))
+      (λ l. let z : Err y ≡ denied {A = ℕ} 11 = rw (t, l) at e in let g : 2 ^ 32 ≤ x + amount = ltb-false _ _ l in inr (t, omega arith, ap (λ (n : ℕ). record { number = n }) (ap count-in z))))
+      (λ f. let z : Err y ≡ denied {A = ℕ} 9 = rw f at e in inl (f, ap (λ (n : ℕ). record { number = n }) (ap count-in z)))
+
+  pub count-to : {n : ℕ} → Ok n ≡ raised_count w x amount → (counted (kind_of w) ≡ true) × (x ≤ 4294967295 - amount) × (n ≡ x + amount)
+  unfolding raised_count
+  count-to {n} e =
+      by-test (counted (kind_of w))
+      (λ t. by-test (ltb (x + amount) (2 ^ 32))
+      (λ l. let z : Ok n ≡ Ok (x + amount) = rw (t, l) at e in let g : x + amount < 2 ^ 32 = ltb-true _ _ l in (t, omega arith, ap count-in z))
+      (λ l. let z : Ok n ≡ denied {A = ℕ} 11 = rw (t, l) at e in let q : ◌≡◌ {A = ℕ} 0 1 = cc in absurd (omega arith)))
+      (λ f. let z : Ok n ≡ denied {A = ℕ} 9 = rw f at e in let q : ◌≡◌ {A = ℕ} 0 1 = cc in absurd (omega arith))
 
 -- ---- the position
 
@@ -211,6 +240,19 @@ module _ (type : ℕ) (d : List ℕ) (w : RefName) (rank amount : ℕ) (plan : R
             go (inl k) = give-full-more k (u.full k)
             go (inr k) = let x = u.puts k in give-more _ _ k refl (record { front = x.2.front; long = x.2.long }) (x.1 ∙ ap Ok x.2.is)
 
+    pub give-no : {y : Refusal} → amount < 4294967296 → Err y ≡ raised_count w f.weight amount → plan ≡ Err y → Planned plan d given
+    give-no {y} small e o = go (count-no w f.weight amount small e)
+      where
+        go : NoCount w f.weight amount y → Planned plan d given
+        go (inl h) = give-nine h.0 (o ∙ ap Err h.1)
+        go (inr h) = give-eleven h.0 h.1 (o ∙ ap Err h.2)
+
+    pub give-count : (n t : ℕ) → Ok n ≡ raised_count w f.weight amount → amount < 4294967296 → t ≡ le (part 0 8 d)
+        → Raised f.at f.next w n t amount plan → Planned plan d given
+    give-count n t e small is u =
+        let h = count-to w f.weight amount small e in
+        give-standing h.0 h.1 small t is (subst (λ (m : ℕ). Raised f.at f.next w m t amount plan) h.2 u)
+
 -- ---- the edit where the total holds the sum, and where it does not
 
 module _ {from to : ℕ} {w : RefName} {count total amount : ℕ} {p : Result Plan Refusal} where
@@ -334,6 +376,20 @@ module _ (type : ℕ) (d : List ℕ) (w : RefName) (rank amount : ℕ) (plan : R
     key_more t size new h k small e s n o =
         put-more type d w amount plan r.from r.fits r.read bytes t size new s keyed f key_position (key-view (Standing f) i) n o
         (keyed-is ∙ stands-yes f key_position (key-view (Standing f) i) h k small ∙ done_at t e key_position)
+
+    pub key-no : {y : Refusal} → amount < 4294967296 → Err y ≡ raised_count w f.weight amount → plan ≡ Err y → Planned plan d keyed
+    key-no {y} small e o = go (count-no w f.weight amount small e)
+      where
+        go : NoCount w f.weight amount y → Planned plan d keyed
+        go (inl h) = key-nine h.0 (o ∙ ap Err h.1)
+        go (inr h) = key-eleven h.0 h.1 (o ∙ ap Err h.2)
+
+    pub key-count : (n t : ℕ) (put : Plan) → Ok n ≡ raised_count w f.weight amount → amount < 4294967296 → t ≡ le (part 0 8 d)
+        → plan ≡ Ok put → PutsRef f.at f.next w n t put → Planned plan d keyed
+    key-count n t put e small is o q =
+        let h = count-to w f.weight amount small e in
+        let p = subst (λ (m : ℕ). PutsRef f.at f.next w m t put) h.2 q in
+        key_more t _ p.new h.0 h.1 small is refl (record { front = p.front; long = p.long }) (o ∙ ap Ok p.is)
 
 pub key-fault : (type : ℕ) (d : List ℕ) (w : RefName) (rank amount n : ℕ) (plan : Result Plan Refusal)
     → denied n ≡ scan_of w rank (start_of type d) (Open false) (refs_in type d) → plan ≡ denied n → Planned plan d (add_keyed type d w rank amount)

@@ -92,6 +92,11 @@ part-asks amount standing t = go (leb 1 amount) (leb amount standing)
 pub asked-by : {r s : Result (Unit {0}) Refusal} {answer : Answer ℕ} {result : ℕ} → r ≡ s → Asked s answer result → Asked r answer result
 asked-by {answer = answer} {result = result} e h = subst (λ (x : Result (Unit {0}) Refusal). Asked x answer result) (sym e) h
 
+-- what does not refuse is answered yes
+pub asked-all : (r : Result (Unit {0}) Refusal) → ((x : Refusal) → r ≡ Err x → ⊥) → r ≡ Ok tt
+asked-all (Ok u) n = refl
+asked-all (Err x) n = absurd (n x refl)
+
 -- ---- a body whose first eight bytes stay
 
 -- the total as it was, before a splice further on

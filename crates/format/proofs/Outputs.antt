@@ -2,7 +2,7 @@
 -- of a body and of a text. Assumes nothing.
 use mathlib.Core.Path.{◌≡◌, sym, ap, ◌∙◌, subst}
 use mathlib.Core.List.{List}
-use Rattle.std.specs.Prelude.{Result, Ok}
+use Rattle.std.specs.Prelude.{Option, Result, Ok}
 use Prim.Native.Nat.{ℕ, ◌≤◌, ◌<◌}
 use native.Mathlib.Omega.{arith}
 use lib.ListN.{length}
@@ -11,8 +11,9 @@ use Rattle.fields.specs.Parts.{written}
 use Rattle.fields.proofs.Parts.{written-front}
 use Rattle.format.specs.declared.Edited.{Edited}
 use Rattle.format.specs.declared.Edited.TheVariants.{Written}
+use Rattle.format.specs.declared.Taken.{Taken}
 use Rattle.format.specs.declared.Refusal.{Refusal}
-use Rattle.format.specs.Questions.{Answer, refused, accepted, ask, bind, held, held_text, lent, denied, edited_of, Answered}
+use Rattle.format.specs.Questions.{Answer, refused, accepted, ask, bind, held, held_text, lent, denied, edited_of, TakenOut, Answered, AnsweredTaken}
 use Rattle.format.specs.Bodies.{body_fits, held_body}
 
 pub answered-refused : {a : Answer (List ℕ)} {number : ℕ} (old : List ℕ) → a ≡ refused number → Answered a (denied number) old old
@@ -56,3 +57,10 @@ module _ (text old : List ℕ) where
       let room : length text ≤ length old = omega arith in
       let fits : held_text (length old) text ≡ accepted text = simp (le-leb _ _ room) in
       subst (λ (n : ℕ). Answered (held_text (length old) text) (Ok (Written n)) old new) (sym e) (answered-written fits w)
+
+-- an answer that is handed on
+pub handed : {a : Answer (List ℕ)} {r s : Result Edited Refusal} {old new : List ℕ} → r ≡ s → Answered a s old new → Answered a r old new
+handed {a} {old = old} {new = new} e h = subst (λ (x : Result Edited Refusal). Answered a x old new) (sym e) h
+
+pub handed-taken : {a : Answer TakenOut} {r s : Result (Option Taken) Refusal} {old new : List ℕ} → r ≡ s → AnsweredTaken a s old new → AnsweredTaken a r old new
+handed-taken {a} {old = old} {new = new} e h = subst (λ (x : Result (Option Taken) Refusal). AnsweredTaken a x old new) (sym e) h
