@@ -1,6 +1,7 @@
 -- One more reference of a record, as code tests it. Assumes nothing.
 use mathlib.Core.Path.{◌≡◌, refl, sym, ap, ap₂, ◌∙◌, subst}
-use Prim.Native.Nat.{ℕ, zero, suc, ◌+◌, ◌-◌, ◌*◌, ◌≤◌, ◌<◌}
+use Rattle.std.specs.Prelude.{Option, Some, None, is_some}
+use Prim.Native.Nat.{ℕ, zero, suc, ◌+◌, ◌*◌, ◌≤◌, ◌<◌}
 use native.Mathlib.Omega.{arith}
 use mathlib.Core.Logic.{◌⊎◌, inl, inr}
 use mathlib.Core.Bool.{Bool, true, false, not, ◌&&◌, ◌||◌, cond}
@@ -76,14 +77,12 @@ module _ (body : List ℕ) (from at : ℕ) (t : List ℕ) (is : t ≡ words 3 (d
         let z : from + triple_size * 0 ≡ from = omega arith in
         subst (λ (q : ℕ). clear body at q n ≡ true) z (clear-from n 0 (λ j l. none j (omega arith)))
 
-    pub looked-up : (r : ℕ) → LooksUp body from n t r → clear body at from n ≡ eqb r 0
-    looked-up zero l = clear-all (l.none refl)
-    looked-up (suc k) l =
+    pub looked-up : (r : Option ℕ) → LooksUp body from n t r → is_some r ≡ not (clear body at from n)
+    looked-up None none = ap not (sym (clear-all none))
+    looked-up (Some k) l =
         let z : from + triple_size * 0 ≡ from = omega arith in
-        let e : 0 + k ≡ suc k - 1 = omega arith in
-        let h : k < n = omega (arith, l.inside) in
-        let some : suc k ≡ 0 → ⊥ = (λ q. omega arith) in
-        subst (λ (q : ℕ). clear body at q n ≡ false) z (clear-hit _ n 0 k e h (l.some (omega arith))) ∙ sym (ne_eqb (suc k) 0 some)
+        let e : 0 + k ≡ k = omega arith in
+        ap not (sym (subst (λ (q : ℕ). clear body at q n ≡ false) z (clear-hit k n 0 k e l.0 l.1)))
 
 -- those that are known to differ from one another differ from one more of them
 pub clear-by : (body : List ℕ) (from n known : ℕ) → Distinct body from known → n < known → (at : ℕ) → from + triple_size * n ≡ at → clear body at from n ≡ true

@@ -10,7 +10,7 @@ use lib.ListN.{length, get_or, set, replicate}
 use lib.Seq.{get_or-set_same, get_or-set_other}
 use Rattle.fields.specs.Lists.{same}
 use Rattle.fields.proofs.Lists.{same-yes, lt-or}
-use Rattle.data_refs.specs.Triples.{triple_of, LooksUp}
+use Rattle.data_refs.specs.Triples.{triple_of}
 use Rattle.data_refs.specs.Chains.{Cleared, LeadsBack, Chained, Leading}
 
 -- equal triples belong to one chain
@@ -40,21 +40,12 @@ module _ (body : List ℕ) (from : ℕ) where
       }
 
   module _ (links : List ℕ) (i at : ℕ) (t : List ℕ) (w : Leading body from links i at t) where
-    pub walk_ends : at ≤ 0 → LooksUp body from i t 0
-    walk_ends e = record { inside = omega arith; none = λ z j k. let h : at ≤ j = omega (arith, e) in w.differ j h k; some = λ l. absurd (omega (arith, l)) }
-
     module _ (some : 0 < at) where
-      pub walk-finds : same (here (at - 1)) t ≡ true → LooksUp body from i t at
-      walk-finds e = record { inside = w.inside; none = λ z. absurd (omega (arith, z, some)); some = λ l. e }
-
       lower : at - 1 < i
       lower = omega (arith, some, w.inside)
 
       link : LeadsBack w.chain body from (get_or links (at - 1) 0) (w.chain (here (at - 1))) (at - 1)
       link = w.linked.leads (at - 1) lower
-
-      pub walk-lower : get_or links (at - 1) 0 < at
-      walk-lower = omega (arith, link.inside, some)
 
       differ-on : (j : ℕ) → same (here (at - 1)) t ≡ false → get_or links (at - 1) 0 ≤ j → j < i → (j < at) ⊎ (at ≤ j) → (j < at - 1) ⊎ (at - 1 ≤ j) → same (here j) t ≡ false
       differ-on j n h k (inr a) o = w.differ j a k

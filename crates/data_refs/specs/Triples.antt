@@ -1,5 +1,5 @@
 -- The triples of data references that stand side by side, that no two of them are the same, and which has a given one. Assumes nothing.
-use Rattle.std.specs.Prelude.{◌≡◌, true, false, List, [], ℕ, ◌+◌, ◌-◌, ◌*◌, ◌≤◌, ◌<◌, drop, get_or}
+use Rattle.std.specs.Prelude.{◌≡◌, true, false, List, [], Option, Some, None, ℕ, ◌+◌, ◌*◌, ◌<◌, drop, get_or}
 use Rattle.fields.specs.Lists.{same}
 use Rattle.fields.specs.Numbers.{words}
 use Rattle.format.specs.References.{kinds}
@@ -22,8 +22,7 @@ pub record Repeats (body : List ℕ) (from i : ℕ) : Type 0 where
   pub below : first < i
   pub twice : same (triple_of body from first) (triple_of body from i) ≡ true
 
--- r is the number, and one more, of one of the first n references that has a triple; 0 where none has
-pub record LooksUp (body : List ℕ) (from n : ℕ) (t : List ℕ) (r : ℕ) : Type 0 where
-  pub inside : r ≤ n
-  pub none : r ≡ 0 → (j : ℕ) → j < n → same (triple_of body from j) t ≡ false
-  pub some : 0 < r → same (triple_of body from (r - 1)) t ≡ true
+-- what looking for a triple among the first n references gives: the number of one that has it, or none where none has
+abbrev pub LooksUp : List ℕ → ℕ → ℕ → List ℕ → Option ℕ → Type 0
+LooksUp body from n t (Some k) = (k < n) × (same (triple_of body from k) t ≡ true)
+LooksUp body from n t None = (j : ℕ) → j < n → same (triple_of body from j) t ≡ false

@@ -11,20 +11,28 @@ use crate::pairs::FEW;
 use crate::{keys, pairs, triples};
 use format::DataRef;
 
-// Along a chain of the first i references from `first` on: the number, and one more, of one that has the triple; 0 where none has.
-fn walk(body: &[u8], from: usize, i: usize, links: &[u16], first: usize, t: DataRef) -> usize
+// Along a chain of the first i references from `first` on: the number of one that has the triple.
+fn walk(
+    body: &[u8],
+    from: usize,
+    i: usize,
+    links: &[u16],
+    first: usize,
+    t: DataRef,
+) -> Option<usize>
     requires i_in_bounds { (from + triple_size * i ≤ length body.now) × (length body.now ≤ most_sheet) }
     requires i_in_bounds_2 { (i ≤ length links.now) × Leading body.now from links.now i first (triple t) }
     ensures { LooksUp body.now from i (triple t) result }
 {
     let mut at = first;
     while 0 < at {
-        if triples::is_at(t, body, from, at - 1) {
-            return at;
+        let number = at - 1;
+        if triples::is_at(t, body, from, number) {
+            return Some(number);
         }
-        at = links[at - 1] as usize;
+        at = links[number] as usize;
     }
-    0
+    None
 }
 
 // Puts the n data references from `from` on in chains, up to the first one whose triple stands before it too. Returns its number,
@@ -47,23 +55,21 @@ pub fn chain_all(
         return pairs::front_among(body, from, n);
     }
     let chains = heads.len();
-    let mut i: usize = 0;
-    while i < n {
+    for i in 0..n {
         let t = triples::triple_of(body, from, i);
         let chain = keys::chain_of(seed, chains, t);
         let first = heads[chain];
-        if walk(body, from, i, links, first as usize, t) != 0 {
+        if walk(body, from, i, links, first as usize, t).is_some() {
             return i;
         }
         links[i] = first;
         heads[chain] = (i + 1) as u16;
-        i += 1;
     }
     n
 }
 
-// The number, and one more, of the reference that has the triple, of n that `chain_all` put in chains; 0 where none has. Few are in
-// no chain: they are compared one by one.
+// The number of the reference that has the triple, of n that `chain_all` put in chains. Few are in no chain: they are compared one
+// by one.
 pub fn number_of(
     body: &[u8],
     from: usize,
@@ -72,7 +78,7 @@ pub fn number_of(
     heads: &[u16],
     links: &[u16],
     t: DataRef,
-) -> usize
+) -> Option<usize>
     requires n_in_bounds { (from + triple_size * n ≤ length body.now) × (length body.now ≤ most_sheet) }
     requires in_bounds { (1 ≤ length heads.now) × ((length heads.now ≤ 4096) × (n ≤ length links.now)) }
     requires chained { few < n → Chained (chain_of seed (length heads.now)) body.now from heads.now links.now n }

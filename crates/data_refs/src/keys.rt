@@ -53,14 +53,12 @@ fn seed_after(seed: u64, body: &[u8], from: usize, n: usize) -> u64
 {
     let mut even = seed;
     let mut odd = seed / 2;
-    let mut i: usize = 0;
-    while i + 1 < n {
-        even = key_of(even, triples::triple_of(body, from, i));
-        odd = key_of(odd, triples::triple_of(body, from, i + 1));
-        i += 2;
+    for i in 0..n / 2 {
+        even = key_of(even, triples::triple_of(body, from, 2 * i));
+        odd = key_of(odd, triples::triple_of(body, from, 2 * i + 1));
     }
-    if i < n {
-        even = key_of(even, triples::triple_of(body, from, i));
+    if n % 2 == 1 {
+        even = key_of(even, triples::triple_of(body, from, n - 1));
     }
     even ^ odd
 }

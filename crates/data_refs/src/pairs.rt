@@ -10,19 +10,17 @@ use format::DataRef;
 // Up to so many, comparing takes less time than to make a seed and to put them in chains.
 pub const FEW: usize = 16;
 
-// The number, and one more, of the first of the n data references from `from` on that has the triple; 0 where none has.
-pub fn number_among(body: &[u8], from: usize, n: usize, t: DataRef) -> usize
+// The number of the first of the n data references from `from` on that has the triple.
+pub fn number_among(body: &[u8], from: usize, n: usize, t: DataRef) -> Option<usize>
     requires { (from + triple_size * n ≤ length body.now) × (length body.now ≤ most_sheet) }
     ensures { LooksUp body.now from n (triple t) result }
 {
-    let mut i: usize = 0;
-    while i < n {
+    for i in 0..n {
         if triples::is_at(t, body, from, i) {
-            return i + 1;
+            return Some(i);
         }
-        i += 1;
     }
-    0
+    None
 }
 
 // How many of the n data references from `from` on, from the first on, have different triples: all, or those before the first one
@@ -31,12 +29,10 @@ pub fn front_among(body: &[u8], from: usize, n: usize) -> usize
     requires { (from + triple_size * n ≤ length body.now) × (length body.now ≤ most_sheet) }
     ensures { (result ≤ n) × (Distinct body.now from result × (result < n → Repeats body.now from result)) }
 {
-    let mut i: usize = 0;
-    while i < n {
-        if number_among(body, from, i, triples::triple_of(body, from, i)) != 0 {
+    for i in 0..n {
+        if number_among(body, from, i, triples::triple_of(body, from, i)).is_some() {
             return i;
         }
-        i += 1;
     }
     n
 }

@@ -90,12 +90,11 @@ fn held_by_counts(
             objectid: ino,
             offset,
         };
-        let number = data_refs::number_of(body, from, n, seed, heads, links, name);
-        if number == 0 {
+        let Some(k) = data_refs::number_of(body, from, n, seed, heads, links, name) else {
             return false;
-        }
+        };
         let end = equal_end(offsets, i, offset);
-        counts[number - 1] = counts[number - 1] + (end - i) as u16;
+        counts[k] = counts[k] + (end - i) as u16;
         i = end;
     }
     all_weigh(body, from, n, counts)

@@ -1,4 +1,4 @@
-use mathlib.Core.Path.{sym, ap}
+use mathlib.Core.Path.{sym, ap, ◌∙◌}
 use mathlib.Core.Bool.{not}
 use Rattle.balance.proofs.Admits.{clear-by, looked-up}
 use Rattle.balance.proofs.together.stands_twice.Goals as goal
@@ -10,4 +10,4 @@ returns-then-n-known c =
 pub returns : goal.returns
 returns c =
     let a = c.args in
-    ap not (sym (looked-up a.body.now a.from a.at _ c.triple_at.ensures a.n _ c.number_among.ensures))
+    c.is_some.ensures ∙ looked-up a.body.now a.from a.at _ c.triple_at.ensures a.n _ c.number_among.ensures

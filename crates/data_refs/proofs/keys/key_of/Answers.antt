@@ -1,14 +1,6 @@
-use native.Mathlib.Omega.{arith}
 use lib.Bits.{bit_xor}
 use Rattle.data_refs.specs.Keys.{seeded_key}
-use Rattle.data_refs.proofs.Products.{high-below}
 use Rattle.data_refs.proofs.keys.key_of.Goals as goal
-
-pub overflow_add-high : goal.overflow_add-high
-overflow_add-high c = let h = high-below _ c.ranges.seed in record { fits = omega (arith, h) }
-
-pub product-offset-requires : goal.product-offset-requires
-product-offset-requires c = let h = high-below _ c.ranges.seed in (omega arith, omega (arith, h))
 
 pub returns : goal.returns
 unfolding seeded_key
