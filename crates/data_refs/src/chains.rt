@@ -91,32 +91,18 @@ pub fn number_of(
     walk(body, from, n, links, heads[chain] as usize, t)
 }
 
-// How many of up to 64 data references from `from` on, from the first on, have different triples. A call clears its arrays, so each
-// size of them stands in a function of its own.
-fn front_of_64(body: &[u8], from: usize, n: usize) -> usize
-    requires { (from + triple_size * n ≤ length body.now) × ((length body.now ≤ most_sheet) × (n ≤ 64)) }
+// How many of the n data references from `from` on, from the first on, have different triples, by arrays of these sizes. A call
+// clears its arrays, so few do with small ones; and it stays a call, so that no caller has a frame with such arrays.
+#[inline(never)]
+fn front_within<const HEADS: usize, const LINKS: usize>(body: &[u8], from: usize, n: usize) -> usize
+    requires n_in_bounds { (from + triple_size * n ≤ length body.now) × ((length body.now ≤ most_sheet) × (n ≤ 2259)) }
+    requires sizes { (1 ≤ HEADS) × (HEADS ≤ 4096) × (n ≤ LINKS) × (LINKS ≤ 4096) }
     ensures { (result ≤ n) × (Distinct body.now from result × (result < n → Repeats body.now from result)) }
 {
-    let mut heads: [u16; 64] = [0; 64];
-    let mut links: [u16; 64] = [0; 64];
+    let mut heads: [u16; HEADS] = [0; HEADS];
+    let mut links: [u16; LINKS] = [0; LINKS];
     let seed = keys::seed_of(body, from, n);
     chain_all(body, from, n, seed, &mut heads, &mut links)
-}
-
-// The same for as many as a body holds. It is asked again of the references before one that repeats: the compiler puts no function
-// that calls itself into its caller, and few callers should have a frame with such arrays.
-fn front_of_all(body: &[u8], from: usize, n: usize) -> usize
-    requires { (from + triple_size * n ≤ length body.now) × ((length body.now ≤ most_sheet) × (n ≤ 2259)) }
-    ensures { (result ≤ n) × (Distinct body.now from result × (result < n → Repeats body.now from result)) }
-{
-    let mut heads: [u16; 4096] = [0; 4096];
-    let mut links: [u16; 2259] = [0; 2259];
-    let seed = keys::seed_of(body, from, n);
-    let m = chain_all(body, from, n, seed, &mut heads, &mut links);
-    if m < n {
-        return front_of_all(body, from, m);
-    }
-    n
 }
 
 // How many of the n data references from `from` on, from the first on, have different triples: all, or those before the first one
@@ -129,7 +115,7 @@ pub fn distinct_front(body: &[u8], from: usize, n: usize) -> usize
         return pairs::front_among(body, from, n);
     }
     if n <= 64 {
-        return front_of_64(body, from, n);
+        return front_within::<64, 64>(body, from, n);
     }
-    front_of_all(body, from, n)
+    front_within::<4096, 2259>(body, from, n)
 }

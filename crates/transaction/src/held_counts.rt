@@ -127,36 +127,23 @@ fn held_by_chains(
     )
 }
 
-fn held_few(body: &[u8], from: usize, n: usize, root: u64, ino: u64, offsets: &[u64]) -> bool
-    requires side_by_side { SideBySide root ino body.now from n × (n ≤ 64) }
-    requires body_len_bound { (length body.now ≤ most_data) × (length offsets.now ≤ 4096) }
-    ensures { result ≡ agrees root ino offsets.now (read_from body.now from) }
-{
-    let mut heads: [u16; 64] = [0; 64];
-    let mut links: [u16; 64] = [0; 64];
-    let mut counts: [u16; 64] = [0; 64];
-    held_by_chains(
-        body,
-        from,
-        n,
-        root,
-        ino,
-        offsets,
-        &mut heads,
-        &mut links,
-        &mut counts,
-    )
-}
-
-// No body has more than 2,259 references.
-fn held_many(body: &[u8], from: usize, n: usize, root: u64, ino: u64, offsets: &[u64]) -> bool
+// By arrays of these sizes.
+fn held_within<const HEADS: usize, const LINKS: usize>(
+    body: &[u8],
+    from: usize,
+    n: usize,
+    root: u64,
+    ino: u64,
+    offsets: &[u64],
+) -> bool
     requires side_by_side { SideBySide root ino body.now from n }
     requires body_len_bound { (length body.now ≤ most_data) × (length offsets.now ≤ 4096) }
+    requires sizes { (1 ≤ HEADS) × (HEADS ≤ 4096) × (n ≤ LINKS) × (LINKS ≤ 4096) }
     ensures { result ≡ agrees root ino offsets.now (read_from body.now from) }
 {
-    let mut heads: [u16; 4096] = [0; 4096];
-    let mut links: [u16; 2259] = [0; 2259];
-    let mut counts: [u16; 2259] = [0; 2259];
+    let mut heads: [u16; HEADS] = [0; HEADS];
+    let mut links: [u16; LINKS] = [0; LINKS];
+    let mut counts: [u16; LINKS] = [0; LINKS];
     held_by_chains(
         body,
         from,
@@ -170,7 +157,7 @@ fn held_many(body: &[u8], from: usize, n: usize, root: u64, ino: u64, offsets: &
     )
 }
 
-// Of n references that are all the file's. Few of them do with arrays that are soon cleared.
+// Of n references that are all the file's. Few of them do with arrays that are soon cleared, and no body has more than 2,259.
 pub fn held_refs(body: &[u8], from: usize, n: usize, root: u64, ino: u64, offsets: &[u64]) -> bool
     requires side_by_side { SideBySide root ino body.now from n }
     requires body_len_bound { (length body.now ≤ most_data) × (length offsets.now ≤ 4096) }
@@ -180,7 +167,7 @@ pub fn held_refs(body: &[u8], from: usize, n: usize, root: u64, ino: u64, offset
         return held_one(body, from, offsets);
     }
     if n <= 64 {
-        return held_few(body, from, n, root, ino, offsets);
+        return held_within::<64, 64>(body, from, n, root, ino, offsets);
     }
-    held_many(body, from, n, root, ino, offsets)
+    held_within::<4096, 2259>(body, from, n, root, ino, offsets)
 }
