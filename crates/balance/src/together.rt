@@ -4,6 +4,7 @@ ghost use Rattle.data_refs.specs.Triples.{triple_size, Distinct};
 ghost use Rattle.format.specs.Constants.{most_sheet};
 ghost use Rattle.balance.specs.Spans.{clear, OneRank};
 
+use data_refs::Triples;
 use format::EXTENT_DATA_REF;
 
 // Whether the triple of the data reference at `at`, right behind n others from `from` on, is one of theirs. Of the first `known` it
@@ -16,7 +17,11 @@ pub fn stands_twice(body: &[u8], from: usize, n: usize, known: usize, at: usize)
     if n < known {
         return false;
     }
-    data_refs::number_among(body, from, n, data_refs::triple_at(body, at + 1)).is_some()
+    data_refs::number_among(
+        Triples { body, from, n },
+        data_refs::triple_at(body, at + 1),
+    )
+    .is_some()
 }
 
 // How many data references stand side by side from `from` on: `passed`, and those of that hash behind them.
@@ -54,5 +59,5 @@ pub fn known_in(body: &[u8], from: usize, n: usize, own: u64) -> usize
         return 0;
     }
     let all = count(body, from, n + 1, own);
-    data_refs::distinct_front(body, from, all)
+    data_refs::distinct_front(Triples { body, from, n: all })
 }

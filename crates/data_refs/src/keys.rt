@@ -2,13 +2,11 @@
 // crowd into one chain would have to be made for a seed that follows from each of them. It is made in two passes: what the last
 // triple does to the first pass runs through all of the second. Of chains only that equal triples belong to one has to be known.
 ghost use Rattle.std.specs.Prelude.{◌≡◌, ◌+◌, ◌*◌, ◌≤◌, ◌<◌, length};
-ghost use Rattle.format.specs.Constants.{most_sheet};
 ghost use Rattle.format.specs.Bodies.{triple};
-ghost use Rattle.data_refs.specs.Triples.{triple_size};
 ghost use Rattle.data_refs.specs.Keys.{product_of, seeded_key, chain_of};
 
 use crate::pairs::FEW;
-use crate::triples;
+use crate::triples::Triples;
 use format::DataRef;
 
 // What a seed starts from: the fraction of pi, as a number without a pattern.
@@ -46,31 +44,26 @@ pub fn chain_of(seed: u64, chains: usize, t: DataRef) -> usize
     (spread * (chains as u64) / 4294967296) as usize
 }
 
-// What a seed becomes by the triples of the n data references from `from` on, one after the other. Those of even and of odd numbers
-// go apart, so that a multiplication need not wait for the last one.
-fn seed_after(seed: u64, body: &[u8], from: usize, n: usize) -> u64
-    requires { (from + triple_size * n ≤ length body.now) × (length body.now ≤ most_sheet) }
-{
+// What a seed becomes by the triples, one after the other. Those of even and of odd numbers go apart, so that a multiplication need
+// not wait for the last one.
+fn seed_after(seed: u64, refs: Triples) -> u64 {
     let mut even = seed;
     let mut odd = seed / 2;
-    for i in 0..n / 2 {
-        even = key_of(even, triples::triple_of(body, from, 2 * i));
-        odd = key_of(odd, triples::triple_of(body, from, 2 * i + 1));
+    for i in 0..refs.n / 2 {
+        even = key_of(even, refs.get(2 * i));
+        odd = key_of(odd, refs.get(2 * i + 1));
     }
-    if n % 2 == 1 {
-        even = key_of(even, triples::triple_of(body, from, n - 1));
+    if refs.n % 2 == 1 {
+        even = key_of(even, refs.get(refs.n - 1));
     }
     even ^ odd
 }
 
-// A seed made of the triples of the n data references from `from` on; few are in no chain. Which it is, is left open on purpose:
-// any will do.
-pub fn seed_of(body: &[u8], from: usize, n: usize) -> u64
-    requires { (from + triple_size * n ≤ length body.now) × (length body.now ≤ most_sheet) }
-{
-    if n <= FEW {
+// A seed made of the triples; few are in no chain. Which it is, is left open on purpose: any will do.
+pub fn seed_of(refs: Triples) -> u64 {
+    if refs.n <= FEW {
         return 0;
     }
-    let once = seed_after(START, body, from, n);
-    seed_after(once, body, from, n)
+    let once = seed_after(START, refs);
+    seed_after(once, refs)
 }

@@ -11,4 +11,4 @@ mod triples;
 pub use chains::{chain_all, distinct_front, number_of};
 pub use keys::seed_of;
 pub use pairs::number_among;
-pub use triples::{data_size, triple_at};
+pub use triples::{Triples, data_size, triple_at};

@@ -1,38 +1,34 @@
 // Few data references: each is compared with each.
-ghost use Rattle.std.specs.Prelude.{◌+◌, ◌*◌, ◌≤◌, ◌<◌, length};
-ghost use Rattle.format.specs.Constants.{most_sheet};
+ghost use Rattle.std.specs.Prelude.{◌≤◌, ◌<◌};
 ghost use Rattle.format.specs.Bodies.{triple};
-ghost use Rattle.data_refs.specs.Triples.{triple_size, Distinct, Repeats, LooksUp};
+ghost use Rattle.data_refs.specs.Triples.{Distinct, Repeats, LooksUp};
 
-use crate::triples;
+use crate::triples::Triples;
 use format::DataRef;
 
 // Up to so many, comparing takes less time than to make a seed and to put them in chains.
 pub const FEW: usize = 16;
 
-// The number of the first of the n data references from `from` on that has the triple.
-pub fn number_among(body: &[u8], from: usize, n: usize, t: DataRef) -> Option<usize>
-    requires { (from + triple_size * n ≤ length body.now) × (length body.now ≤ most_sheet) }
-    ensures { LooksUp body.now from n (triple t) result }
+// The number of the first of them that has the triple.
+pub fn number_among(refs: Triples, t: DataRef) -> Option<usize>
+    ensures { LooksUp refs.entry.body.now refs.entry.from refs.entry.n (triple t) result }
 {
-    for i in 0..n {
-        if triples::is_at(t, body, from, i) {
+    for i in 0..refs.n {
+        if refs.is_at(i, t) {
             return Some(i);
         }
     }
     None
 }
 
-// How many of the n data references from `from` on, from the first on, have different triples: all, or those before the first one
-// whose triple stands before it too.
-pub fn front_among(body: &[u8], from: usize, n: usize) -> usize
-    requires { (from + triple_size * n ≤ length body.now) × (length body.now ≤ most_sheet) }
-    ensures { (result ≤ n) × (Distinct body.now from result × (result < n → Repeats body.now from result)) }
+// How many of them, from the first on, have different triples: all, or those before the first one whose triple stands before it too.
+pub fn front_among(refs: Triples) -> usize
+    ensures { (result ≤ refs.entry.n) × (Distinct refs.entry.body.now refs.entry.from result × (result < refs.entry.n → Repeats refs.entry.body.now refs.entry.from result)) }
 {
-    for i in 0..n {
-        if number_among(body, from, i, triples::triple_of(body, from, i)).is_some() {
+    for i in 0..refs.n {
+        if number_among(refs.first(i), refs.get(i)).is_some() {
             return i;
         }
     }
-    n
+    refs.n
 }

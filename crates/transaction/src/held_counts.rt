@@ -9,6 +9,7 @@ ghost use Rattle.data_refs.specs.Chains.{few, Cleared, Chained};
 ghost use Rattle.transaction.specs.Held.{agrees, SideBySide, EqualUpTo, Tallied};
 
 use crate::held_refs;
+use data_refs::Triples;
 use format::DataRef;
 
 // Where the equal offsets that stand side by side from `start` on end.
@@ -82,6 +83,7 @@ fn held_by_counts(
     requires n_in_bounds { (n ≤ length counts.old) × Cleared counts.old }
     ensures { result ≡ agrees root ino offsets.now (read_from body.now from) }
 {
+    let refs = Triples { body, from, n };
     let mut i: usize = 0;
     while i < offsets.len() {
         let offset = offsets[i];
@@ -90,7 +92,7 @@ fn held_by_counts(
             objectid: ino,
             offset,
         };
-        let Some(k) = data_refs::number_of(body, from, n, seed, heads, links, name) else {
+        let Some(k) = data_refs::number_of(refs, seed, heads, links, name) else {
             return false;
         };
         let end = equal_end(offsets, i, offset);
@@ -118,8 +120,9 @@ fn held_by_chains(
     requires cleared { Cleared heads.old × ((n ≤ length counts.old) × Cleared counts.old) }
     ensures { result ≡ agrees root ino offsets.now (read_from body.now from) }
 {
-    let seed = data_refs::seed_of(body, from, n);
-    if data_refs::chain_all(body, from, n, seed, heads, links) < n {
+    let refs = Triples { body, from, n };
+    let seed = data_refs::seed_of(refs);
+    if data_refs::chain_all(refs, seed, heads, links) < n {
         return false;
     }
     held_by_counts(

@@ -5,4 +5,4 @@ use Rattle.data_refs.specs.Chains.{Chained}
 use Rattle.data_refs.proofs.chains.chain_all.Given as goal
 
 abbrev pub invariant-loop-i : goal.invariant-loop-i
-invariant-loop-i l = Distinct l.body l.from l.i × Chained (chain_of l.seed (length l.initial.heads)) l.body l.from l.heads l.links l.i
+invariant-loop-i l = Distinct l.refs.body.now l.refs.from l.i × Chained (chain_of l.seed (length l.initial.heads)) l.refs.body.now l.refs.from l.heads l.links l.i

@@ -4,4 +4,4 @@ use Rattle.data_refs.specs.Triples.{LooksUp}
 use Rattle.data_refs.proofs.pairs.number_among.Given as goal
 
 abbrev pub invariant-loop-i : goal.invariant-loop-i
-invariant-loop-i l = LooksUp l.body l.from l.i (triple l.t) None
+invariant-loop-i l = LooksUp l.refs.body.now l.refs.from l.i (triple l.t) None
