@@ -17,11 +17,9 @@ pub fn stands_twice(body: &[u8], from: usize, n: usize, known: usize, at: usize)
     if n < known {
         return false;
     }
-    data_refs::number_among(
-        Triples { body, from, n },
-        data_refs::triple_at(body, at + 1),
-    )
-    .is_some()
+    let refs = Triples { body, from, n };
+    refs.number_among(data_refs::triple_at(body, at + 1))
+        .is_some()
 }
 
 // How many data references stand side by side from `from` on: `passed`, and those of that hash behind them.

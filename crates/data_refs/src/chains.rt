@@ -6,9 +6,8 @@ ghost use Rattle.data_refs.specs.Triples.{Distinct, Repeats, LooksUp};
 ghost use Rattle.data_refs.specs.Keys.{chain_of};
 ghost use Rattle.data_refs.specs.Chains.{few, Cleared, Leading, Chained};
 
-use crate::pairs::FEW;
-use crate::triples::Triples;
-use crate::{keys, pairs};
+use crate::keys;
+use crate::triples::{FEW, Triples};
 use format::DataRef;
 
 // Along a chain of the first i references from `first` on: the number of one that has the triple.
@@ -36,7 +35,7 @@ pub fn chain_all(refs: Triples, seed: u64, heads: &mut [u16], links: &mut [u16])
     ensures chained { few < refs.entry.n → Chained (chain_of seed (length heads.old)) refs.entry.body.now refs.entry.from heads.new links.new result }
 {
     if refs.n <= FEW {
-        return pairs::front_among(refs);
+        return refs.front_among();
     }
     let chains = heads.len();
     for i in 0..refs.n {
@@ -52,24 +51,29 @@ pub fn chain_all(refs: Triples, seed: u64, heads: &mut [u16], links: &mut [u16])
     refs.n
 }
 
-// The number of the reference that has the triple, of those that `chain_all` put in chains. Few are in no chain: they are compared
-// one by one.
-pub fn number_of(
-    refs: Triples,
-    seed: u64,
-    heads: &[u16],
-    links: &[u16],
-    t: DataRef,
-) -> Option<usize>
-    requires in_bounds { (1 ≤ length heads.now) × (length heads.now ≤ 4096) × (refs.n ≤ length links.now) }
-    requires chained { few < refs.n → Chained (chain_of seed (length heads.now)) refs.body.now refs.from heads.now links.now refs.n }
-    ensures { LooksUp refs.entry.body.now refs.entry.from refs.entry.n (triple t) result }
-{
-    if refs.n <= FEW {
-        return pairs::number_among(refs, t);
+// Data references that `chain_all` put in chains; few are in none.
+#[derive(Clone, Copy)]
+pub struct Chains<'r, 'a> {
+    pub refs: Triples<'r>,
+    pub seed: u64,
+    pub heads: &'a [u16],
+    pub links: &'a [u16],
+    ghost in_bounds: { (1 ≤ length heads.now) × (length heads.now ≤ 4096) × (refs.n ≤ length links.now) },
+    ghost chained: { few < refs.n → Chained (chain_of seed (length heads.now)) refs.body.now refs.from heads.now links.now refs.n },
+}
+
+impl Chains<'_, '_> {
+    // The number of the reference that has the triple.
+    pub fn number_of(self, t: DataRef) -> Option<usize>
+        ensures { LooksUp self.entry.refs.body.now self.entry.refs.from self.entry.refs.n (triple t) result }
+    {
+        let refs = self.refs;
+        if refs.n <= FEW {
+            return refs.number_among(t);
+        }
+        let chain = keys::chain_of(self.seed, self.heads.len(), t);
+        walk(refs, refs.n, self.links, self.heads[chain] as usize, t)
     }
-    let chain = keys::chain_of(seed, heads.len(), t);
-    walk(refs, refs.n, links, heads[chain] as usize, t)
 }
 
 // How many data references, from the first on, have different triples, by arrays of these sizes. A call clears its arrays, so few do
@@ -91,7 +95,7 @@ pub fn distinct_front(refs: Triples) -> usize
     ensures { (result ≤ refs.entry.n) × (Distinct refs.entry.body.now refs.entry.from result × (result < refs.entry.n → Repeats refs.entry.body.now refs.entry.from result)) }
 {
     if refs.n <= FEW {
-        return pairs::front_among(refs);
+        return refs.front_among();
     }
     if refs.n <= 64 {
         return front_within::<64, 64>(refs);

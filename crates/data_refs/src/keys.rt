@@ -5,8 +5,7 @@ ghost use Rattle.std.specs.Prelude.{◌≡◌, ◌+◌, ◌*◌, ◌≤◌, ◌<
 ghost use Rattle.format.specs.Bodies.{triple};
 ghost use Rattle.data_refs.specs.Keys.{product_of, seeded_key, chain_of};
 
-use crate::pairs::FEW;
-use crate::triples::Triples;
+use crate::triples::{FEW, Triples};
 use format::DataRef;
 
 // What a seed starts from: the fraction of pi, as a number without a pattern.

@@ -5,10 +5,8 @@
 
 mod chains;
 mod keys;
-mod pairs;
 mod triples;
 
-pub use chains::{chain_all, distinct_front, number_of};
+pub use chains::{Chains, chain_all, distinct_front};
 pub use keys::seed_of;
-pub use pairs::number_among;
 pub use triples::{Triples, data_size, triple_at};

@@ -9,7 +9,7 @@ ghost use Rattle.data_refs.specs.Chains.{few, Cleared, Chained};
 ghost use Rattle.transaction.specs.Held.{agrees, SideBySide, EqualUpTo, Tallied};
 
 use crate::held_refs;
-use data_refs::Triples;
+use data_refs::{Chains, Triples};
 use format::DataRef;
 
 // Where the equal offsets that stand side by side from `start` on end.
@@ -63,27 +63,13 @@ fn held_one(body: &[u8], from: usize, offsets: &[u64]) -> bool
     all_weigh(body, from, 1, &counts)
 }
 
-// Of n references that were put in chains. Counters are all 0.
-fn held_by_counts(
-    body: &[u8],
-    from: usize,
-    n: usize,
-    root: u64,
-    ino: u64,
-    offsets: &[u64],
-    seed: u64,
-    heads: &[u16],
-    links: &[u16],
-    counts: &mut [u16],
-) -> bool
-    requires side_by_side { SideBySide root ino body.now from n × Distinct body.now from n }
-    requires body_len_bound { (length body.now ≤ most_data) × (length offsets.now ≤ 4096) }
-    requires in_bounds { (1 ≤ length heads.now) × ((length heads.now ≤ 4096) × (n ≤ length links.now)) }
-    requires chained { few < n → Chained (chain_of seed (length heads.now)) body.now from heads.now links.now n }
-    requires n_in_bounds { (n ≤ length counts.old) × Cleared counts.old }
-    ensures { result ≡ agrees root ino offsets.now (read_from body.now from) }
+// Of references that were put in chains. Counters are all 0.
+fn held_by_counts(chains: Chains, root: u64, ino: u64, offsets: &[u64], counts: &mut [u16]) -> bool
+    requires side_by_side { SideBySide root ino chains.refs.body.now chains.refs.from chains.refs.n × Distinct chains.refs.body.now chains.refs.from chains.refs.n }
+    requires body_len_bound { (length chains.refs.body.now ≤ most_data) × (length offsets.now ≤ 4096) }
+    requires n_in_bounds { (chains.refs.n ≤ length counts.old) × Cleared counts.old }
+    ensures { result ≡ agrees root ino offsets.now (read_from chains.entry.refs.body.now chains.entry.refs.from) }
 {
-    let refs = Triples { body, from, n };
     let mut i: usize = 0;
     while i < offsets.len() {
         let offset = offsets[i];
@@ -92,13 +78,14 @@ fn held_by_counts(
             objectid: ino,
             offset,
         };
-        let Some(k) = data_refs::number_of(refs, seed, heads, links, name) else {
+        let Some(k) = chains.number_of(name) else {
             return false;
         };
         let end = equal_end(offsets, i, offset);
         counts[k] = counts[k] + (end - i) as u16;
         i = end;
     }
+    let Triples { body, from, n } = chains.refs;
     all_weigh(body, from, n, counts)
 }
 
@@ -125,9 +112,13 @@ fn held_by_chains(
     if data_refs::chain_all(refs, seed, heads, links) < n {
         return false;
     }
-    held_by_counts(
-        body, from, n, root, ino, offsets, seed, heads, links, counts,
-    )
+    let chains = Chains {
+        refs,
+        seed,
+        heads,
+        links,
+    };
+    held_by_counts(chains, root, ino, offsets, counts)
 }
 
 // By arrays of these sizes.
