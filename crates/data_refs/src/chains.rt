@@ -1,5 +1,6 @@
 // Data references in chains: a triple is compared with those of its own chain alone. A chain goes from the reference that was put
 // in last to the first one, by numbers that are one higher than those of the references; 0 ends it.
+// Heads and links hold such numbers and no options: there is no heap, and arrays of 16 bits are what a call can clear.
 ghost use Rattle.std.specs.Prelude.{◌≤◌, ◌<◌, length};
 ghost use Rattle.format.specs.Bodies.{triple};
 ghost use Rattle.data_refs.specs.Triples.{Distinct, Repeats, LooksUp};
@@ -28,6 +29,7 @@ fn walk(refs: Triples, i: usize, links: &[u16], first: usize, t: DataRef) -> Opt
 
 // Puts data references in chains, up to the first one whose triple stands before it too. Returns its number, or that of all. Few are
 // compared each with each instead, and what was lent for chains is left as it is.
+// Heads and links are lent apart from `Chains`, which lends them only to read: its ghost fields hold only once all are in chains.
 pub fn chain_all(refs: Triples, seed: u64, heads: &mut [u16], links: &mut [u16]) -> usize
     requires in_bounds { (refs.n ≤ 2259) × (1 ≤ length heads.old) × (length heads.old ≤ 4096) × (refs.n ≤ length links.old) }
     requires cleared { Cleared heads.old }
@@ -90,6 +92,7 @@ fn front_within<const HEADS: usize, const LINKS: usize>(refs: Triples) -> usize
 }
 
 // How many of them, from the first on, have different triples: all, or those before the first one whose triple stands before it too.
+// It is a count, which callers ask for: an Option of the one that repeats would be turned into it.
 pub fn distinct_front(refs: Triples) -> usize
     requires { refs.n ≤ 2259 }
     ensures { (result ≤ refs.entry.n) × (Distinct refs.entry.body.now refs.entry.from result × (result < refs.entry.n → Repeats refs.entry.body.now refs.entry.from result)) }
