@@ -1,5 +1,5 @@
 -- The triples of data references that stand side by side, that no two of them are the same, and which has a given one. Assumes nothing.
-use Rattle.std.specs.Prelude.{◌≡◌, true, false, List, [], Option, Some, None, ℕ, ◌+◌, ◌*◌, ◌<◌, drop, get_or}
+use Rattle.std.specs.Prelude.{◌≡◌, true, false, List, [], Option, Some, None, ℕ, ◌+◌, ◌*◌, ◌≤◌, ◌<◌, drop, get_or}
 use Rattle.fields.specs.Lists.{same}
 use Rattle.fields.specs.Numbers.{words}
 use Rattle.format.specs.References.{kinds}
@@ -21,6 +21,10 @@ pub record Repeats (body : List ℕ) (from i : ℕ) : Type 0 where
   pub first : ℕ
   pub below : first < i
   pub twice : same (triple_of body from first) (triple_of body from i) ≡ true
+
+-- the first r of n references differ, and where they are not all, the next one repeats one of them
+abbrev pub Front : List ℕ → ℕ → ℕ → ℕ → Type 0
+Front body from n r = (r ≤ n) × (Distinct body from r × (r < n → Repeats body from r))
 
 -- what looking for a triple among the first n references gives: the number of one that has it, or none where none has
 abbrev pub LooksUp : List ℕ → ℕ → ℕ → List ℕ → Option ℕ → Type 0

@@ -1,9 +1,9 @@
 // Data references in chains: a triple is compared with those of its own chain alone. A chain goes from the reference that was put
 // in last to the first one, by numbers that are one higher than those of the references; 0 ends it.
-// Heads and links hold such numbers and no options: there is no heap, and arrays of 16 bits are what a call can clear.
+// Heads and links hold such numbers and no options: two bytes for each in fixed memory, and zeros alone are chains of nothing.
 ghost use Rattle.std.specs.Prelude.{◌≤◌, ◌<◌, length};
 ghost use Rattle.format.specs.Bodies.{triple};
-ghost use Rattle.data_refs.specs.Triples.{Distinct, Repeats, LooksUp};
+ghost use Rattle.data_refs.specs.Triples.{Front, LooksUp};
 ghost use Rattle.data_refs.specs.Keys.{chain_of};
 ghost use Rattle.data_refs.specs.Chains.{few, Cleared, Leading, Chained};
 
@@ -29,11 +29,11 @@ fn walk(refs: Triples, i: usize, links: &[u16], first: usize, t: DataRef) -> Opt
 
 // Puts data references in chains, up to the first one whose triple stands before it too. Returns its number, or that of all. Few are
 // compared each with each instead, and what was lent for chains is left as it is.
-// Heads and links are lent apart from `Chains`, which lends them only to read: its ghost fields hold only once all are in chains.
+// Heads and links stand apart from `Chains` here: its ghost fields hold only once all references are in chains.
 pub fn chain_all(refs: Triples, seed: u64, heads: &mut [u16], links: &mut [u16]) -> usize
     requires in_bounds { (refs.n ≤ 2259) × (1 ≤ length heads.old) × (length heads.old ≤ 4096) × (refs.n ≤ length links.old) }
     requires cleared { Cleared heads.old }
-    ensures upper_bound { (result ≤ refs.entry.n) × (Distinct refs.entry.body.now refs.entry.from result × (result < refs.entry.n → Repeats refs.entry.body.now refs.entry.from result)) }
+    ensures upper_bound { Front refs.entry.body.now refs.entry.from refs.entry.n result }
     ensures chained { few < refs.entry.n → Chained (chain_of seed (length heads.old)) refs.entry.body.now refs.entry.from heads.new links.new result }
 {
     if refs.n <= FEW {
@@ -83,7 +83,7 @@ impl Chains<'_, '_> {
 #[inline(never)]
 fn front_within<const HEADS: usize, const LINKS: usize>(refs: Triples) -> usize
     requires sizes { (refs.n ≤ 2259) × (1 ≤ HEADS) × (HEADS ≤ 4096) × (refs.n ≤ LINKS) × (LINKS ≤ 4096) }
-    ensures { (result ≤ refs.entry.n) × (Distinct refs.entry.body.now refs.entry.from result × (result < refs.entry.n → Repeats refs.entry.body.now refs.entry.from result)) }
+    ensures { Front refs.entry.body.now refs.entry.from refs.entry.n result }
 {
     let mut heads: [u16; HEADS] = [0; HEADS];
     let mut links: [u16; LINKS] = [0; LINKS];
@@ -95,7 +95,7 @@ fn front_within<const HEADS: usize, const LINKS: usize>(refs: Triples) -> usize
 // It is a count, which callers ask for: an Option of the one that repeats would be turned into it.
 pub fn distinct_front(refs: Triples) -> usize
     requires { refs.n ≤ 2259 }
-    ensures { (result ≤ refs.entry.n) × (Distinct refs.entry.body.now refs.entry.from result × (result < refs.entry.n → Repeats refs.entry.body.now refs.entry.from result)) }
+    ensures { Front refs.entry.body.now refs.entry.from refs.entry.n result }
 {
     if refs.n <= FEW {
         return refs.front_among();
