@@ -4,8 +4,7 @@ ghost use Rattle.std.specs.Prelude.{◌≡◌, List, [], ℕ, ◌+◌, ◌*◌, 
 ghost use Rattle.format.specs.Constants.{most_data};
 ghost use Rattle.inline_refs.specs.Steps.{read_from};
 ghost use Rattle.data_refs.specs.Triples.{triple_size, Distinct};
-ghost use Rattle.data_refs.specs.Keys.{chain_of};
-ghost use Rattle.data_refs.specs.Chains.{few, Cleared, Chained};
+ghost use Rattle.data_refs.specs.Chains.{Cleared};
 ghost use Rattle.transaction.specs.Held.{agrees, SideBySide, EqualUpTo, Tallied};
 
 use crate::held_refs;
