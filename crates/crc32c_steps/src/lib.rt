@@ -32,11 +32,5 @@ fn entry(polynomial: u32, n: u32) -> u32
 pub fn table_of(polynomial: u32) -> [u32; 256]
     ensures { result ≡ table_of polynomial }
 {
-    let mut table = [0u32; 256];
-    let mut n: usize = 0;
-    while n < 256 {
-        table[n] = entry(polynomial, n as u32);
-        n += 1;
-    }
-    table
+    std::array::from_fn(|n| entry(polynomial, n as u32))
 }

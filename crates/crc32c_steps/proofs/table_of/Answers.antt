@@ -1,25 +1,11 @@
-use mathlib.Core.Path.{refl, ◌∙◌}
-use native.Mathlib.Omega.{arith}
-use lib.ListN.{length-set}
+use Rattle.std.proofs.Common.{rules, ◌≡◌, ℕ, Bor, refl}
 use Rattle.crc32c_steps.specs.Steps.{steps, table_of}
-use Rattle.crc32c_steps.proofs.Entries.{entries-more, entries-all}
+use Rattle.crc32c_steps.proofs.Entries.{entries-made}
 use Rattle.crc32c_steps.proofs.table_of.Goals as goal
-
-pub loop-n-init : goal.loop-n-init
-loop-n-init c = (omega arith, refl, refl)
-
-pub loop-n-preserved : goal.loop-n-preserved
-unfolding table_of
-loop-n-preserved c =
-    let l = c.loop-n in
-    let p = c.args.polynomial in (
-      omega arith,
-      length-set l.table l.n _ ∙ l.invariant.1,
-      entries-more (steps p 8) 256 l.table l.n _ l.invariant.1 (omega arith) l.invariant.2 c.entry.ensures,
-    )
 
 pub returns : goal.returns
 unfolding table_of
 returns c =
-    let l = c.loop-n in
-    entries-all (steps c.args.polynomial 8) 256 l.table l.n l.invariant.1 (omega arith) l.invariant.2
+    let p = c.args.polynomial in
+    let made = c.from_fn.ensures.items in
+    entries-made (steps p 8) {F = record { 0 : Bor ℕ }} _ (λ s. s.0.now ≡ p) _ 256 made.long (λ s i y s' same call. let m = call.met in (search rules, search rules)) _ refl made.each
