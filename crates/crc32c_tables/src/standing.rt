@@ -35,13 +35,7 @@ fn read_row(k: usize) -> [u32; 256]
     requires { k < 4 }
     ensures { result ≡ table_entries (steps crc32c (8 * (k + 1))) 256 0 }
 {
-    let mut row = [0u32; 256];
-    let mut n: usize = 0;
-    while n < 256 {
-        row[n] = read_entry(k, n as u8);
-        n += 1;
-    }
-    row
+    std::array::from_fn(|n| read_entry(k, n as u8))
 }
 
 // "The table in the library equals the generator's result, shown over all entries together": so says what it promises.
