@@ -13,11 +13,9 @@ fn put_lines(out: &mut [u8], polynomial: u32)
 {
     let table = crc32c_steps::table_of(polynomial);
     let mut at: usize = 0;
-    let mut n: usize = 0;
-    while n < 256 {
-        let end = text::put_hex(out, at, 8, table[n]);
+    for entry in table {
+        let end = text::put_hex(out, at, 8, entry);
         at = text::put_byte(out, end, 10);
-        n += 1;
     }
 }
 

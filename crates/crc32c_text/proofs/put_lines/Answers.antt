@@ -1,45 +1,30 @@
-use mathlib.Core.Path.{◌≡◌, refl, ap, ◌∙◌}
+use mathlib.Core.Path.{◌≡◌, ap, ◌∙◌}
 use Prim.Native.Nat.{◌≤◌, ◌<◌}
 use native.Mathlib.Omega.{arith}
 use lib.ListN.{length}
-use Rattle.text.proofs.Writes.{put_is, makes-all, makes-done}
+use Rattle.text.proofs.Writes.{put_is, makes-done}
 use Rattle.crc32c_text.specs.Text.{hex_lines, table_text}
-use Rattle.crc32c_text.proofs.Lines.{length-table, put-line, makes-line, lines_end}
+use Rattle.crc32c_text.proofs.Lines.{put-line, makes-line, lines_end}
 use Rattle.crc32c_text.proofs.put_lines.Goals as goal
 
-pub loop-n-init : goal.loop-n-init
-loop-n-init c =
-    let whole : length c.table_of-table.result ≡ 256 = ap length c.table_of-table.ensures ∙ length-table _ in
-    (makes-all _ _ _, refl, omega arith, whole, refl)
-
-pub put_hex-end-requires : goal.put_hex-end-requires
-put_hex-end-requires c = omega (arith, c.loop-n.invariant.1)
-
-pub put_byte-at-requires : goal.put_byte-at-requires
-put_byte-at-requires c =
-    omega (arith, c.put_hex-end.ensures.1, c.loop-n.invariant.1)
-
-pub loop-n-preserved : goal.loop-n-preserved
-loop-n-preserved c =
-    let l = c.loop-n in
+pub loop-entry-preserved : goal.loop-entry-preserved
+loop-entry-preserved c =
+    let l = c.loop-entry in
+    let i = l.invariant in
     let table = c.table_of-table.result in
-    let inside : l.n < length table = omega (arith, l.invariant.3) in (
-      makes-line table l.n inside (put-line _ c.put_hex-end.ensures.0 c.put_byte-at.ensures) l.invariant.0,
-      omega (arith, c.put_byte-at.ensures.further, c.put_hex-end.ensures.1, l.invariant.1),
-      omega arith,
-      l.invariant.3,
-      c.put_byte-at.auto.out ∙ c.put_hex-end.auto.out ∙ l.invariant.4,
+    let inside : l.entry-index < length table = omega (arith, i.2) in (
+      makes-line table l.entry-index inside (put-line _ c.put_hex-end.ensures.0 c.put_byte-at.ensures) i.0,
+      omega (arith, c.put_byte-at.ensures.further, c.put_hex-end.ensures.1, i.1),
+      i.2,
+      c.put_byte-at.auto.out ∙ c.put_hex-end.auto.out ∙ i.3,
     )
-
-pub shape_of-out : goal.shape_of-out
-shape_of-out c = c.loop-n.invariant.4
 
 pub returns : goal.returns
 unfolding table_text
 returns c =
-    let l = c.loop-n in
+    let l = c.loop-entry in
     let table = c.table_of-table.result in
-    let end : length table ≤ l.n = omega (arith, l.invariant.3) in
-    let n : l.n ≡ 256 = omega arith in
-    let p = put_is (ap hex_lines c.table_of-table.ensures) (makes-done (lines_end table l.n end) l.invariant.0) in
+    let end : length table ≤ l.entry-index = omega (arith, l.invariant.2) in
+    let n : l.entry-index ≡ 256 = omega arith in
+    let p = put_is (ap hex_lines c.table_of-table.ensures) (makes-done (lines_end table l.entry-index end) l.invariant.0) in
     record { further = omega (arith, p.further, l.invariant.1, n); bytes = p.bytes }
