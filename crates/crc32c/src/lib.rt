@@ -6,7 +6,7 @@
 
 mod sixteen;
 
-ghost use Rattle.std.specs.Prelude.{◌≡◌, ◌++◌, ◌+◌, ◌≤◌, ◌<◌, length, drop};
+ghost use Rattle.std.specs.Prelude.{◌≡◌, ◌++◌, ◌<◌, length};
 ghost use Rattle.crc32c.specs.Register.{crc32c, all_ones, table_of, byte_step, word_step, crc_run, inverted};
 ghost use Rattle.fields.specs.Numbers.{le, le_bytes};
 
@@ -31,50 +31,47 @@ pub fn byte_step(register: u32, b: u8) -> u32
     byte_in(&t, register, b)
 }
 
-// The number of the bytes from a position on, which are fewer than eight, lowest first.
-fn last_number(bytes: &[u8], at: usize) -> u64
-    requires { (at ≤ length bytes.now) × (length bytes.now < at + 8) }
-    ensures { result ≡ le (drop at bytes.now) }
+// The number of fewer than eight bytes, lowest first.
+fn last_number(bytes: &[u8]) -> u64
+    requires { length bytes.now < 8 }
+    ensures { result ≡ le bytes.now }
 {
-    let mut x: u64 = 0;
-    let mut i = bytes.len();
-    while at < i {
-        i -= 1;
+    let mut x = 0;
+    for i in (0..bytes.len()).rev() {
         x = x * 256 + (bytes[i] as u64);
     }
     x
 }
 
-// The register after the bytes from a position on, fewer than eight, all at once: they are the last ones of a run over eight from 0
-// whose first are zeros, and zeros leave 0 as it is. What of the register stands above them goes down by itself.
-fn last_in(register: u32, bytes: &[u8], at: usize) -> u32
-    requires { (at < length bytes.now) × (length bytes.now < at + 8) }
-    ensures { result ≡ crc_run crc32c register (drop at bytes.now) }
+// The register after fewer than eight bytes, all at once: they are the last ones of a run over eight from 0 whose first are zeros, and
+// zeros leave 0 as it is. What of the register stands above them goes down by itself.
+fn last_in(register: u32, bytes: &[u8]) -> u32
+    requires { (0 < length bytes.now) × (length bytes.now < 8) }
+    ensures { result ≡ crc_run crc32c register bytes.now }
 {
-    let x = last_number(bytes, at);
-    let bits = 8 * (bytes.len() - at);
+    let x = last_number(bytes);
+    let bits = 8 * bytes.len();
     let above = ((register as u64) >> bits) as u32;
     above ^ u64_in(0, ((register as u64) ^ x) << (64 - bits))
 }
 
-// The register after a run over the bytes from a position on, eight at a time.
-fn run_from(register: u32, bytes: &[u8], from: usize) -> u32
-    requires { from ≤ length bytes.now }
-    ensures { result ≡ crc_run crc32c register (drop from bytes.now) }
+// The register after a run over bytes, eight at a time.
+fn run(register: u32, bytes: &[u8]) -> u32
+    ensures { result ≡ crc_run crc32c register bytes.now }
 {
+    let (numbers, last) = bytes.as_chunks::<8>();
     let mut r = register;
-    let mut at = from;
-    while 8 <= bytes.len() - at {
-        r = u64_in(r, fields::get_u64_le(bytes, at));
-        at += 8;
+    for number in numbers {
+        r = u64_in(r, fields::get_u64_le(number, 0));
     }
-    if at < bytes.len() {
-        return last_in(r, bytes, at);
+    if last.is_empty() {
+        return r;
     }
-    r
+    last_in(r, last)
 }
 
-// The same over all of them, sixteen at a time.
+// The same sixteen at a time. A position is counted by hand: over `as_chunks::<16>()` LLVM's loop has four moves more, and 4,064 bytes
+// took 3.2 % longer and 16,352 bytes 4.5 %.
 fn long_run(register: u32, bytes: &[u8]) -> u32
     ensures { result ≡ crc_run crc32c register bytes.now }
 {
@@ -85,7 +82,7 @@ fn long_run(register: u32, bytes: &[u8]) -> u32
         r = sixteen::bytes_in(&rows, r, bytes, at);
         at += 16;
     }
-    run_from(r, bytes, at)
+    run(r, &bytes[at..])
 }
 
 // The register after a run over bytes.
@@ -93,7 +90,7 @@ pub fn update(register: u32, bytes: &[u8]) -> u32
     ensures { result ≡ crc_run crc32c register bytes.now }
 {
     if bytes.len() < LONG {
-        return run_from(register, bytes, 0);
+        return run(register, bytes);
     }
     long_run(register, bytes)
 }
@@ -119,11 +116,9 @@ pub fn u64_in(register: u32, x: u64) -> u32
 {
     let mut r = register;
     let mut rest = x;
-    let mut i: u32 = 0;
-    while i < 2 {
+    for i in 0..2u32 {
         r = word_step(r, (rest % 4294967296) as u32);
         rest = rest >> 32;
-        i += 1;
     }
     r
 }

@@ -1,5 +1,5 @@
 use mathlib.Core.Path.{◌≡◌}
-use Prim.Native.Nat.{◌-◌, ◌^◌, ◌≤◌, ◌<◌}
+use Prim.Native.Nat.{◌-◌, ◌^◌, ◌<◌}
 use lib.ListN.{length, drop}
 use Rattle.fields.specs.Numbers.{le}
 use Rattle.crc32c.proofs.last_number.Given as goal
@@ -8,7 +8,4 @@ use Rattle.crc32c.proofs.last_number.Given as goal
 -- Assumes nothing.
 
 abbrev pub invariant-loop-i : goal.invariant-loop-i
-invariant-loop-i l = (l.i ≤ length l.bytes) × (l.at ≤ l.i) × (l.x ≡ le (drop l.i l.bytes)) × (l.x < 256 ^ (length l.bytes - l.i))
-
-abbrev pub decreases-loop-i : goal.decreases-loop-i
-decreases-loop-i l = l.i
+invariant-loop-i l = (l.x ≡ le (drop l.i l.bytes)) × (l.x < 256 ^ (length l.bytes - l.i))

@@ -2,6 +2,7 @@ use mathlib.Core.Path.{refl, ap, ◌∙◌}
 use Prim.Native.Nat.{ℕ, ◌+◌}
 use native.Mathlib.Omega.{arith}
 use lib.ListN.{drop}
+use Rattle.fields.proofs.Parts.{part-rest}
 use Rattle.crc32c.specs.Register.{crc32c, crc_run}
 use Rattle.crc32c.proofs.Apart.{run-part}
 use Rattle.crc32c.proofs.long_run.Goals as goal
@@ -18,4 +19,4 @@ loop-at-preserved c =
     )
 
 pub returns : goal.returns
-returns c = c.run_from.ensures ∙ c.loop-at.invariant.1
+returns c = c.run.ensures ∙ ap (crc_run crc32c _) (part-rest c.loop-at.at c.args.bytes.now) ∙ c.loop-at.invariant.1

@@ -1,5 +1,5 @@
 use mathlib.Core.Path.{◌≡◌}
-use Prim.Native.Nat.{◌-◌, ◌*◌, ◌≤◌}
+use Prim.Native.Nat.{◌-◌, ◌*◌}
 use Rattle.fields.specs.Numbers.{le_bytes}
 use Rattle.crc32c.specs.Register.{crc32c, crc_run}
 use Rattle.crc32c.proofs.u64_in.Given as goal
@@ -8,7 +8,4 @@ use Rattle.crc32c.proofs.u64_in.Given as goal
 -- Assumes nothing.
 
 abbrev pub invariant-loop-i : goal.invariant-loop-i
-invariant-loop-i l = (l.i ≤ 2) × (crc_run crc32c l.r (le_bytes (4 * (2 - l.i)) l.rest) ≡ crc_run crc32c l.register (le_bytes 8 l.x))
-
-abbrev pub decreases-loop-i : goal.decreases-loop-i
-decreases-loop-i l = 2 - l.i
+invariant-loop-i l = crc_run crc32c l.r (le_bytes (4 * (2 - l.i)) l.rest) ≡ crc_run crc32c l.register (le_bytes 8 l.x)

@@ -1,4 +1,5 @@
 use mathlib.Core.Path.{◌≡◌, ap, ◌∙◌}
+use borrow.Author.Rules.{rules}
 use mathlib.Core.List.{List}
 use Prim.Native.Nat.{ℕ}
 use Rattle.crc32c.specs.Register.{crc32c, crc_run}
@@ -14,4 +15,4 @@ in-part register e words = e ∙ ap (crc_run crc32c register) words
 pub returns : goal.returns
 returns c =
     in-part _ c.words_in.ensures
-    (words-part c.args.bytes.now (λ i. (c.shared_slice_known-1.given i).fits) c.args.at c.requires.1 c.get_u32_le-a.ensures c.get_u32_le-b.ensures c.get_u32_le-c.ensures c.get_u32_le-d.ensures)
+    (words-part c.args.bytes.now (λ i. search rules) c.args.at c.requires.1 c.get_u32_le-a.ensures c.get_u32_le-b.ensures c.get_u32_le-c.ensures c.get_u32_le-d.ensures)
