@@ -10,33 +10,30 @@ fn by_run(bytes: &[u8]) -> u32 {
 
 fn by_bytes(bytes: &[u8]) -> u32 {
     let mut register = 0xffff_ffff;
-    let mut at: usize = 0;
-    while at < bytes.len() {
-        register = crc32c::byte_step(register, bytes[at]);
-        at += 1;
+    for byte in bytes {
+        register = crc32c::byte_step(register, *byte);
     }
     crc32c::finish(register)
 }
 
-// What is left behind the last whole word goes in by bytes.
+// What is left behind the last whole word goes in by bytes. By numbers is a function of its own: one for both would take the step and
+// the reading of a chunk as closures, and be longer than the two.
 fn by_words(bytes: &[u8]) -> u32 {
+    let (words, rest) = bytes.as_chunks::<4>();
     let mut register = 0xffff_ffff;
-    let mut at: usize = 0;
-    while 4 <= bytes.len() - at {
-        register = crc32c::word_step(register, fields::get_u32_le(bytes, at));
-        at += 4;
+    for word in words {
+        register = crc32c::word_step(register, u32::from_le_bytes(*word));
     }
-    crc32c::finish(crc32c::update(register, &bytes[at..]))
+    crc32c::finish(crc32c::update(register, rest))
 }
 
 fn by_numbers(bytes: &[u8]) -> u32 {
+    let (numbers, rest) = bytes.as_chunks::<8>();
     let mut register = 0xffff_ffff;
-    let mut at: usize = 0;
-    while 8 <= bytes.len() - at {
-        register = crc32c::u64_in(register, fields::get_u64_le(bytes, at));
-        at += 8;
+    for number in numbers {
+        register = crc32c::u64_in(register, u64::from_le_bytes(*number));
     }
-    crc32c::finish(crc32c::update(register, &bytes[at..]))
+    crc32c::finish(crc32c::update(register, rest))
 }
 
 fn print(rt: &impl Print, sum: u32, expected: u32) {
@@ -49,39 +46,34 @@ fn print(rt: &impl Print, sum: u32, expected: u32) {
 }
 
 fn compare(rt: &impl Print, bytes: &[u8], expected: u32) {
-    print(rt, by_run(bytes), expected);
-    print(rt, by_bytes(bytes), expected);
-    print(rt, by_words(bytes), expected);
-    print(rt, by_numbers(bytes), expected);
-}
-
-// Bytes that differ from their neighbours, and from those 256 further on.
-fn fill(bytes: &mut [u8]) {
-    let mut i: usize = 0;
-    while i < bytes.len() {
-        bytes[i] = (i % 251) as u8;
-        i += 1;
+    for sum in [
+        by_run(bytes),
+        by_bytes(bytes),
+        by_words(bytes),
+        by_numbers(bytes),
+    ] {
+        print(rt, sum, expected);
     }
 }
 
 // Over how many of the first bytes, from none to all but the last, a run is what it is by bytes.
-fn agreeing(bytes: &[u8]) -> u64
+fn agreeing(bytes: &[u8]) -> usize
     ensures { result ≤ length bytes.now }
 {
     let mut register = 0xffff_ffff;
-    let mut count: u64 = 0;
-    let mut n: usize = 0;
-    while n < bytes.len() {
-        count += crate::tables::same(crc32c::update(0xffff_ffff, &bytes[..n]), register);
-        register = crc32c::byte_step(register, bytes[n]);
-        n += 1;
+    let mut count = 0;
+    for (n, byte) in bytes.iter().enumerate() {
+        if crc32c::update(0xffff_ffff, &bytes[..n]) == register {
+            count += 1;
+        }
+        register = crc32c::byte_step(register, *byte);
     }
     count
 }
 
+// Bytes that differ from their neighbours, and from those 256 further on.
 fn compare_long(rt: &impl Print) {
-    let mut node = [0u8; 4064];
-    fill(&mut node);
+    let node: [u8; 4064] = std::array::from_fn(|i| (i % 251) as u8);
     compare(rt, &node, 0x9b1bd1a2);
     let count = agreeing(&node);
     let _ = println!(rt; "{count} of 4064 runs are what they are by bytes");

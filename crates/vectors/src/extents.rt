@@ -7,15 +7,11 @@ fn end_line(rt: &impl Print) {
 
 fn print_hash(rt: &impl Print, tree: u64, objectid: u64, offset: u64) {
     let hash = extent_write::data_ref_hash(tree, objectid, offset);
-    let _ = print!(rt; "{hash:016x}");
-    end_line(rt);
+    let _ = println!(rt; "{hash:016x}");
 }
 
 fn print_key(rt: &impl Print, key: format::Key) {
-    let _ = print!(rt; "{:016x}", key.objectid);
-    print_byte(rt, key.kind);
-    let _ = print!(rt; "{:016x}", key.offset);
-    end_line(rt);
+    let _ = println!(rt; "{:016x}{:02x}{:016x}", key.objectid, key.kind, key.offset);
 }
 
 fn print_answer(rt: &impl Print, answer: format::Edited) {
@@ -28,13 +24,9 @@ fn print_answer(rt: &impl Print, answer: format::Edited) {
     end_line(rt);
 }
 
-fn print_byte(rt: &impl Print, byte: u8) {
-    let _ = print!(rt; "{byte:02x}");
-}
-
 fn print_bytes(rt: &impl Print, bytes: &[u8]) {
     for byte in bytes {
-        print_byte(rt, *byte);
+        let _ = print!(rt; "{byte:02x}");
     }
     end_line(rt);
 }
