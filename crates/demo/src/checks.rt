@@ -30,13 +30,11 @@ fn count_maps(rt: &impl Print, list: &[u8]) -> bool {
           From the first shift's to the last's they are used so many times:",
     );
     let mut right = true;
-    let mut shift: u32 = 1;
-    while shift <= shifts::SHIFTS {
+    for shift in 1..=shifts::SHIFTS {
         let used = card::used(list, shifts::map(shift));
         say::text(rt, b" ");
         say::number(rt, used);
         right = right & (used == expected(shift));
-        shift += 1;
     }
     say::text(rt, b".");
     right

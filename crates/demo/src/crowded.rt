@@ -12,8 +12,7 @@ struct Full {
 
 fn fill() -> Full {
     let mut card = card::empty();
-    let mut shift: u32 = 1;
-    while shift < 1000 {
+    for shift in 1..1000 {
         let edit = shifts::save(card, leaves::NODESIZE, shifts::map(shift), shift);
         if edit.refusal != 0 {
             return Full {
@@ -23,11 +22,10 @@ fn fill() -> Full {
             };
         }
         card = edit.card;
-        shift += 1;
     }
     Full {
         card,
-        shift,
+        shift: 1000,
         refusal: 0,
     }
 }

@@ -2,20 +2,6 @@
 use crate::card::Card;
 use crate::{card, leaves, say};
 
-fn same(one: &[u8], other: &[u8]) -> bool {
-    if one.len() != other.len() {
-        return false;
-    }
-    let mut i: usize = 0;
-    while i < one.len() {
-        if one[i] != other[i] {
-            return false;
-        }
-        i += 1;
-    }
-    true
-}
-
 // A leaf with one bit of its last byte changed.
 fn damaged(leaf: Card) -> Card {
     let mut bytes = leaf.bytes;
@@ -44,9 +30,6 @@ pub fn store(rt: &impl Print, card: Card) -> bool {
     say::answer(rt, torn.refusal);
     say::text(rt, b".");
     let back = read.card;
-    let kept = same(
-        card::list(&card.bytes, card.size),
-        card::list(&back.bytes, back.size),
-    );
+    let kept = card::list(&card.bytes, card.size) == card::list(&back.bytes, back.size);
     kept & (written.refusal == 0) & (read.refusal == 0) & (torn.refusal == 23)
 }

@@ -19,16 +19,9 @@ pub fn times(rt: &impl Print, n: u64) {
 
 // Every line of a text, four spaces in.
 pub fn indented(rt: &impl Print, lines: &[u8]) {
-    let mut first = true;
-    let mut i: usize = 0;
-    while i < lines.len() {
-        if first {
-            text(rt, b"    ");
-        }
-        first = lines[i] == b'\n';
-        let next = i + 1;
-        text(rt, &lines[i..next]);
-        i = next;
+    for line in lines.split_inclusive(|byte| *byte == b'\n') {
+        text(rt, b"    ");
+        text(rt, line);
     }
 }
 

@@ -81,10 +81,8 @@ pub fn ten() -> Card {
     let survey = save(card::empty(), NODESIZE, SURVEY, 1);
     let first = save(survey.card, NODESIZE, map(1), 1);
     let mut all = first.card;
-    let mut shift: u32 = 1;
-    while shift < SHIFTS {
+    for shift in 1..SHIFTS {
         all = begun(all, shift + 1, shift);
-        shift += 1;
     }
     all
 }
