@@ -1,55 +1,24 @@
-// Copies lent bytes of any length. Short runs go as two blocks that may overlap, long ones block by block with a last block that
-// ends where they end: there is no loop over single bytes, and what is written twice is the same both times.
+// Copies lent bytes of any length.
 ghost use Rattle.std.specs.Prelude.{◌≡◌, ◌+◌, ◌≤◌, length};
 ghost use Rattle.fields.specs.Parts.{part, written};
 
-fn copy_2(src: &[u8], from: usize, dst: &mut [u8], at: usize)
-    requires { (from + 2 ≤ length src.now) × (at + 2 ≤ length dst.old) }
-    ensures { dst.new ≡ written at (part from 2 src.now) dst.old }
+// The block is read whole before it is written: the compiler makes moves of 16 bytes of it.
+fn copy_block<const N: usize>(src: &[u8], from: usize, dst: &mut [u8], at: usize)
+    requires { (from + N ≤ length src.now) × (at + N ≤ length dst.old) }
+    ensures { dst.new ≡ written at (part from N src.now) dst.old }
 {
-    dst[at] = src[from];
-    dst[at + 1] = src[from + 1];
+    let block: [u8; N] = src[from..from + N].try_into().unwrap();
+    dst[at..at + N].copy_from_slice(&block);
 }
 
-fn copy_4(src: &[u8], from: usize, dst: &mut [u8], at: usize)
-    requires { (from + 4 ≤ length src.now) × (at + 4 ≤ length dst.old) }
-    ensures { dst.new ≡ written at (part from 4 src.now) dst.old }
+// The first `N` bytes and the last, which may overlap: what is written twice is the same both times.
+fn append_ends<const N: usize>(src: &[u8], dst: &mut [u8], at: usize)
+    requires { (N ≤ length src.now) × (length src.now ≤ N + N) × (at + length src.now ≤ length dst.old) }
+    ensures { dst.new ≡ written at src.now dst.old }
 {
-    crate::put_u32_le(dst, at, crate::get_u32_le(src, from));
-}
-
-fn copy_8(src: &[u8], from: usize, dst: &mut [u8], at: usize)
-    requires { (from + 8 ≤ length src.now) × (at + 8 ≤ length dst.old) }
-    ensures { dst.new ≡ written at (part from 8 src.now) dst.old }
-{
-    crate::put_u64_le(dst, at, crate::get_u64_le(src, from));
-}
-
-// Both halves are read before the first is written: the compiler makes one move of 16 bytes of them.
-fn copy_16(src: &[u8], from: usize, dst: &mut [u8], at: usize)
-    requires { (from + 16 ≤ length src.now) × (at + 16 ≤ length dst.old) }
-    ensures { dst.new ≡ written at (part from 16 src.now) dst.old }
-{
-    let low = crate::get_u64_le(src, from);
-    let high = crate::get_u64_le(src, from + 8);
-    crate::put_u64_le(dst, at, low);
-    crate::put_u64_le(dst, at + 8, high);
-}
-
-fn copy_32(src: &[u8], from: usize, dst: &mut [u8], at: usize)
-    requires { (from + 32 ≤ length src.now) × (at + 32 ≤ length dst.old) }
-    ensures { dst.new ≡ written at (part from 32 src.now) dst.old }
-{
-    copy_16(src, from, dst, at);
-    copy_16(src, from + 16, dst, at + 16);
-}
-
-fn copy_64(src: &[u8], from: usize, dst: &mut [u8], at: usize)
-    requires { (from + 64 ≤ length src.now) × (at + 64 ≤ length dst.old) }
-    ensures { dst.new ≡ written at (part from 64 src.now) dst.old }
-{
-    copy_32(src, from, dst, at);
-    copy_32(src, from + 32, dst, at + 32);
+    let last = src.len() - N;
+    copy_block::<N>(src, 0, dst, at);
+    copy_block::<N>(src, last, dst, at + last);
 }
 
 // Fewer than 16 bytes.
@@ -59,42 +28,18 @@ fn append_few(src: &[u8], dst: &mut [u8], at: usize)
 {
     let n = src.len();
     if 8 <= n {
-        copy_8(src, 0, dst, at);
-        copy_8(src, n - 8, dst, at + (n - 8));
-        return;
-    }
-    if 4 <= n {
-        copy_4(src, 0, dst, at);
-        copy_4(src, n - 4, dst, at + (n - 4));
-        return;
-    }
-    if 2 <= n {
-        copy_2(src, 0, dst, at);
-        copy_2(src, n - 2, dst, at + (n - 2));
-        return;
-    }
-    if n == 1 {
+        append_ends::<8>(src, dst, at);
+    } else if 4 <= n {
+        append_ends::<4>(src, dst, at);
+    } else if 2 <= n {
+        append_ends::<2>(src, dst, at);
+    } else if n == 1 {
         dst[at] = src[0];
     }
 }
 
-// 64 bytes or more. All blocks but the first and the last begin at a multiple of 16 in the output, whose memory mostly begins at
-// such a multiple: an aligned store of 16 bytes never touches two cache lines.
-fn append_many(src: &[u8], dst: &mut [u8], at: usize)
-    requires { (64 ≤ length src.now) × (at + length src.now ≤ length dst.old) }
-    ensures { dst.new ≡ written at src.now dst.old }
-{
-    let n = src.len();
-    copy_64(src, 0, dst, at);
-    let mut i = 64 - at % 16;
-    while i + 64 < n {
-        copy_64(src, i, dst, at + i);
-        i += 64;
-    }
-    copy_64(src, n - 64, dst, at + (n - 64));
-}
-
-// The bytes of `src` go to `dst` at `at`. Returns the position past them.
+// The bytes of `src` go to `dst` at `at`. Returns the position past them. A short run is two blocks, since a call of the system's
+// copy takes longer than they do.
 pub fn append(src: &[u8], dst: &mut [u8], at: usize) -> usize
     requires { (length src.now ≤ 262144) × (at + length src.now ≤ length dst.old) }
     ensures { (result ≡ at + length src.now) × (dst.new ≡ written at src.now dst.old) }
@@ -102,18 +47,16 @@ pub fn append(src: &[u8], dst: &mut [u8], at: usize) -> usize
     let n = src.len();
     if n < 16 {
         append_few(src, dst, at);
-        return at + n;
+    } else if n <= 32 {
+        append_ends::<16>(src, dst, at);
+    } else if n <= 64 {
+        append_ends::<32>(src, dst, at);
+    } else if n <= 128 {
+        append_ends::<64>(src, dst, at);
+    } else if n <= 256 {
+        append_ends::<128>(src, dst, at);
+    } else {
+        dst[at..at + n].copy_from_slice(src);
     }
-    if n <= 32 {
-        copy_16(src, 0, dst, at);
-        copy_16(src, n - 16, dst, at + (n - 16));
-        return at + n;
-    }
-    if n <= 64 {
-        copy_32(src, 0, dst, at);
-        copy_32(src, n - 32, dst, at + (n - 32));
-        return at + n;
-    }
-    append_many(src, dst, at);
     at + n
 }

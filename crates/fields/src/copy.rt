@@ -1,4 +1,4 @@
-// A copy byte by byte, for the few bytes of an array whose length the compiler knows; lent bytes of any length go by `append`.
+// A copy of a part of lent bytes.
 ghost use Rattle.std.specs.Prelude.{◌≡◌, ◌+◌, ◌≤◌, length};
 ghost use Rattle.fields.specs.Parts.{part, written};
 
@@ -7,9 +7,5 @@ pub fn copy_at(src: &[u8], from: usize, n: usize, dst: &mut [u8], at: usize)
     requires { (from + n ≤ length src.now) × (at + n ≤ length dst.old) }
     ensures { dst.new ≡ written at (part from n src.now) dst.old }
 {
-    let mut i = 0;
-    while i < n {
-        dst[at + i] = src[from + i];
-        i += 1;
-    }
+    dst[at..at + n].copy_from_slice(&src[from..from + n]);
 }

@@ -1,7 +1,0 @@
-use Rattle.fields.proofs.Numbers.{copied-number}
-use Rattle.fields.proofs.appending.copy_4.Goals as goal
-
-pub returns : goal.returns
-returns c =
-    let a = c.args in
-    copied-number 4 a.at a.from _ a.src.now a.dst.now _ c.requires.0 (λ i. (c.shared_slice_known-1.given i).fits) c.get_u32_le.ensures c.put_u32_le.ensures
