@@ -4,7 +4,8 @@ use mathlib.Core.Path.{◌≡◌, refl, sym, ap, ap₂, ◌∙◌, subst}
 use mathlib.Core.Bool.{true}
 use mathlib.Core.List.{List, [], ◌∷◌, ◌++◌, append_assoc, reverse, reverse-cons, reverse-append, reverse-reverse}
 use Prim.Native.Nat.{ℕ, zero, suc, ◌+◌, ◌*◌, ◌/◌, ◌%◌, ◌^◌, ◌≤◌, ◌<◌}
-use native.Mathlib.Nat.{zero-add, suc-add, pow-zero, pow-succ', mul_assoc}
+use native.Mathlib.Nat.{zero-add, suc-add, pow-zero, pow-suc, pow-succ', mul_assoc, div-one, div-div-eq-div-mul}
+use Rattle.std.specs.Int.{Width, byte_at, byte_len, bytes_low_first, bytes_high_first, to_le_bytes, to_be_bytes}
 use native.Mathlib.Omega.{arith}
 use lib.Dec.{T, ltb, ltb→lt, lt→ltb}
 use lib.ListN.{length, take, drop, get_or, length-append, length-drop, length-reverse, take-append-drop}
@@ -14,7 +15,6 @@ use Rattle.fields.specs.Lists.{all}
 use Rattle.fields.specs.Numbers.{le, le_bytes, be, be_bytes, words, word_bytes, are_bytes}
 use Rattle.fields.specs.Parts.{part, written}
 use Rattle.fields.proofs.Lists.{all_left, all_right, all_both}
-use Rattle.fields.proofs.Parts.{length_part, part-add}
 
 -- ---- bytes
 
@@ -22,6 +22,12 @@ use Rattle.fields.proofs.Parts.{length_part, part-add}
 pub are_bytes-in : (l : List ℕ) → ((i : ℕ) → get_or l i 0 < 256) → T (are_bytes l)
 are_bytes-in [] f = tt
 are_bytes-in (b ∷ l) f = yes_and (ltb b 256) _ (lt→ltb b 256 (f 0)) (are_bytes-in l (λ i. f (suc i)))
+
+-- and back
+are_bytes-out : (l : List ℕ) → T (are_bytes l) → (i : ℕ) → get_or l i 0 < 256
+are_bytes-out [] t i = omega arith
+are_bytes-out (b ∷ l) t zero = ltb→lt b 256 (and_yes (ltb b 256) _ t).0
+are_bytes-out (b ∷ l) t (suc i) = are_bytes-out l (and_yes (ltb b 256) _ t).1 i
 
 pub are_bytes-take : (n : ℕ) (l : List ℕ) → T (are_bytes l) → T (are_bytes (take n l))
 are_bytes-take n l t = all_left (λ b. ltb b 256) (take n l) (drop n l) (rw (take-append-drop n l) t)
@@ -40,6 +46,9 @@ are_bytes-reverse (b ∷ l) t =
 
 pub are_bytes-part : (at n : ℕ) (l : List ℕ) → T (are_bytes l) → T (are_bytes (part at n l))
 are_bytes-part at n l t = are_bytes-take n (drop at l) (are_bytes-drop at l t)
+
+pub bytes-of_part : (at n : ℕ) (l : List ℕ) → ((i : ℕ) → get_or l i 0 < 256) → (i : ℕ) → get_or (part at n l) i 0 < 256
+bytes-of_part at n l f = are_bytes-out (part at n l) (are_bytes-part at n l (are_bytes-in l f))
 
 pub are_bytes-written : (at : ℕ) (new old : List ℕ) → T (are_bytes new) → T (are_bytes old) → T (are_bytes (written at new old))
 are_bytes-written at new old s t =
@@ -89,14 +98,6 @@ be-bound l t =
 
 -- ---- one run of bytes after another
 
-pub le-append : (a b : List ℕ) → le (a ++ b) ≡ le a + 256 ^ length a * le b
-unfolding le
-le-append [] b = omega arith
-le-append (x ∷ a) b =
-    let p : 256 ^ suc (length a) * le b ≡ 256 * (256 ^ length a * le b) =
-    ap (λ (k : ℕ). k * le b) (pow-succ' 256 (length a)) ∙ mul_assoc 256 (256 ^ length a) (le b) in
-    omega (arith, le-append a b)
-
 -- the bytes of a number in two parts
 pub le_bytes-join : (m n a b : ℕ) → a < 256 ^ m → le_bytes (m + n) (a + 256 ^ m * b) ≡ le_bytes m a ++ le_bytes n b
 unfolding le_bytes
@@ -140,16 +141,6 @@ le_bytes-le (b ∷ bytes) t =
 pub le_bytes-le-at : (width : ℕ) (bytes : List ℕ) → length bytes ≡ width → T (are_bytes bytes) → le_bytes width (le bytes) ≡ bytes
 le_bytes-le-at width bytes e t = ap (λ (n : ℕ). le_bytes n (le bytes)) (sym e) ∙ le_bytes-le bytes t
 
--- a number read from bytes and written elsewhere is a copy of them
-pub copied-number : (width at from number : ℕ) (src old new : List ℕ) → from + width ≤ length src → ((i : ℕ) → get_or src i 0 < 256)
-    → number ≡ le (part from width src)
-    → new ≡ written at (le_bytes width number) old
-    → new ≡ written at (part from width src) old
-copied-number width at from number src old new h f read wrote =
-    wrote ∙ ap (λ (n : ℕ). written at (le_bytes width n) old) read
-    ∙ ap (λ (l : List ℕ). written at l old)
-    (le_bytes-le-at width (part from width src) (length_part width from src h) (are_bytes-part from width src (are_bytes-in src f)))
-
 pub be_bytes-be-at : (width : ℕ) (bytes : List ℕ) → length bytes ≡ width → T (are_bytes bytes) → be_bytes width (be bytes) ≡ bytes
 unfolding be be_bytes
 be_bytes-be-at width bytes e t =
@@ -164,54 +155,51 @@ pub be_bytes-one : (n : ℕ) → n < 256 → be_bytes 1 n ≡ n ∷ []
 unfolding be_bytes
 be_bytes-one n h = ap reverse (le_bytes-one n h)
 
--- ---- a byte-swapped number
+-- ---- the standard library's words for the same
 
--- read lowest byte first and byte-swapped, it is the number read highest byte first
-pub read_swapped : (width at low number : ℕ) (src : List ℕ) → at + width ≤ length src → ((i : ℕ) → get_or src i 0 < 256)
-    → low ≡ le (part at width src)
-    → number ≡ le (be_bytes width low)
-    → number ≡ be (part at width src)
-unfolding be be_bytes
-read_swapped width at low number src h f read swapped =
-    swapped ∙ ap (λ (n : ℕ). le (reverse (le_bytes width n))) read
-    ∙ ap (λ (l : List ℕ). le (reverse l))
-    (le_bytes-le-at width (part at width src) (length_part width at src h) (are_bytes-part at width src (are_bytes-in src f)))
+byte_at-pow : (i number : ℕ) → byte_at i number ≡ number / 256 ^ i % 256
+byte_at-pow zero number = ap (λ (n : ℕ). n % 256) (sym (div-one number))
+byte_at-pow (suc i) number = refl
 
--- byte-swapped and written lowest byte first, it stands highest byte first
-pub written-swapped : (width at number low : ℕ) (old new : List ℕ) → low ≡ le (be_bytes width number)
-    → new ≡ written at (le_bytes width low) old
-    → new ≡ written at (be_bytes width number) old
-written-swapped width at number low old new swapped wrote =
-    wrote ∙ ap (λ (n : ℕ). written at (le_bytes width n) old) swapped
-    ∙ ap (λ (l : List ℕ). written at l old)
-    (le_bytes-le-at width (be_bytes width number) (length-be_bytes width number) (are_bytes-be_bytes width number))
+low_first : (width i number : ℕ) → bytes_low_first i width number ≡ le_bytes width (number / 256 ^ i)
+unfolding le_bytes
+low_first zero i number = refl
+low_first (suc width) i number =
+    let shift : number / 256 ^ suc i ≡ number / 256 ^ i / 256 =
+    ap (λ (p : ℕ). number / p) (pow-suc 256 i) ∙ sym (div-div-eq-div-mul number (256 ^ i) 256) in
+    ap₂ (λ (x : ℕ) (l : List ℕ). x ∷ l) (byte_at-pow i number) (low_first width (suc i) number ∙ ap (le_bytes width) shift)
 
--- ---- a number of twice a width, by its halves
+pub to_le : (w : Width) (number : ℕ) → to_le_bytes w number ≡ le_bytes (byte_len w) number
+to_le w number = low_first (byte_len w) 0 number ∙ ap (le_bytes (byte_len w)) (div-one number)
 
-pub le-halves : (m at : ℕ) (list : List ℕ) → at + m + m ≤ length list
-    → le (part at (m + m) list) ≡ le (part at m list) + 256 ^ m * le (part (at + m) m list)
-le-halves m at list h =
-    let h' : at + m ≤ length list = omega arith in
-    ap le (part-add m m at list) ∙ le-append (part at m list) (part (at + m) m list)
-    ∙ ap (λ (k : ℕ). le (part at m list) + 256 ^ k * le (part (at + m) m list)) (length_part m at list h')
+-- one byte more, the highest
+le_bytes-last : (width number : ℕ) → le_bytes (suc width) number ≡ le_bytes width number ++ byte_at width number ∷ []
+unfolding le_bytes
+le_bytes-last zero number = refl
+le_bytes-last (suc width) number =
+    let shift : number / 256 / 256 ^ width ≡ number / 256 ^ suc width =
+    div-div-eq-div-mul number 256 (256 ^ width) ∙ ap (λ (p : ℕ). number / p) (sym (pow-succ' 256 width)) in
+    let byte : byte_at width (number / 256) ≡ byte_at (suc width) number =
+    byte_at-pow width (number / 256) ∙ ap (λ (n : ℕ). n % 256) shift in
+    ap (λ (l : List ℕ). number % 256 ∷ l)
+    (le_bytes-last width (number / 256) ∙ ap (λ (x : ℕ). le_bytes width (number / 256) ++ x ∷ []) byte)
 
-pub le_bytes-halves : (number : ℕ) → le_bytes 8 number ≡ le_bytes 4 (number % 4294967296) ++ le_bytes 4 (number / 4294967296)
-le_bytes-halves number =
-    let e : number ≡ number % 4294967296 + 4294967296 * (number / 4294967296) = omega arith in
-    ap (le_bytes 8) e ∙ le_bytes-join 4 4 (number % 4294967296) (number / 4294967296) (omega arith)
+high_first : (width number : ℕ) → bytes_high_first width number ≡ be_bytes width number
+unfolding be_bytes le_bytes
+high_first zero number = refl
+high_first (suc width) number =
+    ap (λ (l : List ℕ). byte_at width number ∷ l) (high_first width number)
+    ∙ sym (ap reverse (le_bytes-last width number) ∙ reverse-append (le_bytes width number) (byte_at width number ∷ []))
 
-pub be_bytes-halves : (number : ℕ) → be_bytes 8 number ≡ be_bytes 4 (number / 4294967296) ++ be_bytes 4 (number % 4294967296)
-unfolding be_bytes
-be_bytes-halves number =
-    ap reverse (le_bytes-halves number) ∙ reverse-append (le_bytes 4 (number % 4294967296)) (le_bytes 4 (number / 4294967296))
+pub to_be : (w : Width) (number : ℕ) → to_be_bytes w number ≡ be_bytes (byte_len w) number
+to_be w number = high_first (byte_len w) number
 
-pub swapped-halves : (number : ℕ)
-    → le (be_bytes 8 number) ≡ le (be_bytes 4 (number / 4294967296)) + 4294967296 * le (be_bytes 4 (number % 4294967296))
-swapped-halves number =
-    let high : List ℕ = be_bytes 4 (number / 4294967296) in
-    let low : List ℕ = be_bytes 4 (number % 4294967296) in
-    ap le (be_bytes-halves number) ∙ le-append high low
-    ∙ ap (λ (k : ℕ). le high + 256 ^ k * le low) (length-be_bytes 4 (number / 4294967296))
+-- a number whose bytes are known is the number of those bytes
+pub of_le : (w : Width) (number : ℕ) (bytes : List ℕ) → number < 256 ^ byte_len w → to_le_bytes w number ≡ bytes → number ≡ le bytes
+of_le w number bytes h e = sym (le-le_bytes (byte_len w) number h) ∙ ap le (sym (to_le w number) ∙ e)
+
+pub of_be : (w : Width) (number : ℕ) (bytes : List ℕ) → number < 256 ^ byte_len w → to_be_bytes w number ≡ bytes → number ≡ be bytes
+of_be w number bytes h e = sym (be-be_bytes (byte_len w) number h) ∙ ap be (sym (to_be w number) ∙ e)
 
 -- ---- words
 

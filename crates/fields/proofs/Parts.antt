@@ -3,9 +3,9 @@ use mathlib.Core.Path.{◌≡◌, refl, sym, ap, ap₂, ◌∙◌, subst}
 use mathlib.Core.List.{List, [], ◌∷◌, ◌++◌, append_assoc, append-nil}
 use Prim.Native.Nat.{ℕ, zero, suc, ◌+◌, ◌-◌, ◌≤◌, ◌<◌}
 use native.Mathlib.Nat.{add-zero, zero-add, add-suc, suc-add}
-use native.Mathlib.Numerals.{add-one, towards_suc}
+use native.Mathlib.Numerals.{add-one}
 use native.Mathlib.Omega.{arith}
-use lib.ListN.{length, take, drop, get_or, set, replicate, length-append, length-drop, length-replicate, take-append-drop}
+use lib.ListN.{length, take, drop, get_or, set, length-append, length-drop, take-append-drop}
 use lib.Seq.{sets, sets-eq, length-sets, set_comm, drop-cons, take-add, take-take, take_all, take_at, drop_at, drop-drop, length-take-le}
 use Rattle.fields.specs.Parts.{part, written, spliced}
 
@@ -82,13 +82,6 @@ stores new old at h = sets-eq new old at h
 pub stores_one : (old : List ℕ) (at a : ℕ) → at + 1 ≤ length old → set old at a ≡ written at (a ∷ []) old
 stores_one old at a h = stores (a ∷ []) old at h
 
-pub stores-two : (old : List ℕ) (at a b : ℕ) → at + 2 ≤ length old → set (set old at a) (at + 1) b ≡ written at (a ∷ b ∷ []) old
-stores-two old at a b h = simp towards_suc (simp towards_suc at (stores (a ∷ b ∷ []) old at h))
-
-pub stores-four : (old : List ℕ) (at a b c d : ℕ) → at + 4 ≤ length old
-    → set (set (set (set old at a) (at + 1) b) (at + 2) c) (at + 3) d ≡ written at (a ∷ b ∷ c ∷ d ∷ []) old
-stores-four old at a b c d h = simp towards_suc (simp towards_suc at (stores (a ∷ b ∷ c ∷ d ∷ []) old at h))
-
 pub length-written : (at : ℕ) (new old : List ℕ) → at + length new ≤ length old → length (written at new old) ≡ length old
 length-written at new old h = ap length (sym (stores new old at h)) ∙ length-sets old at new
 
@@ -143,23 +136,7 @@ written-before at n a b old e h =
     let hb : at + n + length b ≤ length old = omega arith in
     written_apart at (at + n) a b old apart hb ∙ written_twice at a b old n e h
 
-replicate_more : (n a : ℕ) → replicate n a ++ a ∷ [] ≡ replicate (suc n) a
-replicate_more zero a = refl
-replicate_more (suc n) a = ap (λ (l : List ℕ). a ∷ l) (replicate_more n a)
-
--- one more byte set to 0 behind those that are
-pub cleared_more : (at i : ℕ) (old : List ℕ) → at + suc i ≤ length old
-    → set (written at (replicate i 0) old) (at + i) 0 ≡ written at (replicate (suc i) 0) old
-cleared_more at i old h =
-    let zeros : List ℕ = replicate i 0 in
-    let long : length zeros ≡ i = length-replicate i 0 in
-    let inside : at + length zeros ≤ length old = omega (arith, long) in
-    let room : at + i + 1 ≤ length (written at zeros old) = omega (arith, length-written at zeros old inside) in
-    stores_one (written at zeros old) (at + i) 0 room
-    ∙ written_twice at zeros (0 ∷ []) old i long (omega arith)
-    ∙ ap (λ (l : List ℕ). written at l old) (replicate_more i 0)
-
--- the same, as two calls in a row leave it
+-- two writes side by side, as two calls in a row leave them
 pub written-pair : (at m n : ℕ) (a b old one two : List ℕ) → length a ≡ m → length b ≡ n → at + (m + n) ≤ length old
     → one ≡ written at a old
     → two ≡ written (at + m) b one

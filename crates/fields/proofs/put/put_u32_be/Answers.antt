@@ -1,7 +1,8 @@
-use Rattle.fields.proofs.Numbers.{written-swapped}
+use Rattle.std.proofs.Common.{arith}
+use Rattle.std.specs.Int.{w32}
+use Rattle.std.proofs.lemmas.Grind.{common_steps}
+use Rattle.fields.proofs.Numbers.{to_be, length-be_bytes}
 use Rattle.fields.proofs.put.put_u32_be.Goals as goal
 
 pub returns : goal.returns
-returns c =
-    let a = c.args in
-    written-swapped 4 a.at a.v _ a.out.now _ c.swapped_u32.ensures c.put_u32_le.ensures
+returns c = grind (arith, common_steps, to_be w32 c.args.v, length-be_bytes 4 c.args.v)
