@@ -11,10 +11,9 @@ pub fn put_byte(out: &mut [u8], at: usize, byte: u8) -> usize
     requires { at ≤ 4000000 }
     ensures { Put (byte ∷ []) at out.old result out.new }
 {
-    if out.len() <= at {
-        return at + 1;
+    if at < out.len() {
+        out[at] = byte;
     }
-    out[at] = byte;
     at + 1
 }
 
@@ -23,10 +22,8 @@ pub fn put_bytes(out: &mut [u8], at: usize, bytes: &[u8]) -> usize
     ensures { Put bytes.now at out.old result out.new }
 {
     let mut next = at;
-    let mut i: usize = 0;
-    while i < bytes.len() {
-        next = put_byte(out, next, bytes[i]);
-        i += 1;
+    for byte in bytes {
+        next = put_byte(out, next, *byte);
     }
     next
 }
@@ -36,7 +33,7 @@ pub fn put_digits(out: &mut [u8], at: usize, number: u64) -> usize
     requires { at ≤ 3000000 }
     ensures { Put (digits 20 number) at out.old result out.new × (result ≤ at + 20) }
 {
-    let last = (48 + number % 10) as u8;
+    let last = b'0' + (number % 10) as u8;
     if number < 10 {
         return put_byte(out, at, last);
     }
@@ -49,7 +46,7 @@ pub fn put_field(out: &mut [u8], at: usize, number: u64) -> usize
     requires { at ≤ 2000000 }
     ensures { Put (spaced (number ∷ [])) at out.old result out.new × (result ≤ at + 21) }
 {
-    let next = put_byte(out, at, 32);
+    let next = put_byte(out, at, b' ');
     put_digits(out, next, number)
 }
 
@@ -59,9 +56,10 @@ fn hex_digit(number: u32) -> u8
     ensures { result ≡ hex_digit number }
 {
     if number < 10 {
-        return (48 + number) as u8;
+        b'0' + number as u8
+    } else {
+        b'a' + (number - 10) as u8
     }
-    (87 + number) as u8
 }
 
 // The lowest digits of a number in hexadecimal, so many of them, the highest first.
