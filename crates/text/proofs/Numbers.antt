@@ -9,6 +9,7 @@ use lib.ListN.{length, length-append}
 use native.Mathlib.Nat.{pow-succ'}
 use borrow.Author.Tests.{lt-ltb, le-ltb}
 use Rattle.fields.proofs.Lists.{by-test}
+use Rattle.std.specs.Char.{digit_char}
 use Rattle.text.specs.Numbers.{digits, line, spaced, hex_digit, hex_digits}
 
 -- ---- digits
@@ -68,13 +69,9 @@ line-is n (m ∷ a) =
 
 -- ---- hexadecimal
 
-pub hex-low : (n : ℕ) → n < 10 → 48 + n ≡ hex_digit n
+pub hex-char : (n : ℕ) → digit_char n ≡ hex_digit n
 unfolding hex_digit
-hex-low n h = simp (lt-ltb _ _ h)
-
-pub hex-high : (n : ℕ) → 10 ≤ n → 87 + n ≡ hex_digit n
-unfolding hex_digit
-hex-high n h = simp (le-ltb _ _ h)
+hex-char n = refl
 
 pub hex-none : (width n : ℕ) → width ≡ 0 → [] ≡ hex_digits width n
 unfolding hex_digits

@@ -28,7 +28,7 @@ pub fn put_bytes(out: &mut [u8], at: usize, bytes: &[u8]) -> usize
     next
 }
 
-// The highest digits first.
+// The highest digits first. By hand, since `write!` would want a writer of its own that counts past the end of the output.
 pub fn put_digits(out: &mut [u8], at: usize, number: u64) -> usize
     requires { at ≤ 3000000 }
     ensures { Put (digits 20 number) at out.old result out.new × (result ≤ at + 20) }
@@ -55,11 +55,7 @@ fn hex_digit(number: u32) -> u8
     requires { number < 16 }
     ensures { result ≡ hex_digit number }
 {
-    if number < 10 {
-        b'0' + number as u8
-    } else {
-        b'a' + (number - 10) as u8
-    }
+    char::from_digit(number, 16).unwrap() as u8
 }
 
 // The lowest digits of a number in hexadecimal, so many of them, the highest first.

@@ -1,9 +1,9 @@
-use Rattle.std.proofs.Common.{arith}
-use Rattle.text.proofs.Numbers.{hex-low, hex-high}
+use Rattle.std.proofs.Common.{◌≡◌, ◌∙◌, rules}
+use Rattle.std.specs.Char.{digit_char}
+use Rattle.text.proofs.Numbers.{hex-char}
 use Rattle.text.proofs.hex_digit.Goals as goal
 
-pub returns-then-number-lt10 : goal.returns-then-number-lt10
-returns-then-number-lt10 c = hex-low _ c.if-number-lt10.true
-
-pub returns-else-number-lt10 : goal.returns-else-number-lt10
-returns-else-number-lt10 c = omega (arith, hex-high c.args.number c.if-number-lt10.false)
+pub returns : goal.returns
+returns c =
+    let digit : c.unwrap.result ≡ digit_char c.args.number = search rules in
+    digit ∙ hex-char c.args.number
