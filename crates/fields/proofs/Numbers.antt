@@ -15,6 +15,7 @@ use Rattle.fields.specs.Lists.{all}
 use Rattle.fields.specs.Numbers.{le, le_bytes, be, be_bytes, words, word_bytes, are_bytes}
 use Rattle.fields.specs.Parts.{part, written}
 use Rattle.fields.proofs.Lists.{all_left, all_right, all_both}
+use Rattle.fields.proofs.Parts.{length_part, part-add}
 
 -- ---- bytes
 
@@ -22,12 +23,6 @@ use Rattle.fields.proofs.Lists.{all_left, all_right, all_both}
 pub are_bytes-in : (l : List ℕ) → ((i : ℕ) → get_or l i 0 < 256) → T (are_bytes l)
 are_bytes-in [] f = tt
 are_bytes-in (b ∷ l) f = yes_and (ltb b 256) _ (lt→ltb b 256 (f 0)) (are_bytes-in l (λ i. f (suc i)))
-
--- and back
-are_bytes-out : (l : List ℕ) → T (are_bytes l) → (i : ℕ) → get_or l i 0 < 256
-are_bytes-out [] t i = omega arith
-are_bytes-out (b ∷ l) t zero = ltb→lt b 256 (and_yes (ltb b 256) _ t).0
-are_bytes-out (b ∷ l) t (suc i) = are_bytes-out l (and_yes (ltb b 256) _ t).1 i
 
 pub are_bytes-take : (n : ℕ) (l : List ℕ) → T (are_bytes l) → T (are_bytes (take n l))
 are_bytes-take n l t = all_left (λ b. ltb b 256) (take n l) (drop n l) (rw (take-append-drop n l) t)
@@ -46,9 +41,6 @@ are_bytes-reverse (b ∷ l) t =
 
 pub are_bytes-part : (at n : ℕ) (l : List ℕ) → T (are_bytes l) → T (are_bytes (part at n l))
 are_bytes-part at n l t = are_bytes-take n (drop at l) (are_bytes-drop at l t)
-
-pub bytes-of_part : (at n : ℕ) (l : List ℕ) → ((i : ℕ) → get_or l i 0 < 256) → (i : ℕ) → get_or (part at n l) i 0 < 256
-bytes-of_part at n l f = are_bytes-out (part at n l) (are_bytes-part at n l (are_bytes-in l f))
 
 pub are_bytes-written : (at : ℕ) (new old : List ℕ) → T (are_bytes new) → T (are_bytes old) → T (are_bytes (written at new old))
 are_bytes-written at new old s t =
@@ -97,6 +89,14 @@ be-bound l t =
     subst (λ (n : ℕ). le (reverse l) < 256 ^ n) (length-reverse l) (le-bound (reverse l) (are_bytes-reverse l t))
 
 -- ---- one run of bytes after another
+
+pub le-append : (a b : List ℕ) → le (a ++ b) ≡ le a + 256 ^ length a * le b
+unfolding le
+le-append [] b = omega arith
+le-append (x ∷ a) b =
+    let p : 256 ^ suc (length a) * le b ≡ 256 * (256 ^ length a * le b) =
+    ap (λ (k : ℕ). k * le b) (pow-succ' 256 (length a)) ∙ mul_assoc 256 (256 ^ length a) (le b) in
+    omega (arith, le-append a b)
 
 -- the bytes of a number in two parts
 pub le_bytes-join : (m n a b : ℕ) → a < 256 ^ m → le_bytes (m + n) (a + 256 ^ m * b) ≡ le_bytes m a ++ le_bytes n b
@@ -194,12 +194,45 @@ high_first (suc width) number =
 pub to_be : (w : Width) (number : ℕ) → to_be_bytes w number ≡ be_bytes (byte_len w) number
 to_be w number = high_first (byte_len w) number
 
--- a number whose bytes are known is the number of those bytes
-pub of_le : (w : Width) (number : ℕ) (bytes : List ℕ) → number < 256 ^ byte_len w → to_le_bytes w number ≡ bytes → number ≡ le bytes
-of_le w number bytes h e = sym (le-le_bytes (byte_len w) number h) ∙ ap le (sym (to_le w number) ∙ e)
+-- ---- a byte-swapped number
 
-pub of_be : (w : Width) (number : ℕ) (bytes : List ℕ) → number < 256 ^ byte_len w → to_be_bytes w number ≡ bytes → number ≡ be bytes
-of_be w number bytes h e = sym (be-be_bytes (byte_len w) number h) ∙ ap be (sym (to_be w number) ∙ e)
+-- read lowest byte first and byte-swapped, it is the number read highest byte first
+pub read_swapped : (width at low number : ℕ) (src : List ℕ) → at + width ≤ length src → ((i : ℕ) → get_or src i 0 < 256)
+    → low ≡ le (part at width src)
+    → number ≡ le (be_bytes width low)
+    → number ≡ be (part at width src)
+unfolding be be_bytes
+read_swapped width at low number src h f read swapped =
+    swapped ∙ ap (λ (n : ℕ). le (reverse (le_bytes width n))) read
+    ∙ ap (λ (l : List ℕ). le (reverse l))
+    (le_bytes-le-at width (part at width src) (length_part width at src h) (are_bytes-part at width src (are_bytes-in src f)))
+
+-- ---- a number of twice a width, by its halves
+
+pub le-halves : (m at : ℕ) (list : List ℕ) → at + m + m ≤ length list
+    → le (part at (m + m) list) ≡ le (part at m list) + 256 ^ m * le (part (at + m) m list)
+le-halves m at list h =
+    let h' : at + m ≤ length list = omega arith in
+    ap le (part-add m m at list) ∙ le-append (part at m list) (part (at + m) m list)
+    ∙ ap (λ (k : ℕ). le (part at m list) + 256 ^ k * le (part (at + m) m list)) (length_part m at list h')
+
+pub le_bytes-halves : (number : ℕ) → le_bytes 8 number ≡ le_bytes 4 (number % 4294967296) ++ le_bytes 4 (number / 4294967296)
+le_bytes-halves number =
+    let e : number ≡ number % 4294967296 + 4294967296 * (number / 4294967296) = omega arith in
+    ap (le_bytes 8) e ∙ le_bytes-join 4 4 (number % 4294967296) (number / 4294967296) (omega arith)
+
+pub be_bytes-halves : (number : ℕ) → be_bytes 8 number ≡ be_bytes 4 (number / 4294967296) ++ be_bytes 4 (number % 4294967296)
+unfolding be_bytes
+be_bytes-halves number =
+    ap reverse (le_bytes-halves number) ∙ reverse-append (le_bytes 4 (number % 4294967296)) (le_bytes 4 (number / 4294967296))
+
+pub swapped-halves : (number : ℕ)
+    → le (be_bytes 8 number) ≡ le (be_bytes 4 (number / 4294967296)) + 4294967296 * le (be_bytes 4 (number % 4294967296))
+swapped-halves number =
+    let high : List ℕ = be_bytes 4 (number / 4294967296) in
+    let low : List ℕ = be_bytes 4 (number % 4294967296) in
+    ap le (be_bytes-halves number) ∙ le-append high low
+    ∙ ap (λ (k : ℕ). le high + 256 ^ k * le low) (length-be_bytes 4 (number / 4294967296))
 
 -- ---- words
 

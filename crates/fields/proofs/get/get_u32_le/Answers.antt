@@ -1,15 +1,8 @@
-use Rattle.std.proofs.Common.{◌≡◌, rules}
-use Rattle.std.specs.Int.{w32}
-use Rattle.std.proofs.lemmas.Nat.{le_bytes_4}
-use Rattle.fields.specs.Parts.{part}
-use Rattle.fields.proofs.Numbers.{of_le, bytes-of_part}
-use Rattle.fields.proofs.Parts.{length_part}
+use mathlib.Core.Path.{sym, ap, ◌∙◌}
+use Rattle.fields.specs.Numbers.{le}
+use Rattle.fields.proofs.Parts.{part-is}
 use Rattle.fields.proofs.get.get_u32_le.Goals as goal
 
 pub returns : goal.returns
 returns c =
-    let s = c.args.s.now in
-    let at = c.args.at in
-    let bytes : c.unwrap.result ≡ part at 4 s = search rules in
-    let back = le_bytes_4 (part at 4 s) _ (length_part 4 at s c.requires) (bytes-of_part at 4 s (λ i. (c.type_inv.s i).fits)) (rw bytes at c.from_le_bytes.ensures) in
-    of_le w32 _ _ c.from_le_bytes.type_inv back
+    c.join_bytes.ensures ∙ ap le (sym (part-is 4 c.args.at c.args.s.now c.requires))
