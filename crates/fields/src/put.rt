@@ -1,4 +1,5 @@
 // Writes a byte, and numbers of four and eight bytes, each of which the compiler makes one store.
+// A line for each width and order is no longer than a trait over them would be.
 ghost use Rattle.std.specs.Prelude.{◌≡◌, [], ◌∷◌, ◌+◌, ◌≤◌, length};
 ghost use Rattle.fields.specs.Numbers.{le_bytes, be_bytes};
 ghost use Rattle.fields.specs.Parts.{written};
