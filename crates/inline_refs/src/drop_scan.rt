@@ -58,12 +58,12 @@ fn sum_behind(kinds: &Kinds, body: &[u8], start: usize, wanted: RefName) -> Resu
     let own = crate::lengths::lengths_for(wanted);
     let mut cursor = Cursor { at: start };
     let mut sum: u64 = 0;
-    while let Some(reference) = step_among(kinds, body, cursor, sought, own)? {
-        if reference.kind == sought && crate::ref_name::is_named(wanted, body, reference.start) {
-            let weight = crate::scan::weight_at(body, sought, reference.start, own.count);
+    while let Some(other) = step_among(kinds, body, cursor, sought, own)? {
+        if other.kind == sought && crate::ref_name::is_named(wanted, body, other.start) {
+            let weight = crate::scan::weight_at(body, sought, other.start, own.count);
             sum += weight as u64;
         }
-        cursor = reference.next;
+        cursor = other.next;
     }
     Ok(sum)
 }
