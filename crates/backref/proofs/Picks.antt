@@ -86,6 +86,10 @@ module _ (s : List ℕ) (start index : ℕ) where
 
 -- ---- the call
 
+-- a refusal has no payload
+pub pick-denied : {p told : Result InlineRef Refusal} {x : Refusal} (size : ℕ) → p ≡ Err x → Err x ≡ told → (p ≡ told) × Inside p size
+pick-denied size e h = (e ∙ h, subst (λ (q : Result InlineRef Refusal). Inside q size) (sym e) tt)
+
 module _ (type : ℕ) (s : List ℕ) (index : ℕ) where
   calls : inline_ref type s index ≡ pick_in (start_of type s) index (refs_in type s)
   unfolding inline_ref pick_in

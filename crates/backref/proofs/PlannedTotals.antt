@@ -7,14 +7,15 @@ use native.Mathlib.Omega.{arith}
 use lib.Dec.{T, leb}
 use lib.ListN.{length, take, drop, replicate, take-append-drop, length-append}
 use lib.Seq.{length-take-le, take_at, take-take, take-append-le}
-use borrow.Author.Tests.{le-leb, lt-leb, lt-ltb, le-ltb}
-use Rattle.std.specs.Prelude.{Option, Some, None, Result, Ok, Err}
+use borrow.Author.Tests.{le-leb, lt-leb, lt-ltb, le-ltb, leb-true}
+use Rattle.std.specs.Prelude.{Option, Some, None, Result, Ok, Err, SomeIff}
+use Rattle.std.specs.Option.{ok_or}
 use Rattle.format.specs.declared.Refusal.{Refusal}
 use Rattle.fields.specs.Numbers.{le, le_bytes, are_bytes}
 use Rattle.fields.specs.Parts.{part, written, spliced}
 use Rattle.fields.proofs.Numbers.{are_bytes-take, le_bytes-le-at, length-le_bytes}
 use Rattle.fields.proofs.Parts.{length-written, written-front, spliced-written}
-use Rattle.format.specs.Questions.{Answer, refused, accepted, ask, denied}
+use Rattle.format.specs.Questions.{Answer, refused, accepted, ask, denied, told_of}
 use Rattle.format.specs.Bodies.{raised_by, lowered_by_one, lowered_by_part, reduced_by}
 use Rattle.backref.specs.Totals.{one_asked, part_asked}
 
@@ -33,21 +34,23 @@ module _ (t amount : ℕ) where
       let z : 2 ^ 64 ≤ t + amount = omega arith in
       simp (le-ltb _ _ z)
 
-  pub reduced-yes : amount ≤ t → reduced_by amount t ≡ accepted (t - amount)
-  unfolding reduced_by ask
-  reduced-yes h = simp (le-leb _ _ h)
+-- raised or reduced, by what the checked sum or difference is
+module _ (t amount : ℕ) (o : Option ℕ) where
+  pub raised-told : SomeIff o (t + amount < 18446744073709551616) (t + amount) → ok_or o (record { number = 12 }) ≡ told_of (raised_by amount t)
+  unfolding raised_by ask told_of
+  raised-told = go o
+    where
+      go : (o : Option ℕ) → SomeIff o (t + amount < 18446744073709551616) (t + amount) → ok_or o (record { number = 12 }) ≡ told_of (raised_by amount t)
+      go None h = let z : 2 ^ 64 ≤ t + amount = omega (arith, h) in simp (le-ltb _ _ z)
+      go (Some x) h = let z : t + amount < 2 ^ 64 = omega (arith, h.0) in ap Ok h.1 ∙ simp (lt-ltb _ _ z)
 
-  pub reduced-no : t < amount → reduced_by amount t ≡ refused 14
-  unfolding reduced_by ask
-  reduced-no h = simp (lt-leb _ _ h)
-
-pub lowered-yes : (t : ℕ) → 2 ≤ t → lowered_by_one t ≡ accepted (t - 1)
-unfolding lowered_by_one ask
-lowered-yes t h = simp (le-leb _ _ h)
-
-pub lowered-no : (t : ℕ) → t < 2 → lowered_by_one t ≡ refused 13
-unfolding lowered_by_one ask
-lowered-no t h = simp (lt-leb _ _ h)
+  pub reduced-told : SomeIff o (amount ≤ t) (t - amount) → ok_or o (record { number = 14 }) ≡ told_of (reduced_by amount t)
+  unfolding reduced_by ask told_of
+  reduced-told = go o
+    where
+      go : (o : Option ℕ) → SomeIff o (amount ≤ t) (t - amount) → ok_or o (record { number = 14 }) ≡ told_of (reduced_by amount t)
+      go None h = let z : t < amount = omega (arith, h) in simp (lt-leb _ _ z)
+      go (Some x) h = ap Ok h.1 ∙ simp (le-leb _ _ h.0)
 
 -- the questions of what goes off a total
 pub record Asked (r : Result (Unit {0}) Refusal) (answer : Answer ℕ) (result : ℕ) : Type 0 where
@@ -78,6 +81,20 @@ one-asks amount t e = subst (λ (k : ℕ). Asked (one_asked t) (lowered_by_one t
     go : (x : Bool) → Asked (cond x (Ok tt) (denied 13)) (ask x 13 (accepted (t - 1))) (t - 1)
     go true = asked-yes (t - 1)
     go false = asked-no 13 (t - 1)
+
+-- one goes off, by what the question came to
+module _ (t : ℕ) where
+  pub lowered-no : {x : Refusal} → Err x ≡ one_asked t → Err x ≡ told_of (lowered_by_one t)
+  unfolding told_of
+  lowered-no e = sym (ap told_of ((one-asks 1 t refl).refuses (sym e)))
+
+  pub lowered-yes : {u : Unit {0}} → Ok u ≡ one_asked t → (2 ≤ t) × (Ok (t - 1) ≡ told_of (lowered_by_one t))
+  unfolding told_of one_asked
+  lowered-yes {u} e = (go (leb 2 t) refl (sym e), sym (ap told_of ((one-asks 1 t refl).passes (sym e))))
+    where
+      go : (x : Bool) → leb 2 t ≡ x → ◌≡◌ {A = Result (Unit {0}) Refusal} (cond x (Ok tt) (denied 13)) (Ok u) → 2 ≤ t
+      go true h k = leb-true _ _ h
+      go false h k = absurd (let z : ◌≡◌ {A = ℕ} 0 1 = cc in omega arith)
 
 pub part-asks : (amount standing t : ℕ) → Asked (part_asked amount standing) (lowered_by_part amount standing t) (t - amount)
 unfolding part_asked lowered_by_part ask

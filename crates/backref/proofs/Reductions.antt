@@ -67,13 +67,11 @@ module _ (e : BodyEdit) (amount : ℕ) (word : e.total < 18446744073709551616) w
 
 -- without an edit nothing follows
 module _ (amount : ℕ) where
-  pub reduced-absent : Reduces (Ok Absent) amount (Ok Absent)
+  pub reduced-other : (plan : Plan) → ((e : BodyEdit) → plan ≡ Edit e → ⊥) → Reduces (Ok plan) amount (Ok plan)
   unfolding plan_answer total_in bind
-  reduced-absent = record { word = omega arith; says = λ body. refl; inside = λ body i. i }
-
-  pub reduced-remove : Reduces (Ok Remove) amount (Ok Remove)
-  unfolding plan_answer total_in bind
-  reduced-remove = record { word = omega arith; says = λ body. refl; inside = λ body i. i }
+  reduced-other (Edit e) h = absurd (h e refl)
+  reduced-other Absent h = record { word = omega arith; says = λ body. refl; inside = λ body i. i }
+  reduced-other Remove h = record { word = omega arith; says = λ body. refl; inside = λ body i. i }
 
   pub reduced-refused : (x : Refusal) → Reduces (Err x) amount (Err x)
   unfolding plan_answer total_in bind
@@ -110,13 +108,10 @@ needs-absent r o = record {
   inside = λ body i. (plan-refused r body (refused 5) 5 o refl).inside;
 }
 
-pub needs-edit : (e : BodyEdit) → Needs (Ok (Edit e)) (Ok (Edit e))
+pub needs-same : {plan : Plan} → ((e : BodyEdit) × (plan ≡ Edit e)) ⊎ (plan ≡ Remove) → Needs (Ok plan) (Ok plan)
 unfolding plan_answer if_absent
-needs-edit e = record { says = λ body. refl; inside = λ body i. i }
-
-pub needs-remove : Needs (Ok Remove) (Ok Remove)
-unfolding plan_answer if_absent
-needs-remove = record { says = λ body. refl; inside = λ body i. i }
+needs-same (inl h) = subst (λ (p : Plan). Needs (Ok p) (Ok p)) (sym h.1) (record { says = λ body. refl; inside = λ body i. i })
+needs-same (inr h) = subst (λ (p : Plan). Needs (Ok p) (Ok p)) (sym h) (record { says = λ body. refl; inside = λ body i. i })
 
 pub needs-refused : (x : Refusal) → Needs (Err x) (Err x)
 unfolding plan_answer if_absent

@@ -18,6 +18,7 @@ fn count_bytes(count: u32) -> [u8; 32]
 }
 
 // One count off the item; at count 1 the item goes. Its first eight bytes stay, as a body's total would.
+#[tactic(auto, unfolding(crate::specs::Plans::KeepsLength))]
 pub fn plan_drop_keyed(item: &[u8], name: DataRef) -> Result<Plan, Refusal>
     ensures planned { Planned result item.now (drop_keyed_data_ref item.now name) }
     ensures keeps_length { KeepsLength result }

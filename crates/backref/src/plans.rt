@@ -9,6 +9,7 @@ use format::{Refusal, SHARED_BLOCK_REF, SHARED_DATA_REF, SharedRef};
 use inline_refs::RefName;
 
 // Whether a kind is a shared reference's.
+#[tactic(auto, unfolding(format::specs::Bodies::shared_kind))]
 pub fn shared_kind(kind: u8) -> bool
     ensures { result ≡ shared_kind kind }
 {

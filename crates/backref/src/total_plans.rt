@@ -20,6 +20,7 @@ pub enum TotalChange {
 }
 
 // Questions 3 and 6 of a call that reads no references.
+#[tactic(auto, unfolding(crate::specs::Reads::head_asked, format::specs::Bodies::body_fits))]
 pub fn ask_head(body: &[u8]) -> Result<(), Refusal>
     ensures { result ≡ head_asked body.now }
 {
