@@ -1,4 +1,6 @@
+use mathlib.Core.Path.{◌≡◌}
 use native.Mathlib.Omega.{arith}
+use Rattle.std.specs.Prelude.{None}
 use Rattle.inline_refs.proofs.Steps.{stepped, ended, stopped}
 use Rattle.backref.proofs.RefPositions.{placing-none, placing-all, placing-fault, room-left, placing-next}
 use Rattle.backref.proofs.positions.put_positions.Goals as goal
@@ -39,7 +41,8 @@ loop-reference-preserved c =
 
 pub returns-in_default : goal.returns-in_default
 returns-in_default c =
-    let w : Unit {0} = c.in_default.is in ?
+    let none : c.in_default.field-0 ≡ None = search in
+    placing-all _ _ _ _ _ _ c.loop-reference.invariant.0 (ended _ _ c.step.ensures c.in_default.is none)
 
 pub returns-in_default-2 : goal.returns-in_default-2
 returns-in_default-2 c =
