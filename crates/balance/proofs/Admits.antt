@@ -20,7 +20,7 @@ use Rattle.balance.specs.Tally.{RefRun, start, joins, kept_run, after, runs_apar
 use Rattle.balance.proofs.SideBySide.{span-snoc}
 use Rattle.balance.specs.declared.record.Run.{Run as Passed}
 use Rattle.balance.specs.declared.record.Admitted.{Admitted}
-use Rattle.balance.specs.declared.record.Admitted.TheVariants.{Yes, No}
+use Rattle.std.specs.Prelude.{Option, Some, None, is_some}
 use Rattle.balance.specs.Spans.{clear, last_rank, run_of, OneRank, RunKept, one_more, Admitting}
 
 pub payload-178 : payload_length 178 ≡ 28
@@ -235,11 +235,15 @@ module _ (run : RefRun) (r : Ref) where
 pub none_ahead : (body : List ℕ) (from n own : ℕ) → OneRank body from n 0 own
 none_ahead body from n own = record { ranks = (λ i l h. absurd (omega arith)) }
 
-pub rank-computed : (body : List ℕ) (p : Passed) → p.ranked ≡ true → p.rank ≡ last_rank body p
-unfolding last_rank
-rank-computed body p e = rw e refl
+-- the passed ones and the weight of one that may stand there
+abbrev pub yes : Passed → ℕ → Option Admitted
+yes run weight = Some (record { run = run; weight = weight })
 
-pub rank-open : (body : List ℕ) (p : Passed) (own : ℕ) → p.ranked ≡ false → own ≡ rank (ref_at p.kind (drop (p.from + 1) body)) → own ≡ last_rank body p
+pub rank-computed : (body : List ℕ) (p : Passed) (own : ℕ) → p.rank ≡ Some own → own ≡ last_rank body p
+unfolding last_rank
+rank-computed body p own e = rw e refl
+
+pub rank-open : (body : List ℕ) (p : Passed) (own : ℕ) → p.rank ≡ None → own ≡ rank (ref_at p.kind (drop (p.from + 1) body)) → own ≡ last_rank body p
 unfolding last_rank
 rank-open body p own e o = rw e o
 
@@ -247,47 +251,47 @@ module _ (body : List ℕ) (p : Passed) (at kind start : ℕ) (s : start ≡ at 
   abbrev here : Ref
   here = ref_at kind (drop start body)
 
-  pub says-lower : kind < p.kind → Admitting body p here (start + payload_length kind) No
+  pub says-lower : kind < p.kind → Admitting body p here (start + payload_length kind) None
   unfolding run_of ref_at Admitting
   says-lower h = admits-lower (run_of body p) here h
 
   module _ (weight : ℕ) (w : weight ≡ here.weight) where
-    abbrev alone : Bool → ℕ → Passed
-    alone ranked own = record { kind = kind; ranked = ranked; rank = own; from = at; n = 1; known = 0 }
+    abbrev alone : Option ℕ → Passed
+    alone own = record { kind = kind; rank = own; from = at; n = 1; known = 0 }
 
-    module _ (ranked : Bool) (own : ℕ) (o : last_rank body (alone ranked own) ≡ rank here) (inside : ranked ≡ false → at + 1 + payload_length kind ≤ length body) where
-      alone-is : run_of body (alone ranked own) ≡ record { kind = here.kind; rank = rank here; back = here ∷ [] }
+    module _ (own : Option ℕ) (o : last_rank body (alone own) ≡ rank here) (inside : own ≡ None → at + 1 + payload_length kind ≤ length body) where
+      alone-is : run_of body (alone own) ≡ record { kind = here.kind; rank = rank here; back = here ∷ [] }
       unfolding run_of span_refs ref_at
       alone-is = λ i. record { kind = kind; rank = o i; back = ref_at kind (drop (sym s i) body) ∷ [] }
 
       alone-reaches : kind ≡ 178 → at + triple_size * 1 ≡ start + payload_length kind
       alone-reaches e = rw (e, payload-178) (omega arith)
 
-      kept-one : RunKept body (alone ranked own) (start + payload_length kind)
-      kept-one = record { reaches = alone-reaches; inside = inside; apart = none-twice body at; hashed = (λ h. absurd (omega arith)); ahead = none_ahead body at 1 own }
+      kept-one : RunKept body (alone own) (start + payload_length kind)
+      kept-one = record { reaches = alone-reaches; inside = inside; apart = none-twice body at; hashed = (λ h. absurd (omega arith)); ahead = none_ahead body at 1 _ }
 
-      says-alone : Begins (run_of body p) here → Admitting body p here (start + payload_length kind) (Yes (alone ranked own) weight)
+      says-alone : Begins (run_of body p) here → Admitting body p here (start + payload_length kind) (yes (alone own) weight)
       unfolding Admitting
       says-alone b = (b.0, (alone-is ∙ b.1, (w, kept-one)))
 
     module _ (long : start + payload_length kind ≤ length body) where
-      open_is : last_rank body (alone false 0) ≡ rank here
+      open_is : last_rank body (alone None) ≡ rank here
       unfolding last_rank
       open_is = ap (λ (q : ℕ). rank (ref_at kind (drop q body))) (sym s)
 
-      says-open : Begins (run_of body p) here → Admitting body p here (start + payload_length kind) (Yes (alone false 0) weight)
-      says-open = says-alone false 0 open_is (λ e. omega (arith, s, long))
+      says-open : Begins (run_of body p) here → Admitting body p here (start + payload_length kind) (yes (alone None) weight)
+      says-open = says-alone None open_is (λ e. omega (arith, s, long))
 
-      pub says-owner : p.kind ≤ kind → kind ≡ 172 → Admitting body p here (start + payload_length kind) (Yes (alone false 0) weight)
+      pub says-owner : p.kind ≤ kind → kind ≡ 172 → Admitting body p here (start + payload_length kind) (yes (alone None) weight)
       unfolding run_of ref_at
       says-owner h e = says-open (admits-owner (run_of body p) here h e)
 
-      pub says-higher : (weight ≡ 0 → ⊥) → p.kind < kind → Admitting body p here (start + payload_length kind) (Yes (alone false 0) weight)
+      pub says-higher : (weight ≡ 0 → ⊥) → p.kind < kind → Admitting body p here (start + payload_length kind) (yes (alone None) weight)
       unfolding run_of ref_at
       says-higher heavy h = says-open (admits-higher (run_of body p) here h (rw (← w) (omega arith)))
 
     module _ (owner : kind ≡ 172 → ⊥) where
-      pub says-light : weight ≡ 0 → Admitting body p here (start + payload_length kind) No
+      pub says-light : weight ≡ 0 → Admitting body p here (start + payload_length kind) None
       unfolding run_of ref_at Admitting
       says-light e = admits-light (run_of body p) here owner (sym w ∙ e)
 
@@ -296,15 +300,15 @@ module _ (body : List ℕ) (p : Passed) (at kind start : ℕ) (s : start ≡ at 
         some-weight = rw (← w) (omega arith)
 
         module _ (last own : ℕ) (l : last ≡ last_rank body p) (o : own ≡ rank here) where
-          pub says-falls : own < last → Admitting body p here (start + payload_length kind) (Yes (alone true own) weight)
+          pub says-falls : own < last → Admitting body p here (start + payload_length kind) (yes (alone (Some own)) weight)
           unfolding run_of ref_at last_rank
-          says-falls h = says-alone true own o (λ e. absurd (subst T e tt)) (admits-falls (run_of body p) here same_kind owner (rw (← o, ← l) h) some-weight)
+          says-falls h = says-alone (Some own) o (λ e. let z : ◌≡◌ {A = ℕ} 0 1 = cc in absurd (omega arith)) (admits-falls (run_of body p) here same_kind owner (rw (← o, ← l) h) some-weight)
 
-          pub says_stays : (kind ≡ 178 → ⊥) → last ≤ own → Admitting body p here (start + payload_length kind) No
+          pub says_stays : (kind ≡ 178 → ⊥) → last ≤ own → Admitting body p here (start + payload_length kind) None
           unfolding run_of ref_at Admitting
           says_stays n h = admits-stays (run_of body p) here same_kind owner n (rw (← o, ← l) h)
 
-          pub says-rises : kind ≡ 178 → last < own → Admitting body p here (start + payload_length kind) No
+          pub says-rises : kind ≡ 178 → last < own → Admitting body p here (start + payload_length kind) None
           unfolding run_of ref_at Admitting
           says-rises d h = admits-rises (run_of body p) here same_kind d (rw (← o, ← l) h)
 
@@ -320,13 +324,13 @@ module _ (body : List ℕ) (p : Passed) (at kind start : ℕ) (s : start ≡ at 
               let k : p.kind ≡ 178 = same_kind ∙ d in
               (λ i. all (λ x. not (same x.fields (ref_at (d i) (drop (s i) body)).fields)) (span_refs (k i) body p.from p.n)) ∙ c
 
-          pub says-twice : clear body at p.from p.n ≡ false → Admitting body p here (start + payload_length kind) No
+          pub says-twice : clear body at p.from p.n ≡ false → Admitting body p here (start + payload_length kind) None
           unfolding run_of ref_at Admitting
           says-twice c = admits-twice (run_of body p) here same_kind d rank_is (clear-is false c)
 
           module _ (own known : ℕ) (o : own ≡ last_rank body p) (a : Distinct body p.from known) (f : OneRank body p.from (p.n + 1) known own) where
             abbrev pub grown : Passed
-            grown = record { kind = kind; ranked = true; rank = own; from = p.from; n = p.n + 1; known = known }
+            grown = record { kind = kind; rank = Some own; from = p.from; n = p.n + 1; known = known }
 
             ends-here : p.from + p.n * (1 + payload_length p.kind) + 1 ≡ start
             ends-here =
@@ -337,22 +341,23 @@ module _ (body : List ℕ) (p : Passed) (at kind start : ℕ) (s : start ≡ at 
             grown-is : run_of body grown ≡ record { kind = (run_of body p).kind; rank = (run_of body p).rank; back = (run_of body p).back ++ here ∷ [] }
             unfolding run_of
             grown-is =
-                (λ i. record { kind = sym same_kind i; rank = (sym (rank-computed body grown refl) ∙ o) i; back = span_refs (sym same_kind i) body p.from (p.n + 1) })
+                (λ i. record { kind = sym same_kind i; rank = (sym (rank-computed body grown own refl) ∙ o) i; back = span_refs (sym same_kind i) body p.from (p.n + 1) })
                 ∙ ap (λ (l : List Ref). record { kind = p.kind; rank = last_rank body p; back = l })
                 (span-snoc p.kind body p.from p.n
                 ∙ (λ i. span_refs p.kind body p.from p.n ++ ref_at (same_kind i) (drop (ends-here i) body) ∷ []))
 
             grown-kept : RunKept body grown (start + payload_length kind)
+            unfolding last_rank
             grown-kept =
                 record {
                   reaches = (λ z. rw (d, payload-178) (omega (arith, kept.reaches (same_kind ∙ d))));
-                  inside = (λ z. absurd (subst T z tt));
+                  inside = (λ e. let z : ◌≡◌ {A = ℕ} 0 1 = cc in absurd (omega arith));
                   apart = a;
                   hashed = (λ z. (d, refl));
                   ahead = f;
                 }
 
-            pub says-joins : clear body at p.from p.n ≡ true → Admitting body p here (start + payload_length kind) (Yes grown weight)
+            pub says-joins : clear body at p.from p.n ≡ true → Admitting body p here (start + payload_length kind) (yes grown weight)
             unfolding run_of ref_at Admitting
             says-joins c =
                 let j = admits-joins (run_of body p) here same_kind d rank_is (clear-is true c) some-weight in
@@ -360,14 +365,14 @@ module _ (body : List ℕ) (p : Passed) (at kind start : ℕ) (s : start ≡ at 
 
 -- ---- and back
 
-pub admitted-yes : (body : List ℕ) (p : Passed) (r : Ref) (next : ℕ) (a : Admitted) (q : Passed) (weight : ℕ) → a ≡ Yes q weight → Admitting body p r next a
-    → (admits (run_of body p) r ≡ true) × ((run_of body q ≡ kept_run (run_of body p) r) × ((weight ≡ r.weight) × RunKept body q next))
+pub admitted-yes : (body : List ℕ) (p : Passed) (r : Ref) (next : ℕ) (o : Option Admitted) (a : Admitted) → o ≡ Some a → Admitting body p r next o
+    → (admits (run_of body p) r ≡ true) × ((run_of body a.run ≡ kept_run (run_of body p) r) × ((a.weight ≡ r.weight) × RunKept body a.run next))
 unfolding Admitting
-admitted-yes body p r next a q weight e h = subst (Admitting body p r next) e h
+admitted-yes body p r next o a e h = subst (Admitting body p r next) e h
 
-pub admitted-no : (body : List ℕ) (p : Passed) (r : Ref) (next : ℕ) (a : Admitted) → a ≡ No → Admitting body p r next a → admits (run_of body p) r ≡ false
+pub admitted-no : (body : List ℕ) (p : Passed) (r : Ref) (next : ℕ) (o : Option Admitted) → o ≡ None → Admitting body p r next o → admits (run_of body p) r ≡ false
 unfolding Admitting
-admitted-no body p r next a e h = subst (Admitting body p r next) e h
+admitted-no body p r next o e h = subst (Admitting body p r next) e h
 
 -- ---- a type that is known
 
@@ -381,29 +386,38 @@ pub of-kind : (body : List ℕ) (start kind own weight : ℕ) → kind ≡ own �
 of-kind body start kind own weight e k n l w =
     subst (λ (j : ℕ). T (known j) × ((j ≡ 172 → ⊥) × ((start + payload_length j ≤ length body) × (weight ≡ (ref_at j (drop start body)).weight)))) e (k, (n, (l, w)))
 
-pub as-kind : (body : List ℕ) (p : Passed) (start kind own : ℕ) (r : Admitted) → kind ≡ own
+pub as-kind : (body : List ℕ) (p : Passed) (start kind own : ℕ) (r : Option Admitted) → kind ≡ own
     → Admitting body p (ref_at own (drop start body)) (start + payload_length own) r → Admitting body p (ref_at kind (drop start body)) (start + payload_length kind) r
 as-kind body p start kind own r e h = subst (λ (k : ℕ). Admitting body p (ref_at k (drop start body)) (start + payload_length k) r) (sym e) h
 
-pub as-run : (body : List ℕ) (p : Passed) (r : Ref) (next weight : ℕ) (q grown : Passed) → q ≡ grown → Admitting body p r next (Yes grown weight) → Admitting body p r next (Yes q weight)
-as-run body p r next weight q grown e h = subst (λ (k : Passed). Admitting body p r next (Yes k weight)) (sym e) h
+pub as-run : (body : List ℕ) (p : Passed) (r : Ref) (next weight : ℕ) (q k : Passed) → q ≡ k → Admitting body p r next (yes k weight) → Admitting body p r next (yes q weight)
+as-run body p r next weight q k e h = subst (λ (x : Passed). Admitting body p r next (yes x weight)) (sym e) h
 
 -- ---- one of those that are known to have the hash of those passed and to differ
 
 module _ (body : List ℕ) (p : Passed) (at start : ℕ) (s : start ≡ at + 1) (kept : RunKept body p at) (h : p.n < p.known) where
-  rank-ahead : rank (ref_at 178 (drop start body)) ≡ p.rank
+  rank-ahead : rank (ref_at 178 (drop start body)) ≡ last_rank body p
   rank-ahead =
       let l : p.n ≤ p.n = omega arith in
       let q : p.from + triple_size * p.n + 1 ≡ start = omega (arith, kept.reaches (kept.hashed h).0) in
-      subst (λ (k : ℕ). rank (ref_at 178 (drop k body)) ≡ p.rank) q (kept.ahead.ranks p.n l h)
+      subst (λ (k : ℕ). rank (ref_at 178 (drop k body)) ≡ last_rank body p) q (kept.ahead.ranks p.n l h)
 
   pub says-known : (weight : ℕ) → weight ≡ (ref_at p.kind (drop start body)).weight → (weight ≡ 0 → ⊥)
-      → Admitting body p (ref_at p.kind (drop start body)) (start + payload_length p.kind) (Yes (one_more p p.rank p.known) weight)
-  says-known weight w heavy =
-      let d : p.kind ≡ 178 = (kept.hashed h).0 in
-      let o : p.rank ≡ last_rank body p = rank-computed body p (kept.hashed h).1 in
-      let f : OneRank body p.from (p.n + 1) p.known p.rank = record { ranks = (λ i l m. kept.ahead.ranks i (omega (arith, l)) m) } in
-      let v : weight ≡ (ref_at 178 (drop start body)).weight = subst (λ (k : ℕ). weight ≡ (ref_at k (drop start body)).weight) d w in
-      as-kind body p start p.kind 178 _ d
-      (says-joins body p at 178 start s kept weight v no-172 heavy d refl (rank-ahead ∙ o) p.rank p.known o kept.apart f
-      (clear-by body p.from p.n p.known kept.apart h at (kept.reaches d)))
+      → Admitting body p (ref_at p.kind (drop start body)) (start + payload_length p.kind) (yes (one_more p p.rank p.known) weight)
+  says-known weight w heavy = go p.rank refl (kept.hashed h).1
+    where
+      d : p.kind ≡ 178
+      d = (kept.hashed h).0
+
+      v : weight ≡ (ref_at 178 (drop start body)).weight
+      v = subst (λ (k : ℕ). weight ≡ (ref_at k (drop start body)).weight) d w
+
+      go : (o : Option ℕ) → p.rank ≡ o → is_some o ≡ true
+          → Admitting body p (ref_at p.kind (drop start body)) (start + payload_length p.kind) (yes (one_more p o p.known) weight)
+      go None e t = absurd (subst T (sym t) tt)
+      go (Some own) e t =
+          let o : own ≡ last_rank body p = rank-computed body p own e in
+          let f : OneRank body p.from (p.n + 1) p.known own = record { ranks = (λ i l m. kept.ahead.ranks i (omega (arith, l)) m ∙ sym o) } in
+          as-kind body p start p.kind 178 _ d
+          (says-joins body p at 178 start s kept weight v no-172 heavy d refl rank-ahead own p.known o kept.apart f
+          (clear-by body p.from p.n p.known kept.apart h at (kept.reaches d)))

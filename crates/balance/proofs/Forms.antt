@@ -20,24 +20,28 @@ use Rattle.inline_refs.specs.declared.ref_name.RefName.TheVariants.{Block, Data,
 use Rattle.inline_refs.specs.Scans.{kind_of, fields_of}
 use Rattle.balance.proofs.Says.{naming-of}
 use Rattle.theorems.proofs.Naming.{Naming as Kinds, is176, is178, is182, is184}
-use Rattle.balance.specs.declared.reference.Named.TheVariants.{Of, Bad}
+use Rattle.std.specs.Prelude.{Option, Some, None}
+use Rattle.balance.specs.declared.reference.Named.{Named}
 use Rattle.balance.specs.Groups.{Naming}
+
+abbrev pub of : ℕ → ℕ → RefName → Option Named
+of weight rank wanted = Some (record { weight = weight; rank = rank; wanted = wanted })
 
 module _ (i : Item) where
   module _ (k : i.key.kind ≡ 178) where
-    pub data-short : (length i.bytes ≡ 28 → ⊥) → Naming i Bad
+    pub data-short : (length i.bytes ≡ 28 → ⊥) → Naming i None
     unfolding Naming view_ref_item in_form
     data-short h = simp (eq-eqb _ _ k, ne_eqb _ _ h)
 
     module _ (own-rank : ℕ) (e : own-rank ≡ rank (ref_at 178 (drop 0 i.bytes))) where
-      pub data-elsewhere : (own-rank ≡ i.key.offset → ⊥) → Naming i Bad
+      pub data-elsewhere : (own-rank ≡ i.key.offset → ⊥) → Naming i None
       unfolding Naming view_ref_item in_form
       data-elsewhere h =
           let n : i.key.offset ≡ rank (ref_at 178 i.bytes) → ⊥ = (λ q. h (e ∙ sym q)) in
           simp (eq-eqb _ _ k, ne_eqb _ _ n, and-false)
 
       pub data-form : (weight : ℕ) (d : DataRef) → length i.bytes ≡ 28 → own-rank ≡ i.key.offset → weight ≡ le (part 24 4 i.bytes)
-          → triple d ≡ words 3 (drop 0 i.bytes) → Naming i (Of weight own-rank (Data d))
+          → triple d ≡ words 3 (drop 0 i.bytes) → Naming i (of weight own-rank (Data d))
       unfolding Naming view_ref_item in_form kind_of fields_of ref_at field_count counted count_position row_in weight_of rank
       data-form weight d l o w t =
           let q : i.key.offset ≡ rank (ref_at 178 i.bytes) = sym o ∙ e in
@@ -49,11 +53,11 @@ module _ (i : Item) where
 
   module _ (k : i.key.kind ≡ 178 → ⊥) where
     module _ (m : i.key.kind ≡ 184) where
-      pub shared-short : (length i.bytes ≡ 4 → ⊥) → Naming i Bad
+      pub shared-short : (length i.bytes ≡ 4 → ⊥) → Naming i None
       unfolding Naming view_ref_item in_form
       shared-short h = simp (ne_eqb _ _ k, eq-eqb _ _ m, ne_eqb _ _ h)
 
-      pub shared-form : (weight : ℕ) → length i.bytes ≡ 4 → weight ≡ le (part 0 4 i.bytes) → Naming i (Of weight i.key.offset (SharedData i.key.offset))
+      pub shared-form : (weight : ℕ) → length i.bytes ≡ 4 → weight ≡ le (part 0 4 i.bytes) → Naming i (of weight i.key.offset (SharedData i.key.offset))
       unfolding Naming view_ref_item in_form kind_of fields_of rank_of
       shared-form weight l w =
           let a : take 4 i.bytes ≡ i.bytes = take_all 4 i.bytes (omega arith) in
@@ -64,11 +68,11 @@ module _ (i : Item) where
           }
 
     module _ (m : i.key.kind ≡ 184 → ⊥) where
-      pub plain-long : (length i.bytes ≡ 0 → ⊥) → Naming i Bad
+      pub plain-long : (length i.bytes ≡ 0 → ⊥) → Naming i None
       unfolding Naming view_ref_item in_form
       plain-long h = simp (ne_eqb _ _ k, ne_eqb _ _ m, ne_eqb _ _ h)
 
-      plain_form : (w : RefName) → kind_of w ≡ i.key.kind → fields_of w ≡ one i.key.offset → length i.bytes ≡ 0 → Naming i (Of 1 i.key.offset w)
+      plain_form : (w : RefName) → kind_of w ≡ i.key.kind → fields_of w ≡ one i.key.offset → length i.bytes ≡ 0 → Naming i (of 1 i.key.offset w)
       unfolding Naming view_ref_item in_form rank_of
       plain_form w p q l = record {
         says = simp (ne_eqb _ _ k, ne_eqb _ _ m, eq-eqb _ _ l) (ap₂ (λ (n : ℕ) (f : List ℕ). reference (make_ref n f 1)) (sym p) (sym q));
@@ -76,11 +80,11 @@ module _ (i : Item) where
         rank_is = rw (p, q) (simp (ne_eqb _ _ k));
       }
 
-      pub block-form : i.key.kind ≡ 176 → length i.bytes ≡ 0 → Naming i (Of 1 i.key.offset (Block (record { tree = i.key.offset })))
+      pub block-form : i.key.kind ≡ 176 → length i.bytes ≡ 0 → Naming i (of 1 i.key.offset (Block (record { tree = i.key.offset })))
       unfolding kind_of fields_of
       block-form e l = plain_form (Block (record { tree = i.key.offset })) (sym e) refl l
 
-      pub parent-form : T (is_ref_item i) → (i.key.kind ≡ 176 → ⊥) → length i.bytes ≡ 0 → Naming i (Of 1 i.key.offset (SharedBlock i.key.offset))
+      pub parent-form : T (is_ref_item i) → (i.key.kind ≡ 176 → ⊥) → length i.bytes ≡ 0 → Naming i (of 1 i.key.offset (SharedBlock i.key.offset))
       unfolding kind_of fields_of
       parent-form t n l = plain_form (SharedBlock i.key.offset) (go (naming-of i t)) refl l
         where

@@ -12,7 +12,7 @@ pub mod Extents
 pub mod Taking
 pub mod Passing
 pub mod Forms
-pub mod Fairness
 pub mod Marks
 pub mod Refers
 pub mod Turns
+pub mod Ends

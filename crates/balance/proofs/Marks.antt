@@ -23,7 +23,8 @@ use Rattle.format.specs.Apply.{is_record}
 use Rattle.format.specs.Names.{view_record, view_of}
 use Rattle.format.proofs.Answers.{refused-not, absent-not, remove-not, accepted-inj}
 use Rattle.format.proofs.Refs.{read_refs-enough}
-use Rattle.inline_refs.specs.declared.start.Start.TheVariants.{From, Refused as Shut}
+use Rattle.std.specs.Prelude.{Option, Some, None, Ok, Err, is_some}
+use Rattle.format.specs.declared.Refusal.{Refusal}
 use Rattle.inline_refs.specs.Steps.{read_from, open_of}
 use Rattle.inline_refs.specs.Scans.{refs_in}
 use Rattle.inline_refs.proofs.Notes.{Opens, opens}
@@ -31,12 +32,11 @@ use Rattle.balance.specs.Tally.{start, sound, GroupTally, weight_in, taken}
 use Rattle.balance.proofs.Sorted.{sound-out}
 use Rattle.balance.specs.Ranks.{refs_read, refs_from}
 use Rattle.balance.proofs.Steps.{read_is}
-use Rattle.balance.specs.declared.record.Weighed.{Weighed}
-use Rattle.balance.specs.declared.record.Weighed.TheVariants.{Of, Bad as Unfit}
 use Rattle.balance.specs.Spans.{weighing, weighed_of, Light}
 use Rattle.balance.specs.declared.group.Group.{Group}
-use Rattle.balance.specs.Groups.{item_of, tally_of, opened_group, Taking}
-use Rattle.balance.proofs.Fairness.{taken-fair, taken-unfair}
+use Rattle.balance.specs.declared.group.Marked.{Marked}
+use Rattle.balance.specs.declared.span.Span.{Span}
+use Rattle.balance.specs.Groups.{item_of, tally_of, GroupBody, Taking}
 
 -- ---- a weight comes from references that read
 
@@ -46,24 +46,24 @@ record Weighty (a : Answer (List Ref)) (weight : ℕ) : Type 0 where
   pub passes : T (sound start refs)
   pub sums : weight ≡ sum weight_in refs
 
-weighed-of : (a : Answer (List Ref)) (weight : ℕ) → Of weight ≡ weighed_of a → Weighty a weight
+weighed-of : (a : Answer (List Ref)) (weight : ℕ) → Some weight ≡ weighed_of a → Weighty a weight
 unfolding weighed_of weighing
 weighed-of (refused n) weight e = let z : ◌≡◌ {A = ℕ} 0 1 = cc in absurd (omega arith)
 weighed-of absent weight e = let z : ◌≡◌ {A = ℕ} 0 1 = cc in absurd (omega arith)
 weighed-of remove weight e = let z : ◌≡◌ {A = ℕ} 0 1 = cc in absurd (omega arith)
 weighed-of (accepted refs) weight e = go (sound start refs) refl e
   where
-    go : (c : Bool) → sound start refs ≡ c → Of weight ≡ cond c (Of (0 + sum weight_in refs)) Unfit → Weighty (accepted refs) weight
+    go : (c : Bool) → sound start refs ≡ c → Some weight ≡ cond c (Some (0 + sum weight_in refs)) None → Weighty (accepted refs) weight
     go true q e =
         let z : weight ≡ 0 + sum weight_in refs = cc in
         record { refs = refs; reads = refl; passes = subst T (sym q) tt; sums = z ∙ omega arith }
     go false q e = let z : ◌≡◌ {A = ℕ} 0 1 = cc in absurd (omega arith)
 
-weighed-bad : (a : Answer (List Ref)) → Unfit ≡ weighed_of a → (refs : List Ref) → a ≡ accepted refs → sound start refs ≡ false
+weighed-bad : (a : Answer (List Ref)) → None ≡ weighed_of a → (refs : List Ref) → a ≡ accepted refs → sound start refs ≡ false
 unfolding weighed_of weighing
 weighed-bad a e refs q = go (sound start refs) refl (e ∙ ap weighed_of q)
   where
-    go : (c : Bool) → sound start refs ≡ c → Unfit ≡ cond c (Of (0 + sum weight_in refs)) Unfit → sound start refs ≡ false
+    go : (c : Bool) → sound start refs ≡ c → None ≡ cond c (Some (0 + sum weight_in refs)) None → sound start refs ≡ false
     go true q e = let z : ◌≡◌ {A = ℕ} 0 1 = cc in absurd (omega arith)
     go false q e = q
 
@@ -85,7 +85,7 @@ opens-read type s from o =
 pub inner-long : (s : List ℕ) (at next : ℕ) → at + 21 ≤ next → next ≤ length s → length (part (at + 21) (next - (at + 21)) s) ≡ next - (at + 21)
 inner-long s at next a b = length_part (next - (at + 21)) (at + 21) s (omega arith)
 
-pub light-of : (size : ℕ) (r : Weighed) (weight : ℕ) → r ≡ Of weight → Light size r → Light size (Of weight)
+pub light-of : (size : ℕ) (r : Option ℕ) (weight : ℕ) → r ≡ Some weight → Light size r → Light size (Some weight)
 light-of size r weight e l = subst (Light size) e l
 
 -- ---- what a record says to the pass
@@ -116,27 +116,27 @@ module _ (s : List ℕ) (g : Group) (at next : ℕ) (key : Key) (rec : T (is_rec
   abbrev inner : List ℕ
   inner = part (at + 21) (next - (at + 21)) s
 
-  refused-mark : (h : Group) → h.fair ≡ false
-      → ((b : Body) → read_body key.kind inner ≡ accepted b → (not (tally_of s g).marked && sound start b.refs) ≡ false)
-      → Taking s g (item_of s at next key) next h
-  refused-mark h u f = taken-unfair s g (item_of s at next key) next h u (refused-by (tally_of s g) (item_of s at next key) rec f)
+  refused-mark : ((b : Body) → read_body key.kind inner ≡ accepted b → (not (tally_of s g).marked && sound start b.refs) ≡ false)
+      → Taking s g (item_of s at next key) next None
+  unfolding Taking
+  refused-mark f = refused-by (tally_of s g) (item_of s at next key) rec f
 
-  pub mark-twice : (h : Group) → h.fair ≡ false → g.marked ≡ true → Taking s g (item_of s at next key) next h
+  pub mark-twice : is_some g.marked ≡ true → Taking s g (item_of s at next key) next None
   unfolding tally_of
-  mark-twice h u m = refused-mark h u (λ b e. rw m refl)
+  mark-twice m = refused-mark (λ b e. rw m refl)
 
   module _ (fits : length inner ≤ 65535) where
-    pub mark-shut : (h : Group) → h.fair ≡ false → (refusal : ℕ) → Shut refusal ≡ open_of key.kind inner → Taking s g (item_of s at next key) next h
+    pub mark-shut : (refusal : Refusal) → Err refusal ≡ open_of key.kind inner → Taking s g (item_of s at next key) next None
     unfolding refs_in on_body body_fits ask bind
-    mark-shut h u refusal e =
-        refused-mark h u (λ b r.
-        let a : refs_in key.kind inner ≡ refused refusal = opens key.kind inner (Shut refusal) e in
+    mark-shut refusal e =
+        refused-mark (λ b r.
+        let a : refs_in key.kind inner ≡ refused refusal.number = opens key.kind inner (Err refusal) e in
         let c : refs_in key.kind inner ≡ accepted b.refs = rw (le-leb (length inner) 65535 fits, r) refl in
         refused-not (sym a ∙ c))
 
-  module _ (from : ℕ) (e : From from ≡ open_of key.kind inner) where
+  module _ (from : ℕ) (e : Ok from ≡ open_of key.kind inner) where
     pub opened : Opens key.kind inner from
-    opened = opens key.kind inner (From from) e
+    opened = opens key.kind inner (Ok from) e
 
     read-refs : (refs : List Ref) → read_from inner from ≡ accepted refs → read_body key.kind inner ≡ accepted (body_from key.kind inner refs)
     unfolding bind
@@ -150,35 +150,35 @@ module _ (s : List ℕ) (g : Group) (at next : ℕ) (key : Key) (rec : T (is_rec
     bad-refs remove f b q = remove-not q
     bad-refs (accepted refs) f b q = subst (λ (x : Body). sound start x.refs ≡ false) (accepted-inj q) (f refs refl)
 
-    pub mark-unfit : (h : Group) → h.fair ≡ false → Unfit ≡ weighed_of (read_from inner from) → Taking s g (item_of s at next key) next h
-    mark-unfit h u w =
-        refused-mark h u (λ b r.
+    pub mark-unfit : None ≡ weighed_of (read_from inner from) → Taking s g (item_of s at next key) next None
+    mark-unfit w =
+        refused-mark (λ b r.
         ap (λ (c : Bool). not (tally_of s g).marked && c)
         (bad-refs (read_from inner from) (weighed-bad (read_from inner from) w) b (sym (opens-read key.kind inner from opened) ∙ r))
         ∙ and-false (not (tally_of s g).marked))
 
     module _ (order : at + 21 ≤ next) (within : next ≤ length s) (total weight : ℕ) where
-      pub mark-good : (h : Group) → h ≡ opened_group true g.extent (at + 21) next from total weight → g.marked ≡ false → Of weight ≡ weighed_of (read_from inner from) → Light (length inner) (Of weight) → total ≡ le (part 0 8 inner)
-          → Taking s g (item_of s at next key) next h
-      unfolding tally_of total_of refs_read
-      mark-good made is m w l q =
-          subst (λ (x : Group). Taking s g (item_of s at next key) next x) (sym is)
+      abbrev mark : Marked
+      mark = record { from = at + 21; to = next; start = from; total = total }
+
+      pub mark-good : is_some g.marked ≡ false → Some weight ≡ weighed_of (read_from inner from) → Light (length inner) (Some weight) → total ≡ le (part 0 8 inner)
+          → Taking s g (item_of s at next key) next (Some (record { extent = g.extent; marked = Some mark; weight = weight; span = None }))
+      unfolding Taking tally_of total_of refs_read
+      mark-good m w l q =
           let h = weighed-of (read_from inner from) weight w in
           let r : read_from inner from ≡ accepted h.refs = h.reads in
           let f : refs_from inner from ≡ h.refs = ap refs_read r in
           let n : length inner ≡ next - (at + 21) = length_part (next - (at + 21)) (at + 21) s (omega arith) in
           let y = taken-by (tally_of s g) (item_of s at next key) rec (body_from key.kind inner h.refs) (read-refs h.refs r) m h.passes in
-          taken-fair s g (item_of s at next key) next (opened_group true g.extent (at + 21) next from total weight)
-          (y ∙ (λ i. some (record { extent = g.extent; marked = true; refs = sym f i; total = sym q i; weight = sym h.sums i })))
-          (record {
-            fair = refl;
-            body = λ _. record {
-              order = order;
-              inside = within;
-              begins = opened.inside;
-              reads = record { reads = read_is inner from h.refs r };
-              sorted = subst (λ (k : List Ref). T (ordered k)) (sym f) (sound-out 0 h.refs h.passes).order;
-              spans = λ z. absurd (z refl);
-            };
-            light = omega arith;
-          })
+          let b : GroupBody s mark None =
+              record {
+                order = order;
+                inside = within;
+                begins = opened.inside;
+                reads = record { reads = read_is inner from h.refs r };
+                sorted = subst (λ (k : List Ref). T (ordered k)) (sym f) (sound-out 0 h.refs h.passes).order;
+                spans = λ sp z. let z : ◌≡◌ {A = ℕ} 0 1 = cc in absurd (omega arith);
+              } in (
+            y ∙ (λ i. some (record { extent = g.extent; marked = true; refs = sym f i; total = sym q i; weight = sym h.sums i })),
+            record { body = λ k e. let z : mark ≡ k = cc in subst (λ (x : Marked). GroupBody s x None) z b; light = omega arith },
+          )

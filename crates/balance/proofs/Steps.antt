@@ -1,5 +1,6 @@
 -- One step over the references of a body, and the references of one type among them. Assumes nothing.
 use mathlib.Core.Path.{◌≡◌, refl, sym, ap, ◌∙◌, subst}
+use mathlib.Core.Logic.{◌⊎◌, inl, inr}
 use Prim.Native.Nat.{ℕ, ◌+◌, ◌*◌, ◌≤◌, ◌<◌}
 use native.Mathlib.Nat.{suc-mul, zero-mul}
 use native.Mathlib.Numerals.{add-one}
@@ -14,8 +15,11 @@ use Rattle.fields.proofs.Lists.{all_both}
 use Rattle.format.specs.Questions.{Answer, refused, accepted}
 use Rattle.format.specs.References.{payload_length, Ref, ref_at}
 use Rattle.format.proofs.Answers.{refused-not, accepted-inj, bind_ok}
-use Rattle.inline_refs.specs.Steps.{read_from}
-use Rattle.inline_refs.proofs.Steps.{At}
+use Rattle.std.specs.Prelude.{Option, None, Result, Ok, Err}
+use Rattle.format.specs.declared.Refusal.{Refusal}
+use Rattle.inline_refs.specs.declared.step.RefAt.{RefAt}
+use Rattle.inline_refs.specs.Steps.{ref_step_at, read_from}
+use Rattle.inline_refs.proofs.Steps.{At, ended, stopped}
 use Rattle.balance.specs.Ranks.{span_refs, refs_read, refs_from, reached, left, Skips, CountsIn, payload_at}
 use Rattle.balance.proofs.SideBySide.{span-snoc}
 
@@ -45,6 +49,12 @@ step_end body at e = ap refs_read e
 
 pub step-never : (body : List ℕ) (at refusal : ℕ) → read_from body at ≡ accepted (refs_from body at) → read_from body at ≡ refused refusal → ⊥
 step-never body at number r e = refused-not (sym e ∙ r)
+
+-- the same from what a step says, where all read
+pub step_over : (body : List ℕ) (at : ℕ) {r : Result (Option RefAt) Refusal} → r ≡ ref_step_at body at → (r ≡ Ok None) ⊎ ((y : Refusal) × (r ≡ Err y))
+    → read_from body at ≡ accepted (refs_from body at) → refs_from body at ≡ []
+step_over body at e (inl h) k = step_end body at (ended body at e h refl)
+step_over body at e (inr h) k = absurd (step-never body at _ k (stopped body at e h.1))
 
 -- ---- the walk to the first of a type
 

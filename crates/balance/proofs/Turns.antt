@@ -2,8 +2,9 @@
 use mathlib.Core.Path.{◌≡◌, refl, sym, ap, ap₂, ◌∙◌, subst}
 use Prim.Native.Nat.{ℕ, ◌+◌, ◌≤◌}
 use native.Mathlib.Omega.{arith}
-use mathlib.Core.Bool.{Bool, true, false}
-use mathlib.Core.Option.{Option}
+use mathlib.Core.Bool.{Bool, true, false, not}
+use mathlib.Core.Option.{Option as Tallied}
+use Rattle.std.specs.Prelude.{Option, Some, None}
 use mathlib.Core.List.{List, [], ◌∷◌}
 use lib.Dec.{T, eqb}
 use lib.ListN.{length}
@@ -23,8 +24,10 @@ use Rattle.balance.specs.Tally.{GroupTally, fresh, closed, taken, here, entered,
 use Rattle.balance.proofs.Says.{naming-of}
 use Rattle.balance.proofs.Passing.{pass-balanced}
 use Rattle.balance.specs.declared.group.Group.{Group}
-use Rattle.balance.specs.Groups.{item_of, tally_of, empty, GroupKept, Taking, Turning}
-use Rattle.balance.proofs.Fairness.{not-both, taken-fair}
+use Rattle.balance.specs.Groups.{item_of, total_in, tally_of, empty, after, GroupKept, Taking, Turning}
+
+not-both : (b : Bool) → b ≡ true → b ≡ false → ⊥
+not-both b t f = subst (λ (c : Bool). T (not c)) (sym f ∙ t) tt
 
 -- ---- by the type
 
@@ -74,17 +77,17 @@ module _ (s : List ℕ) (at next : ℕ) (key : Key) (b : Bool) where
 
 pub take-other : (s : List ℕ) (g : Group) (at next : ℕ) (key : Key) → at + 21 ≤ next → GroupKept s g at
     → (a b : Bool) → a ≡ is_record (record { key = key; bytes = [] }) → a ≡ false → b ≡ is_ref_item (record { key = key; bytes = [] }) → b ≡ false
-    → Taking s g (item_of s at next key) next g
-unfolding taken view_of is_record is_ref_item
+    → Taking s g (item_of s at next key) next (Some g)
+unfolding Taking taken view_of is_record is_ref_item
 take-other s g at next key o k a b p x q y =
-    taken-fair s g (item_of s at next key) next g (rw (sym p ∙ x, sym q ∙ y) refl) (record { fair = k.fair; body = k.body; light = omega (arith, k.light) })
+    (rw (sym p ∙ x, sym q ∙ y) refl, record { body = k.body; light = omega (arith, k.light) })
 
 -- ---- by the extent
 
 pub empty-kept : (s : List ℕ) (g : Group) (x at : ℕ) → g ≡ empty x → GroupKept s g at
 empty-kept s g x at e =
     subst (λ (h : Group). GroupKept s h at) (sym e)
-    (record { fair = refl; body = λ q. absurd (not-both false q refl); light = omega arith })
+    (record { body = λ m q. let z : ◌≡◌ {A = ℕ} 0 1 = cc in absurd (omega arith); light = omega arith })
 
 -- the pass over an item, from what was taken
 module _ (t : GroupTally) (i : Item) (rest : List Item) where
@@ -128,30 +131,26 @@ module _ (s : List ℕ) (g : Group) (at next : ℕ) (key : Key) (kis : key ≡ (
   unfolding tally_of
   fresh-is f e = ap (tally_of s) e ∙ ap (λ (k : Key). fresh k.objectid) kis
 
-  closed-yes : g.total ≡ g.weight → closed (tally_of s g) ≡ true
+  closed-is : closed (tally_of s g) ≡ eqb (total_in g.marked) g.weight
   unfolding closed tally_of
-  closed-yes e = eq-eqb _ _ e
+  closed-is = refl
 
-  pub enter-new : (f : Group) → f ≡ empty key.objectid → (key.objectid ≡ g.extent → ⊥) → g.total ≡ g.weight → Enters f
+  pub enter-new : (f : Group) → f ≡ empty key.objectid → (key.objectid ≡ g.extent → ⊥) → eqb (total_in g.marked) g.weight ≡ true → Enters f
   enter-new f e n c = record {
     kept = empty-kept s f key.objectid at e;
     goes = λ rest.
-        pass-new (tally_of s g) (item_at s at) rest (here-no n) (closed-yes c)
+        pass-new (tally_of s g) (item_at s at) rest (here-no n) (closed-is ∙ c)
         ∙ ap₂ (λ (t : GroupTally) (i : Item). onward (pass rest) (taken t (view_of i))) (sym (fresh-is f e)) (sym is-item);
   }
 
-  pub turned : (h r : Group) → Enters h → Taking s h (item_of s at next key) next r → Turning s g (item_at s at) next r
-  turned h r w t = record {
-    fair = λ q. (λ rest. w.goes rest ∙ ap (λ (o : Option GroupTally). onward (pass rest) o) (t.fair q).0, (t.fair q).1);
-    unfair = λ q rest. w.goes rest ∙ ap (λ (o : Option GroupTally). onward (pass rest) o) (t.unfair q);
-  }
+  pub turned : (h : Group) (o : Option (Unit {0})) (r : Group) → Enters h → Taking s h (item_of s at next key) next (after o r) → Turning s g (item_at s at) next (after o r)
+  unfolding Taking Turning
+  turned h None r w t = λ rest. w.goes rest ∙ ap (λ (o : Tallied GroupTally). onward (pass rest) o) t
+  turned h (Some done) r w t = (λ rest. w.goes rest ∙ ap (λ (o : Tallied GroupTally). onward (pass rest) o) t.0, t.1)
 
-  pub turn-open : (r : Group) → r.fair ≡ false → (key.objectid ≡ g.extent → ⊥) → (g.total ≡ g.weight → ⊥) → Turning s g (item_at s at) next r
-  unfolding closed tally_of
-  turn-open r u n c = record {
-    fair = λ q. absurd (not-both r.fair q u);
-    unfair = λ q rest. pass-open (tally_of s g) (item_at s at) rest (here-no n) (ne_eqb _ _ c);
-  }
+  pub turn-open : (key.objectid ≡ g.extent → ⊥) → eqb (total_in g.marked) g.weight ≡ false → Turning s g (item_at s at) next None
+  unfolding Turning
+  turn-open n c = λ rest. pass-open (tally_of s g) (item_at s at) rest (here-no n) (closed-is ∙ c)
 
 -- ---- the whole sheet
 
@@ -167,7 +166,7 @@ pass_all s g t l e =
     let k = sheet-sane s (list_items s) t l.reads in
     ap (λ (h : Group). pass (list_items s) (tally_of s h)) e ∙ pass-balanced (list_items s) k.2 k.0
 
-pub pass-end : (s : List ℕ) (g : Group) (items : List Item) → items ≡ [] → pass items (tally_of s g) ≡ eqb g.total g.weight
+pub pass-end : (s : List ℕ) (g : Group) (items : List Item) → items ≡ [] → pass items (tally_of s g) ≡ eqb (total_in g.marked) g.weight
 unfolding pass closed tally_of
 pass-end s g items e = ap (λ (l : List Item). pass l (tally_of s g)) e
 
@@ -178,3 +177,13 @@ pass_on s g h items i rest e f = sym (ap (λ (l : List Item). pass l (tally_of s
 pub pass-off : (s : List ℕ) (g : Group) (items : List Item) (i : Item) (rest : List Item) → items ≡ i ∷ rest
     → ((l : List Item) → pass (i ∷ l) (tally_of s g) ≡ false) → false ≡ pass items (tally_of s g)
 pass-off s g items i rest e f = sym (ap (λ (l : List Item). pass l (tally_of s g)) e ∙ f rest)
+
+-- what the pass says of an item that may stand there, or may not
+module _ (s : List ℕ) (g h : Group) (i : Item) (next : ℕ) (o : Option (Unit {0})) (t : Turning s g i next (after o h)) where
+  pub turned-on : (done : Unit {0}) → o ≡ Some done → ((rest : List Item) → pass (i ∷ rest) (tally_of s g) ≡ pass rest (tally_of s h)) × GroupKept s h next
+  unfolding Turning
+  turned-on done e = subst (λ (p : Option (Unit {0})). Turning s g i next (after p h)) e t
+
+  pub turned-off : o ≡ None → (rest : List Item) → pass (i ∷ rest) (tally_of s g) ≡ false
+  unfolding Turning
+  turned-off e = subst (λ (p : Option (Unit {0})). Turning s g i next (after p h)) e t

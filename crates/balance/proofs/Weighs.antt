@@ -16,22 +16,22 @@ use Rattle.balance.proofs.Admits.{none_ahead}
 use Rattle.balance.specs.Ranks.{span_refs}
 use Rattle.balance.specs.Tally.{RefRun, kept_run, admits, sound, weight_in}
 use Rattle.balance.specs.declared.record.Run.{Run}
-use Rattle.balance.specs.declared.record.Weighed.TheVariants.{Of, Bad}
-use Rattle.balance.specs.Spans.{last_rank, run_of, RunKept, weighing, weighed_of}
+use Rattle.std.specs.Prelude.{Option, Some, None}
+use Rattle.balance.specs.Spans.{last_rank, run_of, RunKept, weighing, weighed_of, Light}
 
 pub weigh-start : (body : List ℕ) (from : ℕ) (a : Answer (List Ref))
-    → weighing (run_of body (record { kind = 0; ranked = true; rank = 0; from = from; n = 0; known = 0 })) 0 a ≡ weighed_of a
+    → weighing (run_of body (record { kind = 0; rank = Some 0; from = from; n = 0; known = 0 })) 0 a ≡ weighed_of a
 unfolding weighed_of run_of last_rank span_refs
 weigh-start body from a = refl
 
-pub none_passed : (body : List ℕ) (from : ℕ) → RunKept body (record { kind = 0; ranked = true; rank = 0; from = from; n = 0; known = 0 }) from
+pub none_passed : (body : List ℕ) (from : ℕ) → RunKept body (record { kind = 0; rank = Some 0; from = from; n = 0; known = 0 }) from
 none_passed body from =
     record {
       reaches = (λ e. absurd (omega arith));
-      inside = (λ e. absurd (subst T e tt));
+      inside = (λ e. let z : ◌≡◌ {A = ℕ} 0 1 = cc in absurd (omega arith));
       apart = none-twice body from;
       hashed = (λ h. absurd (omega arith));
-      ahead = none_ahead body from 0 0;
+      ahead = none_ahead body from 0 _;
     }
 
 pub kept-to : (body : List ℕ) (p : Run) (at next : ℕ) → at ≡ next → RunKept body p at → RunKept body p next
@@ -48,7 +48,7 @@ more run weight r (accepted refs) e =
     rw (e, z) refl
 
 fewer : (run : RefRun) (weight : ℕ) (r : Ref) (a : Answer (List Ref)) → admits run r ≡ false
-    → Bad ≡ weighing run weight (bind a (λ refs. accepted (r ∷ refs)))
+    → None ≡ weighing run weight (bind a (λ refs. accepted (r ∷ refs)))
 unfolding weighing bind sound
 fewer run weight r (refused n) e = refl
 fewer run weight r absent e = refl
@@ -63,13 +63,17 @@ module _ (s : List ℕ) (at k p n q next : ℕ) (h : At s at k p n q next) (run 
       ∙ more run weight (ref_at k (drop p s)) (read_from s next) a
       ∙ ap (weighing run weight) (sym h.reads)
 
-  pub weigh-no : admits run (ref_at k (drop p s)) ≡ false → Bad ≡ weighing run weight (read_from s at)
+  pub weigh-no : admits run (ref_at k (drop p s)) ≡ false → None ≡ weighing run weight (read_from s at)
   weigh-no a = fewer run weight (ref_at k (drop p s)) (read_from s next) a ∙ ap (weighing run weight) (sym h.reads)
 
-pub weigh-end : (run : RefRun) (weight : ℕ) (a : Answer (List Ref)) → a ≡ accepted [] → Of weight ≡ weighing run weight a
+pub weigh-end : (run : RefRun) (weight : ℕ) (a : Answer (List Ref)) → a ≡ accepted [] → Some weight ≡ weighing run weight a
 unfolding weighing sound
-weigh-end run weight a e = rw e (ap Of (omega arith))
+weigh-end run weight a e = rw e (ap Some (omega arith))
 
-pub weigh-fault : (run : RefRun) (weight refusal : ℕ) (a : Answer (List Ref)) → a ≡ refused refusal → Bad ≡ weighing run weight a
+pub weigh-fault : (run : RefRun) (weight refusal : ℕ) (a : Answer (List Ref)) → a ≡ refused refusal → None ≡ weighing run weight a
 unfolding weighing
 weigh-fault run weight number a e = rw e refl
+
+-- where there is no weight
+pub weigh-none : (size : ℕ) (a : Answer (List Ref)) (o : Option ℕ) → o ≡ None → None ≡ weighed_of a → (o ≡ weighed_of a) × Light size o
+weigh-none size a o e w = subst (λ (p : Option ℕ). (p ≡ weighed_of a) × Light size p) (sym e) (w, tt)

@@ -1,60 +1,48 @@
 // What is kept of the extent at hand while its items are read.
-ghost use Rattle.std.specs.Prelude.{◌≡◌, false};
-ghost use Rattle.balance.specs.Groups.{opened_group};
+ghost use Rattle.std.specs.Prelude.{◌≡◌, eqb};
+ghost use Rattle.balance.specs.Groups.{empty, total_in};
 
 use crate::Span;
 
-// Whether the items so far are balanced: if not, the rest says nothing. Whether the extent's record stood, where in the sheet the
-// record's data and in it the references stand, the record's total, the weight of all references so far, and the references of
-// the type that was looked for last (type 0: none).
+// The record of the extent: where in the sheet its data and in it the references stand, and its total.
 #[derive(Clone, Copy)]
-pub struct Group {
-    pub extent: u64,
-    pub fair: bool,
-    pub marked: bool,
+pub struct Marked {
     pub from: usize,
     pub to: usize,
     pub start: usize,
     pub total: u64,
+}
+
+// The extent's record, once it stood; the weight of all references so far; and where those of the type that was looked for last
+// stand in the record.
+#[derive(Clone, Copy)]
+pub struct Group {
+    pub extent: u64,
+    pub marked: Option<Marked>,
     pub weight: u64,
-    pub span: Span,
+    pub span: Option<Span>,
 }
 
-// What is kept of an extent before its reference items are read: its record, or that none stood yet.
-pub fn opened(
-    marked: bool,
-    extent: u64,
-    from: usize,
-    to: usize,
-    start: usize,
-    total: u64,
-    weight: u64,
-) -> Group
-    ensures { result ≡ opened_group marked extent from to start total weight }
-{
-    Group {
-        extent,
-        fair: true,
-        marked,
-        from,
-        to,
-        start,
-        total,
-        weight,
-        span: Span {
-            kind: 0,
-            from: 0,
-            n: 0,
-            near: 0,
-        },
+impl Group {
+    // An extent of which no item was read.
+    pub fn new(extent: u64) -> Group
+        ensures { result ≡ empty extent }
+    {
+        Group {
+            extent,
+            marked: None,
+            weight: 0,
+            span: None,
+        }
     }
-}
 
-// The sheet is not balanced.
-pub fn unfair() -> Group
-    ensures { result.fair ≡ false }
-{
-    let mut none = opened(false, 0, 0, 0, 0, 0, 0);
-    none.fair = false;
-    none
+    // Whether the record's total is the weight of the references.
+    pub fn is_closed(&self) -> bool
+        ensures { result ≡ eqb (total_in self.now.marked) self.now.weight }
+    {
+        match self.marked {
+            Some(marked) => marked.total == self.weight,
+            None => self.weight == 0,
+        }
+    }
 }

@@ -12,7 +12,7 @@ mod together;
 mod turning;
 mod walk;
 
-pub use record::{Weighed, weigh_refs};
+pub use record::weigh_refs;
 pub use search::{first_below, stands};
 pub use span::{Span, span_for, stride};
 pub use walk::balanced;

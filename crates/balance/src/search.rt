@@ -22,12 +22,12 @@ fn narrow(bounds: Bounds, mid: usize, rank: u64, middle: u64) -> Bounds
     if rank < middle {
         return Bounds {
             low: mid + 1,
-            high: bounds.high,
+            ..bounds
         };
     }
     Bounds {
-        low: bounds.low,
         high: mid,
+        ..bounds
     }
 }
 
@@ -35,13 +35,7 @@ fn narrow(bounds: Bounds, mid: usize, rank: u64, middle: u64) -> Bounds
 fn begins_at(span: Span) -> usize
     ensures { 0 < span.n → result < span.n }
 {
-    if span.near < span.n {
-        return span.near;
-    }
-    if span.n == 0 {
-        return 0;
-    }
-    span.n - 1
+    span.near.min(span.n.saturating_sub(1))
 }
 
 // The number to look at next: `step` below the high bound, and not past the middle.
@@ -90,8 +84,7 @@ pub fn stands(
     requires rank_value { (rank ≡ rank_of (kind_of wanted) (fields_of wanted)) × CutsAt body.now span rank first }
     ensures { result ≡ not (absent_in body.now span wanted) }
 {
-    let mut j = first;
-    while j < span.n {
+    for j in first..span.n {
         let start = span.from + j * size + 1;
         if inline_refs::rank_at(body, span.kind, start) != rank {
             return false;
@@ -99,7 +92,6 @@ pub fn stands(
         if inline_refs::names(wanted, body, span.kind, start) {
             return true;
         }
-        j += 1;
     }
     false
 }

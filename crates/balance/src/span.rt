@@ -1,9 +1,9 @@
 // Where the references of one type stand in a record whose references are in order.
-ghost use Rattle.std.specs.Prelude.{◌≡◌, ◌+◌, ◌≤◌, T, length};
-ghost use Rattle.format.specs.References.{kinds, known as is_known, payload_length, ordered};
+ghost use Rattle.std.specs.Prelude.{◌≡◌, ◌+◌, ◌≤◌, T, length, Some};
+ghost use Rattle.format.specs.References.{known as is_known, payload_length, ordered};
 ghost use Rattle.balance.specs.Ranks.{Readable, refs_from, Skips, CountsIn, Spanned};
 
-use inline_refs::{Cursor, RefStep, Row};
+use inline_refs::{Cursor, Kinds};
 
 // The references of a type: where the first of them stands, how many there are, and at which of them the last search ended (`n`:
 // none was made, or all are above). The next search begins there, which is a hint and no more: it may be any number.
@@ -16,67 +16,44 @@ pub struct Span {
 }
 
 // Where the first reference of this type or a higher one stands.
-fn skip(rows: &[[u8; 3]; 5], body: &[u8], start: usize, kind: u8) -> usize
-    requires rows_value { rows.now ≡ kinds }
-    requires readable { Readable body.now start × (start ≤ length body.now) }
+fn skip(kinds: &Kinds, body: &[u8], start: usize, kind: u8) -> usize
+    requires { Readable body.now start × (start ≤ length body.now) }
     ensures { Skips body.now start kind result }
 {
-    let mut at = start;
-    loop {
-        let cursor = Cursor { at };
-        match cursor.step(rows, body) {
-            RefStep::Ref {
-                kind: here,
-                next,
-                ..
-            } => {
-                if kind <= here {
-                    return at;
-                }
-                at = next.at;
-            }
-            RefStep::End => return at,
-            RefStep::Refused(_) => return at,
+    let mut cursor = Cursor { at: start };
+    while let Some(reference) = cursor.step(kinds, body).unwrap_or(None) {
+        if kind <= reference.kind {
+            return cursor.at;
         }
+        cursor = reference.next;
     }
+    cursor.at
 }
 
 // How many references of this type stand from there on.
-fn count(rows: &[[u8; 3]; 5], body: &[u8], from: usize, kind: u8) -> usize
-    requires rows_value { rows.now ≡ kinds }
-    requires readable { Readable body.now from × (from ≤ length body.now) }
+fn count(kinds: &Kinds, body: &[u8], from: usize, kind: u8) -> usize
+    requires { Readable body.now from × (from ≤ length body.now) }
     ensures { CountsIn body.now from kind result }
 {
-    let mut at = from;
-    let mut n: usize = 0;
-    loop {
-        let cursor = Cursor { at };
-        match cursor.step(rows, body) {
-            RefStep::Ref {
-                kind: here,
-                next,
-                ..
-            } => {
-                if here != kind {
-                    return n;
-                }
-                n += 1;
-                at = next.at;
-            }
-            RefStep::End => return n,
-            RefStep::Refused(_) => return n,
+    let mut cursor = Cursor { at: from };
+    let mut n = 0;
+    while let Some(reference) = cursor.step(kinds, body).unwrap_or(None) {
+        if reference.kind != kind {
+            return n;
         }
+        cursor = reference.next;
+        n += 1;
     }
+    n
 }
 
-pub fn find_span(rows: &[[u8; 3]; 5], body: &[u8], start: usize, kind: u8) -> Span
-    requires rows_value { rows.now ≡ kinds }
+pub fn find_span(kinds: &Kinds, body: &[u8], start: usize, kind: u8) -> Span
     requires readable { Readable body.now start × (start ≤ length body.now) }
     requires t { T (is_known kind) × ((kind ≡ 172 → ⊥) × T (ordered (refs_from body.now start))) }
     ensures { Spanned body.now start result × (result.kind ≡ kind) }
 {
-    let from = skip(rows, body, start, kind);
-    let n = count(rows, body, from, kind);
+    let from = skip(kinds, body, start, kind);
+    let n = count(kinds, body, from, kind);
     Span {
         kind,
         from,
@@ -86,27 +63,30 @@ pub fn find_span(rows: &[[u8; 3]; 5], body: &[u8], start: usize, kind: u8) -> Sp
 }
 
 // The same where those of one type are known already.
-pub fn span_for(rows: &[[u8; 3]; 5], body: &[u8], start: usize, known: Span, kind: u8) -> Span
-    requires rows_value { rows.now ≡ kinds }
+pub fn span_for(
+    kinds: &Kinds,
+    body: &[u8],
+    start: usize,
+    known: Option<Span>,
+    kind: u8,
+) -> Span
     requires readable { Readable body.now start × (start ≤ length body.now) }
     requires t { T (is_known kind) × ((kind ≡ 172 → ⊥) × T (ordered (refs_from body.now start))) }
-    requires spanned { known.kind ≡ kind → Spanned body.now start known }
+    requires spanned { (span : Span) → known ≡ Some span → span.kind ≡ kind → Spanned body.now start span }
     ensures { Spanned body.now start result × (result.kind ≡ kind) }
 {
-    if known.kind == kind {
-        return known;
+    match known {
+        Some(span) if span.kind == kind => span,
+        _ => find_span(kinds, body, start, kind),
     }
-    find_span(rows, body, start, kind)
 }
 
 // How many bytes a reference of this type takes.
-pub fn stride(rows: &[[u8; 3]; 5], kind: u8) -> usize
-    requires rows_value { rows.now ≡ kinds }
-    requires t { T (is_known kind) }
+pub fn stride(kinds: &Kinds, kind: u8) -> usize
     ensures { result ≡ 1 + payload_length kind }
 {
-    match inline_refs::row_of(rows, kind) {
-        Row::Known { size, .. } => 1 + size,
-        Row::Unknown => 1,
+    match kinds.row_of(kind) {
+        Some(row) => 1 + row.payload,
+        None => 1,
     }
 }

@@ -29,8 +29,7 @@ fn count(body: &[u8], from: usize, passed: usize, own: u64) -> usize
 {
     let size = data_refs::data_size();
     let mut next = from + size * passed;
-    let mut n = passed;
-    while n < 2259 {
+    for n in passed..2259 {
         if body.len() - next < size {
             return n;
         }
@@ -41,9 +40,8 @@ fn count(body: &[u8], from: usize, passed: usize, own: u64) -> usize
             return n;
         }
         next += size;
-        n += 1;
     }
-    n
+    2259
 }
 
 // Behind n data references of one hash stands one more of it: of how many from the first on it is known that their triples differ,

@@ -1,18 +1,48 @@
-use Rattle.balance.proofs.Refers.{named-form, name-missing, name-unmarked}
+use native.Mathlib.Omega.{arith}
+use Rattle.balance.proofs.Admits.{not-true, not-false}
+use Rattle.balance.proofs.Ends.{not-taken}
+use Rattle.balance.proofs.Refers.{ref-known, ref-owner, named-form, name-missing, name-unmarked, name-light, name-twice, name-good}
 use Rattle.balance.proofs.naming.take_ref.Goals as goal
 
-pub take_name-requires : goal.take_name-requires
-take_name-requires c =
-    let room = c.requires.item_head_bound in
-    let p = c.requires.t in record { rows_value = c.requires.rows_value; item_head_bound = (room.0, room.1.1); t = (p.0, (c.if-g.true, p.1)); named_by = named-form _ _ _ _ _ c.in-Of.is c.name_of.ensures }
+pub returns-in_err-named : goal.returns-in_err-named
+returns-in_err-named c =
+    not-taken _ _ _ _ _ _ c.from_residual.ensures
+    (name-missing c.args.s.now c.args.g.now c.args.at c.args.next c.args.key c.requires.t.0 _ c.in_err-named.was c.name_of.ensures)
 
-pub returns-else-g : goal.returns-else-g
-returns-else-g c =
-    name-unmarked c.args.s.now c.args.g c.args.at c.args.next c.args.key c.requires.t.0 c.if-g.false _ c.unfair.ensures _ c.name_of.ensures
+pub returns-in_err-marked : goal.returns-in_err-marked
+returns-in_err-marked c =
+    not-taken _ _ _ _ _ _ c.from_residual-in_err-marked.ensures
+    (name-unmarked c.args.s.now c.args.g.now c.args.at c.args.next c.args.key c.requires.t.0 _ (named-form _ _ _ c.in_ok-named.was c.name_of.ensures) c.in_err-marked.was)
 
-pub returns-in-Bad : goal.returns-in-Bad
-returns-in-Bad c =
-    name-missing c.args.s.now c.args.g c.args.at c.args.next c.args.key c.requires.t.0 _ c.unfair-in-Bad.ensures _ c.in-Bad.is c.name_of.ensures
+pub returns-then-named-eq0 : goal.returns-then-named-eq0
+returns-then-named-eq0 c =
+    name-light c.args.s.now c.args.g.now c.args.at c.args.next c.args.key c.requires.t.0 _ (named-form _ _ _ c.in_ok-named.was c.name_of.ensures) c.if-named-eq0.true
 
-pub returns-then-g : goal.returns-then-g
-returns-then-g c = c.take_name.ensures
+pub slice_bounds-body-count : goal.slice_bounds-body-count
+slice_bounds-body-count c = let b = c.requires.t.1.body _ c.in_ok-marked.was in omega (arith, b.order)
+
+pub slice_bounds-body-start : goal.slice_bounds-body-start
+slice_bounds-body-start c = let b = c.requires.t.1.body _ c.in_ok-marked.was in omega (arith, b.order)
+
+pub slice_bounds-body-end : goal.slice_bounds-body-end
+slice_bounds-body-end c = let b = c.requires.t.1.body _ c.in_ok-marked.was in omega (arith, b.order, b.inside)
+
+pub span_for-span-requires : goal.span_for-span-requires
+span_for-span-requires c =
+    let p = c.requires.t in
+    let b = p.1.body _ c.in_ok-marked.was in
+    record { readable = (b.reads, b.begins); t = (ref-known _ p.0, (ref-owner _ p.0, b.sorted)); spanned = λ sp e k. b.spans sp e }
+
+pub stands-requires-clause-rank_value : goal.stands-requires-clause-rank_value
+stands-requires-clause-rank_value c = ((named-form _ _ _ c.in_ok-named.was c.name_of.ensures).rank_is, c.first_below-first.ensures)
+
+pub returns-then-stands : goal.returns-then-stands
+returns-then-stands c =
+    let sp = c.span_for-span.ensures in
+    name-twice c.args.s.now c.args.g.now c.args.at c.args.next c.args.key c.requires.t.0 _ (named-form _ _ _ c.in_ok-named.was c.name_of.ensures) _ c.in_ok-marked.was _ sp.0 sp.1 (not-true _ _ c.stands.ensures c.if-stands.true)
+
+pub returns : goal.returns
+returns c =
+    let sp = c.span_for-span.ensures in
+    name-good c.args.s.now c.args.g.now c.args.at c.args.next c.args.key c.requires.t.0 _ (named-form _ _ _ c.in_ok-named.was c.name_of.ensures) _ c.in_ok-marked.was _ sp.0 sp.1 c.requires.t.1 c.requires.item_stands.head (omega arith)
+    c.first_below-first.result c.if-named-eq0.false (not-false _ _ c.stands.ensures c.if-stands.false)

@@ -7,13 +7,13 @@ pub returns-then-kind-run : goal.returns-then-kind-run
 returns-then-kind-run c =
     says-lower _ _ _ _ _ c.requires.start_value.0 c.requires.start_value.1 c.if-kind-run.true
 
-pub returns-then-kind-eq-EXTENT_OWNER_REF : goal.returns-then-kind-eq-EXTENT_OWNER_REF
-returns-then-kind-eq-EXTENT_OWNER_REF c =
-    says-owner _ _ _ _ _ c.requires.start_value.0 c.requires.start_value.1 _ c.weight_at-weight.ensures c.requires.t.1 c.if-kind-run.false c.if-kind-eq-EXTENT_OWNER_REF.true
+pub returns-then-kind : goal.returns-then-kind
+returns-then-kind c =
+    says-owner _ _ _ _ _ c.requires.start_value.0 c.requires.start_value.1 _ c.weight_at-weight.ensures c.requires.t.1 c.if-kind-run.false c.if-kind.true
 
 pub returns-then-weight-eq0 : goal.returns-then-weight-eq0
 returns-then-weight-eq0 c =
-    says-light _ _ _ _ _ c.requires.start_value.0 c.requires.start_value.1 _ c.weight_at-weight.ensures c.if-kind-eq-EXTENT_OWNER_REF.false c.if-weight-eq0.true
+    says-light _ _ _ _ _ c.requires.start_value.0 c.requires.start_value.1 _ c.weight_at-weight.ensures c.if-kind.false c.if-weight-eq0.true
 
 pub returns-then-run-kind : goal.returns-then-run-kind
 returns-then-run-kind c =
@@ -22,11 +22,11 @@ returns-then-run-kind c =
 pub follow-requires : goal.follow-requires
 follow-requires c =
     let a = c.args in
-    let k : a.kind ≡ a.run.kind = omega (arith, c.if-kind-run.false, c.if-run-kind.false) in
-    let r = of-kind a.body.now a.start a.kind a.run.kind _ k c.requires.t.0 c.if-kind-eq-EXTENT_OWNER_REF.false c.requires.t.1 c.weight_at-weight.ensures in record { t = (r.0, (r.1.0, c.if-weight-eq0.false)); start_value = (c.requires.start_value.0, (r.1.1.0, c.requires.start_value.1)); weight_value = (r.1.1.1, c.requires.body_len_bound) }
+    let k : a.reference.kind ≡ a.run.kind = omega (arith, c.if-kind-run.false, c.if-run-kind.false) in
+    let r = of-kind a.body.now a.reference.start a.reference.kind a.run.kind _ k c.requires.t.0 c.if-kind.false c.requires.t.1 c.weight_at-weight.ensures in record { t = (r.0, (r.1.0, c.if-weight-eq0.false)); start_value = (c.requires.start_value.0, (r.1.1.0, c.requires.start_value.1)); weight_value = (r.1.1.1, c.requires.body_len_bound) }
 
 pub returns : goal.returns
 returns c =
     let a = c.args in
-    let k : a.kind ≡ a.run.kind = omega (arith, c.if-kind-run.false, c.if-run-kind.false) in
-    as-kind a.body.now a.run a.start a.kind a.run.kind _ k c.follow.ensures
+    let k : a.reference.kind ≡ a.run.kind = omega (arith, c.if-kind-run.false, c.if-run-kind.false) in
+    as-kind a.body.now a.run a.reference.start a.reference.kind a.run.kind _ k c.follow.ensures
