@@ -171,14 +171,14 @@ module _ (s : List ℕ) (g : Group) (at next : ℕ) (key : Key) (rec : T (is_rec
           let n : length inner ≡ next - (at + 21) = length_part (next - (at + 21)) (at + 21) s (omega arith) in
           let y = taken-by (tally_of s g) (item_of s at next key) rec (body_from key.kind inner h.refs) (read-refs h.refs r) m h.passes in
           let b : GroupBody s mark None =
-              record {
-                order = order;
-                inside = within;
-                begins = opened.inside;
-                reads = record { reads = read_is inner from h.refs r };
-                sorted = subst (λ (k : List Ref). T (ordered k)) (sym f) (sound-out 0 h.refs h.passes).order;
-                spans = λ sp z. let z : ◌≡◌ {A = ℕ} 0 1 = cc in absurd (omega arith);
-              } in (
+          record {
+            order = order;
+            inside = within;
+            begins = opened.inside;
+            reads = record { reads = read_is inner from h.refs r };
+            sorted = subst (λ (k : List Ref). T (ordered k)) (sym f) (sound-out 0 h.refs h.passes).order;
+            spans = λ sp z. let z : ◌≡◌ {A = ℕ} 0 1 = cc in absurd (omega arith);
+          } in (
             y ∙ (λ i. some (record { extent = g.extent; marked = true; refs = sym f i; total = sym q i; weight = sym h.sums i })),
             record { body = λ k e. let z : mark ≡ k = cc in subst (λ (x : Marked). GroupBody s x None) z b; light = omega arith },
           )

@@ -27,16 +27,13 @@ pub fn take_record(
     let start = inline_refs::open_body(key.kind, body).ok()?;
     let weight = crate::weigh_refs(kinds, body, start)?;
     let total = fields::get_u64_le(body, 0);
-    *g = Group {
-        extent: g.extent,
-        marked: Some(Marked {
-            from,
-            to: next,
-            start,
-            total,
-        }),
-        weight,
-        span: None,
-    };
+    g.marked = Some(Marked {
+        from,
+        to: next,
+        start,
+        total,
+    });
+    g.weight = weight;
+    g.span = None;
     Some(())
 }

@@ -124,7 +124,10 @@ fn admit(body: &[u8], run: Run, at: usize, reference: RefAt) -> Option<Admitted>
     ensures { Admitting body.now run (ref_at reference.kind (drop reference.start body.now)) (reference.start + payload_length reference.kind) result }
 {
     let RefAt {
-        kind, start, count, ..
+        kind,
+        start,
+        count,
+        ..
     } = reference;
     if kind < run.kind {
         return None;

@@ -63,13 +63,7 @@ pub fn find_span(kinds: &Kinds, body: &[u8], start: usize, kind: u8) -> Span
 }
 
 // The same where those of one type are known already.
-pub fn span_for(
-    kinds: &Kinds,
-    body: &[u8],
-    start: usize,
-    known: Option<Span>,
-    kind: u8,
-) -> Span
+pub fn span_for(kinds: &Kinds, body: &[u8], start: usize, known: Option<Span>, kind: u8) -> Span
     requires readable { Readable body.now start × (start ≤ length body.now) }
     requires t { T (is_known kind) × ((kind ≡ 172 → ⊥) × T (ordered (refs_from body.now start))) }
     requires spanned { (span : Span) → known ≡ Some span → span.kind ≡ kind → Spanned body.now start span }
