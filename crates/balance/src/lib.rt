@@ -2,6 +2,7 @@
 #![tactic(auto)]
 
 mod group;
+mod item;
 mod marking;
 mod naming;
 mod record;

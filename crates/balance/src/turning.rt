@@ -6,6 +6,7 @@ ghost use Rattle.item_list.specs.Steps.{item_at};
 ghost use Rattle.balance.specs.Groups.{item_of, after, ItemStands, GroupKept, Taking, Turning};
 
 use crate::group::Group;
+use crate::item::ItemAt;
 use crate::{marking, naming};
 use format::{
     EXTENT_DATA_REF, EXTENT_ITEM, Key, METADATA_ITEM, SHARED_BLOCK_REF, SHARED_DATA_REF,
@@ -33,16 +34,16 @@ fn is_ref(key: Key) -> bool
 }
 
 // An item of the extent at hand.
-fn take(kinds: &Kinds, s: &[u8], at: usize, next: usize, key: Key, g: &mut Group) -> Option<()>
-    requires item_stands { ItemStands s.now at next }
-    requires group_kept { GroupKept s.now g.old at }
-    ensures { Taking s.now g.old (item_of s.now at next key) next (after result g.new) }
+fn take(kinds: &Kinds, s: &[u8], item: ItemAt, g: &mut Group) -> Option<()>
+    requires item_stands { ItemStands s.now item.at item.next }
+    requires group_kept { GroupKept s.now g.old item.at }
+    ensures { Taking s.now g.old (item_of s.now item.at item.next item.key) item.next (after result g.new) }
 {
-    if is_record(key) {
-        return marking::take_record(kinds, s, at, next, key, g);
+    if is_record(item.key) {
+        return marking::take_record(kinds, s, item, g);
     }
-    if is_ref(key) {
-        return naming::take_ref(kinds, s, at, next, key, g);
+    if is_ref(item.key) {
+        return naming::take_ref(kinds, s, item, g);
     }
     Some(())
 }
@@ -60,5 +61,5 @@ pub fn turn(kinds: &Kinds, s: &[u8], at: usize, next: usize, g: &mut Group) -> O
         }
         *g = Group::new(key.objectid);
     }
-    take(kinds, s, at, next, key, g)
+    take(kinds, s, ItemAt { at, next, key }, g)
 }
