@@ -35,7 +35,6 @@ use Rattle.balance.proofs.Steps.{read_is}
 use Rattle.balance.specs.Spans.{weighing, weighed_of, Light}
 use Rattle.balance.specs.declared.group.Group.{Group}
 use Rattle.balance.specs.declared.group.Marked.{Marked}
-use Rattle.balance.specs.declared.span.Span.{Span}
 use Rattle.balance.specs.Groups.{item_of, tally_of, GroupBody, Taking}
 
 -- ---- a weight comes from references that read

@@ -11,13 +11,12 @@ use mir.Facts.{not_T}
 use borrow.Author.Tests.{le-leb, lt-leb}
 use Rattle.fields.proofs.Lists.{and-false}
 use Rattle.format.specs.declared.Key.{Key}
-use Rattle.format.specs.References.{known, payload_length, Ref, make_ref}
+use Rattle.format.specs.References.{known, Ref, make_ref}
 use Rattle.format.specs.Items.{Item}
-use Rattle.format.specs.Names.{View, reference, malformed, is_ref_item, view_ref_item, view_of}
+use Rattle.format.specs.Names.{reference, malformed, is_ref_item, view_ref_item, view_of}
 use Rattle.theorems.proofs.Naming.{above-172, naming-known}
 use Rattle.theorems.proofs.Order.{named-yes}
 use Rattle.theorems.proofs.Facts.{view-item}
-use Rattle.inline_refs.specs.declared.ref_name.RefName.{RefName}
 use Rattle.inline_refs.specs.Scans.{kind_of, fields_of, is_wanted}
 use Rattle.balance.specs.Tally.{taken, unnamed}
 use Rattle.balance.proofs.Says.{naming-of}
@@ -35,9 +34,6 @@ ref-known i t = naming-known i.key.kind (naming-of i t)
 
 pub ref-owner : (i : Item) → T (is_ref_item i) → i.key.kind ≡ 172 → ⊥
 ref-owner i t e = let h = above-172 i.key.kind (naming-of i t) in omega arith
-
-pub stride-is : (size kind other : ℕ) → size ≡ 1 + payload_length kind → other ≡ kind → size ≡ 1 + payload_length other
-stride-is size kind other e q = e ∙ ap (λ (k : ℕ). 1 + payload_length k) (sym q)
 
 pub named-form : (i : Item) (r : Option Named) (n : Named) → r ≡ Some n → Naming i r → NamedBy i n
 unfolding Naming

@@ -2,7 +2,7 @@
 use mathlib.Core.Path.{◌≡◌, refl, sym, ap, ap₂, ◌∙◌, subst}
 use Prim.Native.Nat.{ℕ, ◌+◌, ◌≤◌}
 use native.Mathlib.Omega.{arith}
-use mathlib.Core.Bool.{Bool, true, false, not}
+use mathlib.Core.Bool.{Bool, true, false}
 use mathlib.Core.Option.{Option as Tallied}
 use Rattle.std.specs.Prelude.{Option, Some, None}
 use mathlib.Core.List.{List, [], ◌∷◌}
@@ -10,60 +10,17 @@ use lib.Dec.{T, eqb}
 use lib.ListN.{length}
 use borrow.Author.Tests.{eq-eqb, ne_eqb}
 use Rattle.fields.specs.Numbers.{are_bytes}
-use Rattle.fields.proofs.Lists.{by-test}
 use Rattle.format.specs.declared.Key.{Key}
-use Rattle.format.specs.References.{row_in, known}
 use Rattle.format.specs.Items.{Item}
 use Rattle.format.specs.Apply.{is_record}
 use Rattle.format.specs.Names.{is_ref_item, view_of, balanced}
 use Rattle.format.proofs.Items.{sheet-sane}
-use Rattle.theorems.proofs.Naming.{Naming as Kinds, is176, is178, is182, is184}
 use Rattle.item_list.specs.Steps.{item_at, list_items, IsList}
 use Rattle.item_list.proofs.Steps.{WholeAt, data_is}
 use Rattle.balance.specs.Tally.{GroupTally, fresh, closed, taken, here, entered, entry_of, onward, pass}
-use Rattle.balance.proofs.Says.{naming-of}
 use Rattle.balance.proofs.Passing.{pass-balanced}
 use Rattle.balance.specs.declared.group.Group.{Group}
 use Rattle.balance.specs.Groups.{item_of, total_in, tally_of, empty, after, GroupKept, Taking, Turning}
-
-not-both : (b : Bool) → b ≡ true → b ≡ false → ⊥
-not-both b t f = subst (λ (c : Bool). T (not c)) (sym f ∙ t) tt
-
--- ---- by the type
-
-module _ (i : Item) where
-  pub record-168 : i.key.kind ≡ 168 → true ≡ is_record i
-  unfolding is_record
-  record-168 e = rw e refl
-
-  pub record-other : (i.key.kind ≡ 168 → ⊥) → eqb i.key.kind 169 ≡ is_record i
-  unfolding is_record
-  record-other n = rw (ne_eqb _ _ n) refl
-
-  pub ref-176 : i.key.kind ≡ 176 → true ≡ is_ref_item i
-  unfolding is_ref_item known row_in
-  ref-176 e = rw e refl
-
-  pub ref-178 : i.key.kind ≡ 178 → true ≡ is_ref_item i
-  unfolding is_ref_item known row_in
-  ref-178 e = rw e refl
-
-  pub ref-182 : i.key.kind ≡ 182 → true ≡ is_ref_item i
-  unfolding is_ref_item known row_in
-  ref-182 e = rw e refl
-
-  ref-184 : i.key.kind ≡ 184 → true ≡ is_ref_item i
-  unfolding is_ref_item known row_in
-  ref-184 e = rw e refl
-
-  pub ref-other : (i.key.kind ≡ 176 → ⊥) → (i.key.kind ≡ 178 → ⊥) → (i.key.kind ≡ 182 → ⊥) → eqb i.key.kind 184 ≡ is_ref_item i
-  ref-other a b c = by-test (is_ref_item i) (λ q. last (naming-of i (subst T (sym q) tt)) ∙ sym q) (λ q. ne_eqb _ _ (λ e. not-both (is_ref_item i) (sym (ref-184 e)) q) ∙ sym q)
-    where
-      last : Kinds i.key.kind → eqb i.key.kind 184 ≡ true
-      last (is176 q) = absurd (a q)
-      last (is178 q) = absurd (b q)
-      last (is182 q) = absurd (c q)
-      last (is184 q) = eq-eqb _ _ q
 
 -- a test of the key alone, of the item
 module _ (s : List ℕ) (at next : ℕ) (key : Key) (b : Bool) where

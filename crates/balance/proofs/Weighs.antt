@@ -4,7 +4,6 @@ use Prim.Native.Nat.{ℕ, ◌+◌}
 use native.Mathlib.Omega.{arith}
 use mathlib.Core.Bool.{true, false}
 use mathlib.Core.List.{List, [], ◌∷◌}
-use lib.Dec.{T}
 use lib.ListN.{drop}
 use Rattle.fields.specs.Lists.{sum}
 use Rattle.format.specs.Questions.{Answer, refused, absent, remove, accepted, bind}

@@ -6,7 +6,6 @@ use Rattle.format.specs.declared.Key.{Key}
 use Rattle.format.specs.References.{Ref, make_ref, rank_of, ordered}
 use Rattle.format.specs.Items.{Item}
 use Rattle.format.specs.Names.{reference, malformed, view_ref_item, view_of}
-use Rattle.inline_refs.specs.declared.ref_name.RefName.{RefName}
 use Rattle.inline_refs.specs.Scans.{kind_of, fields_of}
 use Rattle.balance.specs.Tally.{GroupTally, taken, pass}
 use Rattle.balance.specs.Ranks.{refs_from, Readable, Spanned}

@@ -27,11 +27,13 @@ slice_bounds-body-start c = let b = c.requires.t.1.body _ c.in_ok-marked.was in 
 pub slice_bounds-body-end : goal.slice_bounds-body-end
 slice_bounds-body-end c = let b = c.requires.t.1.body _ c.in_ok-marked.was in omega (arith, b.order, b.inside)
 
-pub span_for-span-requires : goal.span_for-span-requires
-span_for-span-requires c =
+pub span_for-span-requires-clause-t : goal.span_for-span-requires-clause-t
+span_for-span-requires-clause-t c =
     let p = c.requires.t in
-    let b = p.1.body _ c.in_ok-marked.was in
-    record { readable = (b.reads, b.begins); t = (ref-known _ p.0, (ref-owner _ p.0, b.sorted)); spanned = λ sp e k. b.spans sp e }
+    (ref-known _ p.0, (ref-owner _ p.0, (p.1.body _ c.in_ok-marked.was).sorted))
+
+pub span_for-span-requires-clause-spanned : goal.span_for-span-requires-clause-spanned
+span_for-span-requires-clause-spanned c = λ sp e k. (c.requires.t.1.body _ c.in_ok-marked.was).spans sp e
 
 pub stands-requires-clause-rank_value : goal.stands-requires-clause-rank_value
 stands-requires-clause-rank_value c = ((named-form _ _ _ c.in_ok-named.was c.name_of.ensures).rank_is, c.first_below-first.ensures)

@@ -1,6 +1,4 @@
-use mathlib.Core.Path.{◌≡◌}
-use native.Mathlib.Omega.{arith}
-use Rattle.balance.proofs.Admits.{says-lower, says-owner, says-light, says-higher, of-kind, as-kind}
+use Rattle.balance.proofs.Admits.{says-lower, says-owner, says-light, says-higher}
 use Rattle.balance.proofs.record.admit.Goals as goal
 
 pub returns-then-kind-run : goal.returns-then-kind-run
@@ -18,15 +16,3 @@ returns-then-weight-eq0 c =
 pub returns-then-run-kind : goal.returns-then-run-kind
 returns-then-run-kind c =
     says-higher _ _ _ _ _ c.requires.start_value.0 c.requires.start_value.1 _ c.weight_at-weight.ensures c.requires.t.1 c.if-weight-eq0.false c.if-run-kind.true
-
-pub follow-requires : goal.follow-requires
-follow-requires c =
-    let a = c.args in
-    let k : a.reference.kind ≡ a.run.kind = omega (arith, c.if-kind-run.false, c.if-run-kind.false) in
-    let r = of-kind a.body.now a.reference.start a.reference.kind a.run.kind _ k c.requires.t.0 c.if-kind.false c.requires.t.1 c.weight_at-weight.ensures in record { t = (r.0, (r.1.0, c.if-weight-eq0.false)); start_value = (c.requires.start_value.0, (r.1.1.0, c.requires.start_value.1)); weight_value = (r.1.1.1, c.requires.body_len_bound) }
-
-pub returns : goal.returns
-returns c =
-    let a = c.args in
-    let k : a.reference.kind ≡ a.run.kind = omega (arith, c.if-kind-run.false, c.if-run-kind.false) in
-    as-kind a.body.now a.run a.reference.start a.reference.kind a.run.kind _ k c.follow.ensures

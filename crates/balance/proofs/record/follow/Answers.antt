@@ -1,21 +1,13 @@
 use mathlib.Core.Path.{refl}
 use native.Mathlib.Omega.{arith}
 use Rattle.inline_refs.proofs.Tests.{payload-178 as long-178}
-use Rattle.balance.proofs.Admits.{says-known, says-falls, says_stays, at-kind, as-kind, as-run}
+use Rattle.balance.proofs.Admits.{says-known, says-falls, says_stays, as-run}
 use Rattle.balance.proofs.record.follow.Goals as goal
-
-pub one_more-requires : goal.one_more-requires
-one_more-requires c =
-    let kept = c.requires.start_value.1.1 in
-    omega (arith, kept.reaches (kept.hashed c.if-run.true).0, c.requires.start_value.0, c.requires.start_value.1.0, c.requires.weight_value.1)
 
 pub returns-then-run : goal.returns-then-run
 returns-then-run c =
     as-run _ _ _ _ _ _ _ c.one_more.ensures
     (says-known _ _ _ _ c.requires.start_value.0 c.requires.start_value.1.1 c.if-run.true _ c.requires.weight_value.0 c.requires.t.1.1)
-
-pub last_rank-last-requires : goal.last_rank-last-requires
-last_rank-last-requires c = (c.requires.t.0, c.requires.start_value.1.1.inside)
 
 pub returns-then-own-last : goal.returns-then-own-last
 returns-then-own-last c =
@@ -27,11 +19,7 @@ returns-then-run-ne-EXTENT_DATA_REF c =
     let a = c.args in
     says_stays a.body.now a.run a.at a.run.kind a.start c.requires.start_value.0 c.requires.start_value.1.1 _ c.requires.weight_value.0 c.requires.t.1.0 c.requires.t.1.1 refl _ _ c.last_rank-last.ensures c.rank_at-own.ensures c.if-run-ne-EXTENT_DATA_REF.true c.if-own-last.false
 
-pub join-requires : goal.join-requires
-join-requires c =
+pub join-requires-clause-start_value : goal.join-requires-clause-start_value
+join-requires-clause-start_value c =
     let d = c.if-run-ne-EXTENT_DATA_REF.false in
-    let r = at-kind c.args.body.now c.args.start c.args.run.kind 178 _ _ d c.requires.weight_value.0 c.rank_at-own.ensures in record { kind_value = (d, (c.last_rank-last.ensures, (c.if-own-last.false, c.requires.t.1.1))); start_value = (c.requires.start_value.0, (omega (arith, c.requires.start_value.0, c.requires.start_value.1.0, long-178 _ d), c.requires.start_value.1.1)); weight_value = r; body_len_bound = c.requires.weight_value.1 }
-
-pub returns : goal.returns
-returns c =
-    as-kind c.args.body.now c.args.run c.args.start c.args.run.kind 178 _ c.if-run-ne-EXTENT_DATA_REF.false c.join.ensures
+    (c.requires.start_value.0, (omega (arith, c.requires.start_value.0, c.requires.start_value.1.0, long-178 _ d), c.requires.start_value.1.1))

@@ -6,22 +6,10 @@ use Rattle.balance.proofs.record.join.Goals as goal
 pub returns-then-last-own : goal.returns-then-last-own
 returns-then-last-own c = says-rises c.args.body.now c.args.run c.args.at 178 c.args.start c.requires.start_value.0 c.requires.start_value.1.1 _ c.requires.weight_value.0 no-172 c.requires.kind_value.1.1.1 c.requires.kind_value.0 _ _ c.requires.kind_value.1.0 c.requires.weight_value.1 refl c.if-last-own.true
 
-pub known_in-known-requires : goal.known_in-known-requires
-known_in-known-requires c =
-    (c.requires.body_len_bound, omega (arith, c.requires.start_value.1.1.reaches c.requires.kind_value.0, c.requires.start_value.1.0))
-
-pub stands_twice-requires : goal.stands_twice-requires
-stands_twice-requires c =
-    record { n_value = (c.requires.start_value.1.1.reaches c.requires.kind_value.0, c.requires.start_value.1.0); distinct = (c.known_in-known.ensures.0, c.requires.body_len_bound) }
-
 pub returns-then-stands_twice : goal.returns-then-stands_twice
 returns-then-stands_twice c =
     let e : c.args.own ≡ c.args.last = omega (arith, c.if-last-own.false, c.requires.kind_value.1.1.0) in
     says-twice c.args.body.now c.args.run c.args.at 178 c.args.start c.requires.start_value.0 c.requires.start_value.1.1 _ c.requires.weight_value.0 no-172 c.requires.kind_value.1.1.1 c.requires.kind_value.0 refl (sym c.requires.weight_value.1 ∙ e ∙ c.requires.kind_value.1.0) (not-true _ _ c.stands_twice.ensures c.if-stands_twice.true)
-
-pub one_more-requires : goal.one_more-requires
-one_more-requires c =
-    omega (arith, c.requires.start_value.1.1.reaches c.requires.kind_value.0, c.requires.start_value.1.0, c.requires.body_len_bound)
 
 pub returns : goal.returns
 returns c =

@@ -1,4 +1,4 @@
-use mathlib.Core.Path.{sym, ◌∙◌}
+use mathlib.Core.Path.{◌∙◌}
 use native.Mathlib.Omega.{arith}
 use Rattle.inline_refs.proofs.Steps.{stepped, ended, stopped, ends-within}
 use Rattle.balance.proofs.Ends.{ok-some, ok-none}
@@ -30,11 +30,6 @@ returns-in_err-admitted c =
     let w = stepped _ _ c.step.ensures (ok-some _ c.ok.ensures.value c.in_ok-reference.was) c.in-Some.is in
     weigh-none _ _ _ c.from_residual-in_err-admitted.ensures
     (weigh-no _ _ _ _ _ _ _ w _ _ (admitted-no _ _ _ _ _ c.in_err-admitted.was c.admit.ensures) ∙ c.loop-reference.invariant.0)
-
-pub overflow_add-sum : goal.overflow_add-sum
-overflow_add-sum c =
-    let w = stepped _ _ c.step.ensures (ok-some _ c.ok.ensures.value c.in_ok-reference.was) c.in-Some.is in
-    omega (arith, c.loop-reference.invariant.1.1.0, w.inside, c.requires.0)
 
 pub loop-reference-smaller : goal.loop-reference-smaller
 loop-reference-smaller c =

@@ -15,6 +15,3 @@ returns-then-key-eq-TREE_BLOCK_REF c = block-form _ c.if-key-eq-EXTENT_DATA_REF.
 
 pub returns : goal.returns
 returns c = parent-form _ c.if-key-eq-EXTENT_DATA_REF.false c.if-key-eq-SHARED_DATA_REF.false c.requires c.if-key-eq-TREE_BLOCK_REF.false c.if-payload-ne0.false
-
-pub returns-then-key-eq-EXTENT_DATA_REF : goal.returns-then-key-eq-EXTENT_DATA_REF
-returns-then-key-eq-EXTENT_DATA_REF c = c.data_name.ensures

@@ -1,6 +1,6 @@
 use mathlib.Core.Path.{sym, ap}
 use mathlib.Core.Bool.{not}
-use Rattle.balance.proofs.Halves.{rank_is, named-is, scan-start, scan-end, scan-stop, scan-hit, scan-next}
+use Rattle.balance.proofs.Halves.{rank_is, named-is, scan-start, scan-end, scan-stop, scan-hit}
 use Rattle.balance.proofs.search.stands.Goals as goal
 
 pub loop-j-init : goal.loop-j-init
@@ -17,12 +17,6 @@ returns-then-names c =
     let loop = c.loop-j in
     ap not (sym (scan-hit c.args.body.now c.args.span c.args.wanted c.args.rank c.requires.rank_value.0 loop.j loop.invariant c.loop-j-test.true c.requires.size_value.1 _
     (named-is c.args.body.now c.args.span c.args.wanted c.args.size loop.j _ c.requires.size_value.0 c.names.ensures) c.if-names.true))
-
-pub loop-j-preserved : goal.loop-j-preserved
-loop-j-preserved c =
-    let loop = c.loop-j in
-    scan-next c.args.body.now c.args.span c.args.wanted c.args.rank c.requires.rank_value.0 loop.j loop.invariant c.loop-j-test.true c.requires.size_value.1 _
-    (named-is c.args.body.now c.args.span c.args.wanted c.args.size loop.j _ c.requires.size_value.0 c.names.ensures) c.if-names.false
 
 pub returns : goal.returns
 returns c =

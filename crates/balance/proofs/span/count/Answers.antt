@@ -13,11 +13,6 @@ returns-then-reference-kind c =
     let w = stepped _ _ c.step.ensures (step-some _ c.unwrap_or.ensures c.in-Some.is) refl in
     count-stop _ _ _ _ _ _ _ _ _ _ c.loop-reference.invariant w c.if-reference-kind.true
 
-pub overflow_add-n : goal.overflow_add-n
-overflow_add-n c =
-    let w = stepped _ _ c.step.ensures (step-some _ c.unwrap_or.ensures c.in-Some.is) refl in
-    omega (arith, c.loop-reference.invariant.few, w.inside)
-
 pub loop-reference-smaller : goal.loop-reference-smaller
 loop-reference-smaller c =
     let w = stepped _ _ c.step.ensures (step-some _ c.unwrap_or.ensures c.in-Some.is) refl in

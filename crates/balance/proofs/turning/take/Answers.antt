@@ -1,13 +1,11 @@
 use Rattle.balance.proofs.Turns.{record-yes, ref-yes, take-other}
 use Rattle.balance.proofs.turning.take.Goals as goal
 
-pub take_record-requires : goal.take_record-requires
-take_record-requires c =
-    record { item_stands = c.requires.item_stands; t = record-yes c.args.s.now c.args.item.at c.args.item.next _ _ c.is_record.ensures c.if-is_record.true }
+pub take_record-requires-clause-t : goal.take_record-requires-clause-t
+take_record-requires-clause-t c = record-yes c.args.s.now c.args.item.at c.args.item.next _ _ c.is_record.ensures c.if-is_record.true
 
-pub take_ref-requires : goal.take_ref-requires
-take_ref-requires c =
-    record { item_stands = c.requires.item_stands; t = (ref-yes c.args.s.now c.args.item.at c.args.item.next _ _ c.is_ref.ensures c.if-is_ref.true, c.requires.group_kept) }
+pub take_ref-requires-clause-t : goal.take_ref-requires-clause-t
+take_ref-requires-clause-t c = (ref-yes c.args.s.now c.args.item.at c.args.item.next _ _ c.is_ref.ensures c.if-is_ref.true, c.requires.group_kept)
 
 pub returns : goal.returns
 returns c =

@@ -18,9 +18,6 @@ loop-at-init c =
     let bytes = are_bytes-in c.args.sheet.now (λ i. (c.shared_slice_known-1.given i).fits) in
     (past_first _ (list-some _ c.requires), record { items = _; rest = rest_all _ c.requires; so = pass_all _ _ bytes c.requires c.new-g.ensures }, empty-kept _ _ _ _ c.new-g.ensures)
 
-pub size_after-size-requires : goal.size_after-size-requires
-size_after-size-requires c = let b = c.loop-at.invariant.0 in (b.inside, b.low, b.high)
-
 -- an item is at hand
 more : (s : List ℕ) (at size : ℕ) (items : List Item) → size ≡ item_size_at s at → Rest s at items → at < length s → More s at (at + size) items
 more s at size items e rest inside = subst (λ (k : ℕ). More s at (at + k) items) (sym e) (rest-item s at items rest inside)
