@@ -8,7 +8,7 @@ use Rattle.std.specs.Prelude.{Option, Some, None, Result, Ok, Err}
 use Rattle.std.specs.Result.{result_ok, result_unwrap_or}
 use Rattle.format.specs.Items.{Item}
 use Rattle.balance.specs.declared.group.Group.{Group}
-use Rattle.balance.specs.Groups.{after, Taking}
+use Rattle.balance.specs.Groups.{kept_after, Taking}
 
 -- ---- a result of which the refusal is dropped
 
@@ -39,5 +39,5 @@ module _ {A E : Type 0} where
 
 -- ---- an item that may not stand there
 
-pub not-taken : (s : List ℕ) (g : Group) (i : Item) (next : ℕ) (h : Group) (o : Option (Unit {0})) → o ≡ None → Taking s g i next None → Taking s g i next (after o h)
-not-taken s g i next h o e t = subst (λ (p : Option (Unit {0})). Taking s g i next (after p h)) (sym e) t
+pub not-taken : (s : List ℕ) (g : Group) (i : Item) (next : ℕ) (h : Group) (o : Option (Unit {0})) → o ≡ None → Taking s g i next None → Taking s g i next (kept_after o h)
+not-taken s g i next h o e t = subst (λ (p : Option (Unit {0})). Taking s g i next (kept_after p h)) (sym e) t

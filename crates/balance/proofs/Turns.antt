@@ -20,7 +20,7 @@ use Rattle.item_list.proofs.Steps.{WholeAt, data_is}
 use Rattle.balance.specs.Tally.{GroupTally, fresh, closed, taken, here, entered, entry_of, onward, pass}
 use Rattle.balance.proofs.Passing.{pass-balanced}
 use Rattle.balance.specs.declared.group.Group.{Group}
-use Rattle.balance.specs.Groups.{item_of, total_in, tally_of, empty, after, GroupKept, Taking, Turning}
+use Rattle.balance.specs.Groups.{item_of, marked_total, tally_of, empty, kept_after, GroupKept, Taking, Turning}
 
 -- a test of the key alone, of the item
 module _ (s : List ℕ) (at next : ℕ) (key : Key) (b : Bool) where
@@ -88,11 +88,11 @@ module _ (s : List ℕ) (g : Group) (at next : ℕ) (key : Key) (kis : key ≡ (
   unfolding tally_of
   fresh-is f e = ap (tally_of s) e ∙ ap (λ (k : Key). fresh k.objectid) kis
 
-  closed-is : closed (tally_of s g) ≡ eqb (total_in g.marked) g.weight
+  closed-is : closed (tally_of s g) ≡ eqb (marked_total g.marked) g.weight
   unfolding closed tally_of
   closed-is = refl
 
-  pub enter-new : (f : Group) → f ≡ empty key.objectid → (key.objectid ≡ g.extent → ⊥) → eqb (total_in g.marked) g.weight ≡ true → Enters f
+  pub enter-new : (f : Group) → f ≡ empty key.objectid → (key.objectid ≡ g.extent → ⊥) → eqb (marked_total g.marked) g.weight ≡ true → Enters f
   enter-new f e n c = record {
     kept = empty-kept s f key.objectid at e;
     goes = λ rest.
@@ -100,12 +100,12 @@ module _ (s : List ℕ) (g : Group) (at next : ℕ) (key : Key) (kis : key ≡ (
         ∙ ap₂ (λ (t : GroupTally) (i : Item). onward (pass rest) (taken t (view_of i))) (sym (fresh-is f e)) (sym is-item);
   }
 
-  pub turned : (h : Group) (o : Option (Unit {0})) (r : Group) → Enters h → Taking s h (item_of s at next key) next (after o r) → Turning s g (item_at s at) next (after o r)
+  pub turned : (h : Group) (o : Option (Unit {0})) (r : Group) → Enters h → Taking s h (item_of s at next key) next (kept_after o r) → Turning s g (item_at s at) next (kept_after o r)
   unfolding Taking Turning
   turned h None r w t = λ rest. w.goes rest ∙ ap (λ (o : Tallied GroupTally). onward (pass rest) o) t
   turned h (Some done) r w t = (λ rest. w.goes rest ∙ ap (λ (o : Tallied GroupTally). onward (pass rest) o) t.0, t.1)
 
-  pub turn-open : (key.objectid ≡ g.extent → ⊥) → eqb (total_in g.marked) g.weight ≡ false → Turning s g (item_at s at) next None
+  pub turn-open : (key.objectid ≡ g.extent → ⊥) → eqb (marked_total g.marked) g.weight ≡ false → Turning s g (item_at s at) next None
   unfolding Turning
   turn-open n c = λ rest. pass-open (tally_of s g) (item_at s at) rest (here-no n) (closed-is ∙ c)
 
@@ -123,7 +123,7 @@ pass_all s g t l e =
     let k = sheet-sane s (list_items s) t l.reads in
     ap (λ (h : Group). pass (list_items s) (tally_of s h)) e ∙ pass-balanced (list_items s) k.2 k.0
 
-pub pass-end : (s : List ℕ) (g : Group) (items : List Item) → items ≡ [] → pass items (tally_of s g) ≡ eqb (total_in g.marked) g.weight
+pub pass-end : (s : List ℕ) (g : Group) (items : List Item) → items ≡ [] → pass items (tally_of s g) ≡ eqb (marked_total g.marked) g.weight
 unfolding pass closed tally_of
 pass-end s g items e = ap (λ (l : List Item). pass l (tally_of s g)) e
 
@@ -136,11 +136,11 @@ pub pass-off : (s : List ℕ) (g : Group) (items : List Item) (i : Item) (rest :
 pass-off s g items i rest e f = sym (ap (λ (l : List Item). pass l (tally_of s g)) e ∙ f rest)
 
 -- what the pass says of an item that may stand there, or may not
-module _ (s : List ℕ) (g h : Group) (i : Item) (next : ℕ) (o : Option (Unit {0})) (t : Turning s g i next (after o h)) where
+module _ (s : List ℕ) (g h : Group) (i : Item) (next : ℕ) (o : Option (Unit {0})) (t : Turning s g i next (kept_after o h)) where
   pub turned-on : (done : Unit {0}) → o ≡ Some done → ((rest : List Item) → pass (i ∷ rest) (tally_of s g) ≡ pass rest (tally_of s h)) × GroupKept s h next
   unfolding Turning
-  turned-on done e = subst (λ (p : Option (Unit {0})). Turning s g i next (after p h)) e t
+  turned-on done e = subst (λ (p : Option (Unit {0})). Turning s g i next (kept_after p h)) e t
 
   pub turned-off : o ≡ None → (rest : List Item) → pass (i ∷ rest) (tally_of s g) ≡ false
   unfolding Turning
-  turned-off e = subst (λ (p : Option (Unit {0})). Turning s g i next (after p h)) e t
+  turned-off e = subst (λ (p : Option (Unit {0})). Turning s g i next (kept_after p h)) e t

@@ -42,21 +42,21 @@ Naming i (Some n) = NamedBy i n
 abbrev pub body_of : List ℕ → Marked → List ℕ
 body_of s m = part m.from (m.to - m.from) s
 
-abbrev pub refs_in : List ℕ → Option Marked → List Ref
-refs_in s None = []
-refs_in s (Some m) = refs_from (body_of s m) m.start
+abbrev pub marked_refs : List ℕ → Option Marked → List Ref
+marked_refs s None = []
+marked_refs s (Some m) = refs_from (body_of s m) m.start
 
-abbrev pub total_in : Option Marked → ℕ
-total_in None = 0
-total_in (Some m) = m.total
+abbrev pub marked_total : Option Marked → ℕ
+marked_total None = 0
+marked_total (Some m) = m.total
 
 unfoldable pub tally_of : List ℕ → Group → GroupTally
 tally_of s g =
     record {
       extent = g.extent;
       marked = is_some g.marked;
-      refs = refs_in s g.marked;
-      total = total_in g.marked;
+      refs = marked_refs s g.marked;
+      total = marked_total g.marked;
       weight = g.weight;
     }
 
@@ -78,9 +78,9 @@ abbrev pub empty : ℕ → Group
 empty extent = record { extent = extent; marked = None; weight = 0; span = None }
 
 -- what is kept after an item, if it may stand there
-abbrev pub after : Option (Unit {0}) → Group → Option Group
-after None h = None
-after (Some done) h = Some h
+abbrev pub kept_after : Option (Unit {0}) → Group → Option Group
+kept_after None h = None
+kept_after (Some done) h = Some h
 
 -- an item of the extent at hand, up to `next`: what is kept after it, or that it may not stand there
 unfoldable pub Taking : List ℕ → Group → Item → ℕ → Option Group → Type 0

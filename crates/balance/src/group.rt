@@ -1,6 +1,6 @@
 // What is kept of the extent at hand while its items are read.
 ghost use Rattle.std.specs.Prelude.{◌≡◌, eqb};
-ghost use Rattle.balance.specs.Groups.{empty, total_in};
+ghost use Rattle.balance.specs.Groups.{empty, marked_total};
 
 use crate::Span;
 
@@ -38,7 +38,7 @@ impl Group {
 
     // Whether the record's total is the weight of the references.
     pub fn is_closed(&self) -> bool
-        ensures { result ≡ eqb (total_in self.now.marked) self.now.weight }
+        ensures { result ≡ eqb (marked_total self.now.marked) self.now.weight }
     {
         match self.marked {
             Some(marked) => marked.total == self.weight,

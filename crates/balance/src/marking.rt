@@ -1,7 +1,7 @@
 // The record of an extent.
 ghost use Rattle.std.specs.Prelude.{T};
 ghost use Rattle.format.specs.Apply.{is_record};
-ghost use Rattle.balance.specs.Groups.{item_of, after, ItemStands, Taking};
+ghost use Rattle.balance.specs.Groups.{item_of, kept_after, ItemStands, Taking};
 
 use crate::group::{Group, Marked};
 use crate::item::ItemAt;
@@ -11,7 +11,7 @@ use inline_refs::Kinds;
 pub fn take_record(kinds: &Kinds, s: &[u8], item: ItemAt, g: &mut Group) -> Option<()>
     requires item_stands { ItemStands s.now item.at item.next }
     requires t { T (is_record (item_of s.now item.at item.next item.key)) }
-    ensures { Taking s.now g.old (item_of s.now item.at item.next item.key) item.next (after result g.new) }
+    ensures { Taking s.now g.old (item_of s.now item.at item.next item.key) item.next (kept_after result g.new) }
 {
     if g.marked.is_some() {
         return None;

@@ -1,7 +1,7 @@
 // A reference item of an extent.
 ghost use Rattle.std.specs.Prelude.{T};
 ghost use Rattle.format.specs.Names.{is_ref_item};
-ghost use Rattle.balance.specs.Groups.{item_of, after, ItemStands, GroupKept, Taking};
+ghost use Rattle.balance.specs.Groups.{item_of, kept_after, ItemStands, GroupKept, Taking};
 
 use crate::group::Group;
 use crate::item::ItemAt;
@@ -13,7 +13,7 @@ use inline_refs::Kinds;
 pub fn take_ref(kinds: &Kinds, s: &[u8], item: ItemAt, g: &mut Group) -> Option<()>
     requires item_stands { ItemStands s.now item.at item.next }
     requires t { T (is_ref_item (item_of s.now item.at item.next item.key)) × GroupKept s.now g.old item.at }
-    ensures { Taking s.now g.old (item_of s.now item.at item.next item.key) item.next (after result g.new) }
+    ensures { Taking s.now g.old (item_of s.now item.at item.next item.key) item.next (kept_after result g.new) }
 {
     let from = item.at + ITEM_HEAD;
     let named = reference::name_of(item.key, &s[from..item.next])?;

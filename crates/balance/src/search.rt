@@ -45,10 +45,7 @@ fn middle_of(bounds: Bounds, step: usize) -> usize
 {
     let apart = bounds.high - bounds.low;
     let half = apart - apart / 2;
-    if step < half {
-        return bounds.high - step;
-    }
-    bounds.high - half
+    bounds.high - step.min(half)
 }
 
 // The number of the first reference whose rank is not above `rank`.

@@ -3,7 +3,7 @@ ghost use Rattle.std.specs.Prelude.{◌≡◌, []};
 ghost use Rattle.format.specs.Apply.{is_record};
 ghost use Rattle.format.specs.Names.{is_ref_item};
 ghost use Rattle.item_list.specs.Steps.{item_at};
-ghost use Rattle.balance.specs.Groups.{item_of, after, ItemStands, GroupKept, Taking, Turning};
+ghost use Rattle.balance.specs.Groups.{item_of, kept_after, ItemStands, GroupKept, Taking, Turning};
 
 use crate::group::Group;
 use crate::item::ItemAt;
@@ -37,7 +37,7 @@ fn is_ref(key: Key) -> bool
 fn take(kinds: &Kinds, s: &[u8], item: ItemAt, g: &mut Group) -> Option<()>
     requires item_stands { ItemStands s.now item.at item.next }
     requires group_kept { GroupKept s.now g.old item.at }
-    ensures { Taking s.now g.old (item_of s.now item.at item.next item.key) item.next (after result g.new) }
+    ensures { Taking s.now g.old (item_of s.now item.at item.next item.key) item.next (kept_after result g.new) }
 {
     if is_record(item.key) {
         return marking::take_record(kinds, s, item, g);
@@ -52,7 +52,7 @@ fn take(kinds: &Kinds, s: &[u8], item: ItemAt, g: &mut Group) -> Option<()>
 pub fn turn(kinds: &Kinds, s: &[u8], at: usize, next: usize, g: &mut Group) -> Option<()>
     requires item_stands { ItemStands s.now at next }
     requires at_value { (item_at s.now at ≡ item_of s.now at next (item_at s.now at).key) × GroupKept s.now g.old at }
-    ensures { Turning s.now g.old (item_at s.now at) next (after result g.new) }
+    ensures { Turning s.now g.old (item_at s.now at) next (kept_after result g.new) }
 {
     let key = item_list::key_at(s, at);
     if key.objectid != g.extent {
