@@ -4,23 +4,25 @@ use mathlib.Core.Bool.{Bool, true, false, not, ◌&&◌, cond}
 use mathlib.Core.List.{List, ◌∷◌, ◌++◌}
 use Prim.Native.Nat.{ℕ, ◌+◌, ◌*◌, ◌≤◌, ◌<◌}
 use native.Mathlib.Omega.{arith}
-use lib.Dec.{T, leb, T_not, not_T}
+use lib.Dec.{T, leb, leb→le, T_not, not_T}
 use lib.ListN.{length, length-append}
 use mir.Facts.{and_yes}
 use borrow.Author.Tests.{le-leb, lt-leb}
+use Rattle.std.specs.Prelude.{Option, Some, None, Result, Ok, Err}
 use Rattle.fields.specs.Lists.{all}
 use Rattle.fields.specs.Numbers.{are_bytes}
+use Rattle.fields.proofs.Numbers.{are_bytes-in}
 use Rattle.fields.specs.Parts.{spliced}
 use Rattle.fields.proofs.Lists.{all-mid, all-put, Found, cut-some}
 use Rattle.fields.proofs.Parts.{length-spliced}
 use Rattle.format.specs.declared.Key.{Key}
-use Rattle.format.specs.Questions.{Answer, refused, absent, remove, accepted, ask, bind}
+use Rattle.format.specs.declared.Refusal.{Refusal}
+use Rattle.format.specs.Questions.{Answer, refused, absent, remove, accepted, ask, bind, denied}
 use Rattle.format.specs.Items.{Item, read_sheet, item_bytes, sheet_bytes, on_sheet, nodesize_fits, data_fits}
 use Rattle.format.specs.Sheets.{has_key, inserted, insert, insert_unbounded, space_of}
 use Rattle.format.proofs.Answers.{ask-yes, ask-no}
 use Rattle.format.proofs.Items.{ReadsSheet, sheet, broken, unsorted, read_sheet-decides, length-item_bytes, sane-fit}
 use Rattle.format.proofs.Splices.{sheet-put}
-use Rattle.item_list.specs.declared.Checked.TheVariants.{Count}
 use Rattle.item_list.specs.declared.Sought.{Sought}
 use Rattle.item_list.specs.declared.Sought.TheVariants.{Present, Absent}
 use Rattle.item_list.specs.Steps.{list_items, items_in, checked_of}
@@ -28,8 +30,9 @@ use Rattle.item_list.specs.Seeks.{seek_in}
 use Rattle.item_list.proofs.Reading.{Counted, counted}
 use Rattle.item_list.proofs.Positions.{Sits, sits, Gap, gap, inside-gap}
 use Rattle.item_list.proofs.Spaces.{space-is}
-use Rattle.leaf_edit.specs.declared.InsertAt.TheVariants.{Free, Refused}
-use Rattle.leaf_edit.specs.Insertions.{insert_at, insert_at_of}
+use Rattle.leaf_edit.specs.declared.InsertAt.{InsertAt}
+use Rattle.leaf_edit.proofs.Checks.{Bytes}
+use Rattle.leaf_edit.specs.Insertions.{insert_at, insert_at_of, sizes_fit, put_new}
 
 -- ---- a key that stands
 
@@ -44,34 +47,38 @@ taken new items start end e =
     (not_T (all p items) (λ a.
     T_not (has_key new.key d.hit) (all-mid p d.front d.hit d.back (subst (λ (l : List Item). T (all p l)) f.same a)) f.hit))
 
-at-taken : (new : Item) (k : ℕ) (items : List Item) (t : Sought) → seek_in new.key 1 items ≡ t → insert_at (length items) t ≡ Refused k
-    → inserted new items ≡ refused k
+-- a refusal by its number
+number-is : (k : ℕ) (e : Refusal) → ◌≡◌ {A = Result InsertAt Refusal} (denied k) (Err e) → ◌≡◌ {A = Answer (List Item)} (refused k) (refused e.number)
+number-is k e f = let p : record { number = k } ≡ e = cc in ap (λ (r : Refusal). refused r.number) p
+
+at-taken : (new : Item) (e : Refusal) (items : List Item) (t : Sought) → seek_in new.key 1 items ≡ t → insert_at (length items) t ≡ Err e
+    → inserted new items ≡ refused e.number
 unfolding insert_at
-at-taken new k items (Present start end) f g = taken new items start end f ∙ ap refused (let z : 9 ≡ k = cc in z)
-at-taken new k items (Absent p) f g = let z : ◌≡◌ {A = ℕ} 0 1 = cc in absurd (omega arith)
+at-taken new e items (Present start end) f g = taken new items start end f ∙ number-is 9 e g
+at-taken new e items (Absent p) f g = let z : ◌≡◌ {A = ℕ} 0 1 = cc in absurd (omega arith)
 
 -- ---- refusals before the position
 
-target-refused : (s : List ℕ) (new : Item) (three : Bool) (k : ℕ) → insert_at_of new.key three (read_sheet s) ≡ Refused k
-    → on_sheet s three (inserted new) ≡ refused k
+target-refused : (s : List ℕ) (new : Item) (three : Bool) (e : Refusal) → insert_at_of new.key three (read_sheet s) ≡ Err e
+    → on_sheet s three (inserted new) ≡ refused e.number
 unfolding insert_at_of on_sheet bind ask
-target-refused s new three k e = go (read_sheet-decides s)
+target-refused s new three e h = go (read_sheet-decides s)
   where
     next : Bool → Answer (List Item) → Answer (List Item)
     next b r = bind r (λ items. ask b 3 (inserted new items))
 
-    target-of : (r : Answer (List Item)) → read_sheet s ≡ r → insert_at_of new.key three r ≡ Refused k
-    target-of r h = sym (ap (insert_at_of new.key three) h) ∙ e
+    target-of : (r : Answer (List Item)) → read_sheet s ≡ r → insert_at_of new.key three r ≡ Err e
+    target-of r f = sym (ap (insert_at_of new.key three) f) ∙ h
 
-    by : (items : List Item) (b : Bool) → cond b (insert_at (length items) (seek_in new.key 1 items)) (Refused 3) ≡ Refused k
-        → ask b 3 (inserted new items) ≡ refused k
-    by items true f = at-taken new k items (seek_in new.key 1 items) refl f
-    by items false f = ap refused (let z : 3 ≡ k = cc in z)
+    by : (items : List Item) (b : Bool) → cond b (insert_at (length items) (seek_in new.key 1 items)) (denied 3) ≡ Err e
+        → ask b 3 (inserted new items) ≡ refused e.number
+    by items true f = at-taken new e items (seek_in new.key 1 items) refl f
+    by items false f = number-is 3 e f
 
-    go : ReadsSheet (read_sheet s) → bind (read_sheet s) (λ items. ask three 3 (inserted new items)) ≡ refused k
-    go (sheet items h) = ap (next three) h ∙ by items three (target-of (accepted items) h)
-    go (broken h) = ap (next three) h ∙ ap refused (let f = target-of (refused 1) h in let z : 1 ≡ k = cc in z)
-    go (unsorted h) = ap (next three) h ∙ ap refused (let f = target-of (refused 2) h in let z : 2 ≡ k = cc in z)
+    go : ReadsSheet (read_sheet s) → bind (read_sheet s) (λ items. ask three 3 (inserted new items)) ≡ refused e.number
+    go (sheet items f) = ap (next three) f ∙ by items three (target-of (accepted items) f)
+    go (broken f) = ap (next three) f ∙ number-is 1 e (target-of (refused 1) f)
+    go (unsorted f) = ap (next three) f ∙ number-is 2 e (target-of (refused 2) f)
 
 -- ---- a position that is free
 
@@ -116,26 +123,28 @@ module _ (s : List ℕ) (new : Item) where
         space = space-is (g.front ++ new ∷ g.back) ∙ omega (arith, long, l₃, count, w);
       }
 
-  at-free : T (are_bytes s) → (at n : ℕ) (items : List Item) → read_sheet s ≡ accepted items → (q : Sought) → seek_in new.key 1 items ≡ q
-      → insert_at (length items) q ≡ Free at n → Insertable s new true at n
+  at-free : T (are_bytes s) → (target : InsertAt) (items : List Item) → read_sheet s ≡ accepted items → (q : Sought) → seek_in new.key 1 items ≡ q
+      → insert_at (length items) q ≡ Ok target → Insertable s new true target.at target.count
   unfolding insert_at checked_of items_in
-  at-free t at n items h (Present start end) f g = let z : ◌≡◌ {A = ℕ} 0 1 = cc in absurd (omega arith)
-  at-free t at n items h (Absent p) f g =
-      let same : p ≡ at = cc in
-      let many : length items ≡ n = cc in
-      let c : Counted s n = counted s n t (ap checked_of h ∙ ap Count many) in
-      insertable n c at (ap (λ (x : Answer (List Item)). seek_in new.key 1 (items_in x)) h ∙ f ∙ ap Absent same)
+  at-free t target items h (Present start end) f g = let z : ◌≡◌ {A = ℕ} 0 1 = cc in absurd (omega arith)
+  at-free t target items h (Absent p) f g =
+      let same : ◌≡◌ {A = InsertAt} (record { at = p; count = length items }) target = cc in
+      let c : Counted s target.count = counted s target.count t (ap checked_of h ∙ ap (λ (x : InsertAt). Ok x.count) same) in
+      insertable target.count c target.at
+      (ap (λ (x : Answer (List Item)). seek_in new.key 1 (items_in x)) h ∙ f ∙ ap (λ (x : InsertAt). Absent x.at) same)
 
-  pub target_free : T (are_bytes s) → (three : Bool) (at n : ℕ) → insert_at_of new.key three (read_sheet s) ≡ Free at n → Insertable s new three at n
+  target_free : T (are_bytes s) → (three : Bool) (target : InsertAt) → insert_at_of new.key three (read_sheet s) ≡ Ok target
+      → Insertable s new three target.at target.count
   unfolding insert_at_of
-  target_free t three at n e = go (read_sheet s) refl three e
+  target_free t three target e = go (read_sheet s) refl three e
     where
-      go : (r : Answer (List Item)) → read_sheet s ≡ r → (three : Bool) → insert_at_of new.key three r ≡ Free at n → Insertable s new three at n
+      go : (r : Answer (List Item)) → read_sheet s ≡ r → (three : Bool) → insert_at_of new.key three r ≡ Ok target
+          → Insertable s new three target.at target.count
       go (refused k) h b f = let z : ◌≡◌ {A = ℕ} 0 1 = cc in absurd (omega arith)
       go absent h b f = let z : ◌≡◌ {A = ℕ} 0 1 = cc in absurd (omega arith)
       go remove h b f = let z : ◌≡◌ {A = ℕ} 0 1 = cc in absurd (omega arith)
       go (accepted items) h false f = let z : ◌≡◌ {A = ℕ} 0 1 = cc in absurd (omega arith)
-      go (accepted items) h true f = at-free t at n items h (seek_in new.key 1 items) refl f
+      go (accepted items) h true f = at-free t target items h (seek_in new.key 1 items) refl f
 
 -- ---- insert: question 18 after the position
 
@@ -161,10 +170,10 @@ module _ (nodesize : ℕ) (s : List ℕ) (new : Item) where
   unfolding insert
   insert-is = after-target s three (inserted new) (λ result. ask (leb (space_of result) nodesize) 18 (accepted result))
 
-  insert-refused : (k : ℕ) → insert_at_of new.key three (read_sheet s) ≡ Refused k → insert nodesize s new ≡ refused k
+  insert-refused : (e : Refusal) → insert_at_of new.key three (read_sheet s) ≡ Err e → insert nodesize s new ≡ refused e.number
   unfolding bind
-  insert-refused k e =
-      insert-is ∙ ap (λ (x : Answer (List Item)). bind x (λ result. ask (leb (space_of result) nodesize) 18 (accepted result))) (target-refused s new three k e)
+  insert-refused e h =
+      insert-is ∙ ap (λ (x : Answer (List Item)). bind x (λ result. ask (leb (space_of result) nodesize) 18 (accepted result))) (target-refused s new three e h)
 
   module _ (at n : ℕ) (i : Insertable s new three at n) where
     insert-then : insert nodesize s new ≡ ask (leb (125 + length s + 4 * n + length new.bytes) nodesize) 18 (accepted i.items)
@@ -184,50 +193,66 @@ module _ (nodesize : ℕ) (s : List ℕ) (new : Item) where
     fits-new : T (data_fits new.bytes)
     fits-new = (and_yes (nodesize_fits nodesize) _ (subst T (sym i.three-is) tt)).1
 
--- ---- both inserts: question 18 is asked where the new item is bounded
+-- ---- both inserts: question 18 is asked where there is a nodesize
 
-module _ (nodesize : ℕ) (s : List ℕ) (new : Item) where
-  abbrev pub sizes_fit : Bool → Bool
-  sizes_fit bounded = cond bounded (nodesize_fits nodesize && data_fits new.bytes) (data_fits new.bytes)
+module _ (s : List ℕ) (new : Item) where
+  -- question 3 of the new item
+  abbrev pub fit : Option ℕ → Bool
+  fit o = sizes_fit o (length new.bytes)
 
-  abbrev pub put_new : Bool → Answer (List Item)
-  put_new bounded = cond bounded (insert nodesize s new) (insert_unbounded s new)
+  put_refused : (o : Option ℕ) (e : Refusal) → insert_at_of new.key (fit o) (read_sheet s) ≡ Err e → put_new o s new ≡ refused e.number
+  unfolding insert_unbounded data_fits
+  put_refused (Some nodesize) e h = insert-refused nodesize s new e h
+  put_refused None e h = target-refused s new (data_fits new.bytes) e h
 
-  pub put_refused : (bounded : Bool) (k : ℕ) → insert_at_of new.key (sizes_fit bounded) (read_sheet s) ≡ Refused k → put_new bounded ≡ refused k
-  unfolding insert_unbounded
-  put_refused true k e = insert-refused nodesize s new k e
-  put_refused false k e = target-refused s new (data_fits new.bytes) k e
+  -- the same from what the code has asked: `three` is the answer of question 3, and `r` that of the position
+  module _ (o : Option ℕ) {three : Bool} {r : Result InsertAt Refusal} (asks : three ≡ fit o) (told : r ≡ insert_at_of new.key three (read_sheet s)) where
+    told-by : r ≡ insert_at_of new.key (fit o) (read_sheet s)
+    told-by = told ∙ ap (λ (b : Bool). insert_at_of new.key b (read_sheet s)) asks
 
-  pub put-fits : (bounded : Bool) (at n : ℕ) → Insertable s new (sizes_fit bounded) at n → T (data_fits new.bytes)
-  put-fits true at n i = fits-new nodesize s new at n i
-  put-fits false at n i = subst T (sym i.three-is) tt
+    pub put-broken : {e : Refusal} → r ≡ Err e → put_new o s new ≡ refused e.number
+    put-broken w = put_refused o _ (sym told-by ∙ w)
 
-  pub put-large : (bounded : Bool) (at n : ℕ) → Insertable s new (sizes_fit bounded) at n → bounded ≡ true
-      → nodesize < 125 + length s + 4 * n + length new.bytes
-      → put_new bounded ≡ refused 18
-  put-large true at n i b h = insert-large nodesize s new at n i h
-  put-large false at n i b h = let z : ◌≡◌ {A = ℕ} 0 1 = cc in absurd (omega arith)
+    pub placed : {target : InsertAt} → Bytes s → r ≡ Ok target → Insertable s new (fit o) target.at target.count
+    placed f w = target_free s new (are_bytes-in s (λ i. (f i).fits)) (fit o) _ (sym told-by ∙ w)
 
-  pub put-within : (bounded : Bool) (at n : ℕ) (i : Insertable s new (sizes_fit bounded) at n) → bounded ≡ true
-      → 125 + length s + 4 * n + length new.bytes ≤ nodesize
-      → put_new bounded ≡ accepted i.items
-  put-within true at n i b h = insert-done nodesize s new at n i h
-  put-within false at n i b h = let z : ◌≡◌ {A = ℕ} 0 1 = cc in absurd (omega arith)
+  module _ (at n : ℕ) where
+    pub put-fits : (o : Option ℕ) → Insertable s new (fit o) at n → T (data_fits new.bytes)
+    unfolding data_fits
+    put-fits (Some nodesize) i = fits-new nodesize s new at n i
+    put-fits None i = subst T (sym i.three-is) tt
 
-  pub put-unbounded : (bounded : Bool) (at n : ℕ) (i : Insertable s new (sizes_fit bounded) at n) → bounded ≡ false
-      → put_new bounded ≡ accepted i.items
-  unfolding insert_unbounded
-  put-unbounded true at n i b = let z : ◌≡◌ {A = ℕ} 0 1 = cc in absurd (omega arith)
-  put-unbounded false at n i b = i.result
+    pub put-short : (o : Option ℕ) → Insertable s new (fit o) at n → length new.bytes ≤ 65535
+    unfolding data_fits
+    put-short o i = leb→le _ _ (put-fits o i)
+
+    pub put-large : (o : Option ℕ) (nodesize : ℕ) → Insertable s new (fit o) at n → o ≡ Some nodesize
+        → nodesize < 125 + length s + 4 * n + length new.bytes
+        → put_new o s new ≡ refused 18
+    unfolding data_fits
+    put-large (Some m) nodesize i e h = let same : m ≡ nodesize = cc in insert-large m s new at n i (omega (arith, same))
+    put-large None nodesize i e h = let z : ◌≡◌ {A = ℕ} 0 1 = cc in absurd (omega arith)
+
+    pub put-within : (o : Option ℕ) (nodesize : ℕ) (i : Insertable s new (fit o) at n) → o ≡ Some nodesize
+        → 125 + length s + 4 * n + length new.bytes ≤ nodesize
+        → put_new o s new ≡ accepted i.items
+    unfolding data_fits
+    put-within (Some m) nodesize i e h = let same : m ≡ nodesize = cc in insert-done m s new at n i (omega (arith, same))
+    put-within None nodesize i e h = let z : ◌≡◌ {A = ℕ} 0 1 = cc in absurd (omega arith)
+
+    pub put-unbounded : (o : Option ℕ) (i : Insertable s new (fit o) at n) → o ≡ None → put_new o s new ≡ accepted i.items
+    unfolding insert_unbounded data_fits
+    put-unbounded (Some m) i e = let z : ◌≡◌ {A = ℕ} 0 1 = cc in absurd (omega arith)
+    put-unbounded None i e = i.result
 
 -- ---- the position, as code finds it
 
-pub target-broken : (s : List ℕ) (key : Key) (three : Bool) (k : ℕ) → read_sheet s ≡ refused k → Refused k ≡ insert_at_of key three (read_sheet s)
+pub target-broken : (s : List ℕ) (key : Key) (three : Bool) (k : ℕ) → read_sheet s ≡ refused k → denied k ≡ insert_at_of key three (read_sheet s)
 unfolding insert_at_of
 target-broken s key three k e = rw e
 
 module _ (s : List ℕ) (n : ℕ) (c : Counted s n) (key : Key) (three : Bool) where
-  pub target-three : three ≡ false → Refused 3 ≡ insert_at_of key three (read_sheet s)
+  pub target-three : three ≡ false → denied 3 ≡ insert_at_of key three (read_sheet s)
   unfolding insert_at_of
   target-three h = rw (c.reads, h)
 
@@ -236,10 +261,10 @@ module _ (s : List ℕ) (n : ℕ) (c : Counted s n) (key : Key) (three : Bool) w
     unfolding insert_at_of
     target-sought t e = rw (c.reads, h, e, c.count)
 
-    pub target-taken : (start end : ℕ) → seek_in key 1 (list_items s) ≡ Present start end → Refused 9 ≡ insert_at_of key three (read_sheet s)
+    pub target-taken : (start end : ℕ) → seek_in key 1 (list_items s) ≡ Present start end → denied 9 ≡ insert_at_of key three (read_sheet s)
     unfolding insert_at
     target-taken start end e = target-sought (Present start end) e
 
-    pub target-open : (at : ℕ) → seek_in key 1 (list_items s) ≡ Absent at → Free at n ≡ insert_at_of key three (read_sheet s)
+    pub target-open : (at : ℕ) → seek_in key 1 (list_items s) ≡ Absent at → Ok (record { at = at; count = n }) ≡ insert_at_of key three (read_sheet s)
     unfolding insert_at
     target-open at e = target-sought (Absent at) e

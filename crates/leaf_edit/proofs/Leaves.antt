@@ -9,6 +9,7 @@ use lib.Dec.{T, leb, ltb, lt→ltb}
 use lib.ListN.{length}
 use mir.Facts.{and_yes, yes_and}
 use borrow.Author.Tests.{le-leb, lt-leb}
+use Rattle.std.specs.Prelude.{Ok}
 use Rattle.fields.specs.Lists.{all}
 use Rattle.fields.proofs.Lists.{T-eq, some_inj, no-some}
 use Rattle.format.specs.Questions.{Answer, refused, accepted, ask, bind}
@@ -18,7 +19,9 @@ use Rattle.format.proofs.Items.{nodesize-out}
 use Rattle.item_list.specs.Steps.{list_items}
 use Rattle.item_list.proofs.Reading.{Counted}
 use Rattle.item_list.proofs.Spaces.{space-sheet}
-use Rattle.leaf_edit.specs.Division.{Sized, fits_alone}
+use Rattle.leaf_edit.specs.declared.division.Division.{Division}
+use Rattle.leaf_edit.specs.declared.division.Division.TheVariants.{TwoWay, Leaves}
+use Rattle.leaf_edit.specs.Division.{Sized, fits_alone, Divided}
 
 -- ---- the best cut
 
@@ -48,7 +51,7 @@ module _ (n : ℕ) (items : List Item) where
   unfolding cuts cuts_of
   cuts-filled e = rw e
 
-  pub cut_inside : (at : ℕ) → best_cut n items (length items - 1) ≡ some at → (1 ≤ at) × (at < length items)
+  cut_inside : (at : ℕ) → best_cut n items (length items - 1) ≡ some at → (1 ≤ at) × (at < length items)
   cut_inside at e =
       let r = best-range n items (length items - 1) at e in
       let p = r.0 in
@@ -127,15 +130,29 @@ module _ (n : ℕ) (s : List ℕ) (m : ℕ) (c : Sized s m) (h : nodesize_fits n
     unfolding split_to_fit on_sheet bind
     done l = ap (λ (x : Answer (List Item)). bind x (asked n)) c.listed.reads ∙ all_yes n (list_items s) h e l
 
-    pub to-fit-cut : (at : ℕ) → best_cut n (list_items s) (length (list_items s) - 1) ≡ some at → split_to_fit n s ≡ accepted (at ∷ [])
+    to-fit-cut : (at : ℕ) → best_cut n (list_items s) (length (list_items s) - 1) ≡ some at → split_to_fit n s ≡ accepted (at ∷ [])
     to-fit-cut at f =
         let r = cut_inside n (list_items s) at f in
         let p = r.0 in
         let q = r.1 in
         done (omega arith) ∙ ap accepted (cuts-one n (list_items s) at f)
 
-    pub to-fit-filled : 2 ≤ m → best_cut n (list_items s) (length (list_items s) - 1) ≡ none → split_to_fit n s ≡ accepted (filled n 0 101 (list_items s))
+    to-fit-filled : 2 ≤ m → best_cut n (list_items s) (length (list_items s) - 1) ≡ none → split_to_fit n s ≡ accepted (filled n 0 101 (list_items s))
     to-fit-filled l f = let k = c.count-is in done (omega arith) ∙ ap accepted (cuts-filled n (list_items s) f)
+
+  -- what the measuring pass answers, where it does not refuse
+  module _ (d : Division) (w : Divided n (list_items s) (Ok d)) where
+    pub two_are : (at : ℕ) → d ≡ TwoWay at → (split_to_fit n s ≡ accepted (at ∷ [])) × (at < length (list_items s))
+    two_are at e =
+        let k = subst (λ (x : Division). Divided n (list_items s) (Ok x)) e w in
+        (to-fit-cut k.0 at k.1, (cut_inside n (list_items s) at k.1).1)
+
+    pub more_are : (leaves : ℕ) → d ≡ Leaves leaves
+        → (all (fits_alone n) (list_items s) ≡ true) × (leaves ≡ length (filled n 0 101 (list_items s)))
+        × (2 ≤ m → split_to_fit n s ≡ accepted (filled n 0 101 (list_items s)))
+    more_are leaves e =
+        let k = subst (λ (x : Division). Divided n (list_items s) (Ok x)) e w in
+        (k.0, k.2, λ l. to-fit-filled k.0 l k.1)
 
 pub node-small : (n : ℕ) → nodesize_fits n ≡ true → n ≤ 65536
 node-small n e = (nodesize-out n (subst T (sym e) tt)).1

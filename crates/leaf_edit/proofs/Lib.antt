@@ -1,3 +1,4 @@
+pub mod Checks
 pub mod Splits
 pub mod Leaves
 pub mod Running

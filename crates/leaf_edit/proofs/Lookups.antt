@@ -9,6 +9,7 @@ use native.Mathlib.Nat.{zero-add}
 use lib.ListN.{length, take, get_elem?}
 use Rattle.fields.specs.Lists.{sum}
 use Rattle.fields.specs.Parts.{part}
+use Rattle.item_list.specs.declared.ItemPlace.{ItemPlace}
 use Rattle.format.specs.Questions.{Answer, refused, accepted, ask, bind, needed}
 use Rattle.format.specs.Items.{Item, read_sheet, on_sheet}
 use Rattle.format.specs.Sheets.{item_data, item_start}
@@ -59,15 +60,16 @@ module _ (s : List ℕ) (index n : ℕ) (l : Lacking (passing (Index index)) s n
 pub record Stored (s : List ℕ) (index start end : ℕ) : Type 0 where
   pub is : item_data s index ≡ accepted (part (start + 21) (end - (start + 21)) s)
   pub start_of : item_start s index ≡ accepted (start + 21)
-  pub long : length (part (start + 21) (end - (start + 21)) s) ≡ end - (start + 21)
   pub ordered : start + 21 ≤ end
   pub within : end ≤ length s
 
-pub stored : (s : List ℕ) (index n m start end : ℕ) → Located (passing (Index index)) s n m start end → Stored s index start end
+pub stored : (s : List ℕ) (index n : ℕ) (place : ItemPlace) → Located (passing (Index index)) s n place → Stored s index place.start place.end
 unfolding bind needed passing
-stored s index n m start end l =
+stored s index n place l =
+    let start = place.start in
+    let end = place.end in
     let c = l.list in
-    let t : Numbered (list_items s) index 1 start end = indexed-at index 0 index 1 (list_items s) m start end (sym (zero-add index)) l.position in
+    let t : Numbered (list_items s) index 1 start end = indexed-at index 0 index 1 (list_items s) place (sym (zero-add index)) l.position in
     let i : Inside s t.front t.hit start end =
     inside s (list_items s) t.front t.hit t.back start end c.bytes-are t.same t.stands in
     let size : length t.hit.bytes ≡ end - (start + 21) = let a = i.starts in let b = i.ends in omega arith in
@@ -80,7 +82,6 @@ stored s index n m start end l =
     record {
       is = item-is s index n c (some t.hit) t.is ∙ ap accepted same;
       start_of = start_is s index n c (some t.hit) t.is ∙ ap accepted first;
-      long = sym (ap length same) ∙ size;
       ordered = i.ordered;
       within = i.within;
     }

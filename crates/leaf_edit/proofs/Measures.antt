@@ -6,38 +6,38 @@ use Prim.Native.Nat.{ℕ, ◌+◌, ◌*◌}
 use native.Mathlib.Omega.{arith}
 use lib.Dec.{leb}
 use lib.ListN.{length}
-use Rattle.format.specs.declared.Judged.TheVariants.{Says, Refused}
-use Rattle.format.specs.Questions.{refused, ask, bind, judged_of}
+use Rattle.std.specs.Prelude.{Ok}
+use Rattle.format.specs.Questions.{refused, ask, bind, denied, told_of}
 use Rattle.format.specs.Items.{read_sheet, on_sheet, nodesize_fits, data_fits}
 use Rattle.format.specs.Sheets.{fit, fits}
 use Rattle.item_list.proofs.Reading.{Counted}
 use Rattle.item_list.proofs.Spaces.{space-sheet}
 
 module _ (nodesize : ℕ) (s : List ℕ) (k : ℕ) (e : read_sheet s ≡ refused k) where
-  pub fit_refused : Refused k ≡ judged_of (fit nodesize s)
-  unfolding fit on_sheet bind judged_of
+  pub fit_refused : denied k ≡ told_of (fit nodesize s)
+  unfolding fit on_sheet bind told_of
   fit_refused = rw e
 
-  pub fits_refused : (bytes : List ℕ) → Refused k ≡ judged_of (fits nodesize s bytes)
-  unfolding fits on_sheet bind judged_of
+  pub fits_refused : (bytes : List ℕ) → denied k ≡ told_of (fits nodesize s bytes)
+  unfolding fits on_sheet bind told_of
   fits_refused bytes = rw e
 
 module _ (nodesize : ℕ) (s : List ℕ) (n : ℕ) (c : Counted s n) where
-  pub fit-no : nodesize_fits nodesize ≡ false → Refused 3 ≡ judged_of (fit nodesize s)
-  unfolding fit on_sheet bind ask judged_of
+  pub fit-no : nodesize_fits nodesize ≡ false → denied 3 ≡ told_of (fit nodesize s)
+  unfolding fit on_sheet bind ask told_of
   fit-no h = rw (c.reads, h)
 
-  pub fit-says : nodesize_fits nodesize ≡ true → Says (leb (100 + length s + 4 * n) nodesize) ≡ judged_of (fit nodesize s)
-  unfolding fit on_sheet bind ask judged_of
+  pub fit-says : nodesize_fits nodesize ≡ true → Ok (leb (100 + length s + 4 * n) nodesize) ≡ told_of (fit nodesize s)
+  unfolding fit on_sheet bind ask told_of
   fit-says h = rw (c.reads, h, space-sheet s n c)
 
-  pub fits-no : (bytes : List ℕ) → (nodesize_fits nodesize && data_fits bytes) ≡ false → Refused 3 ≡ judged_of (fits nodesize s bytes)
-  unfolding fits on_sheet bind ask judged_of
+  pub fits-no : (bytes : List ℕ) → (nodesize_fits nodesize && data_fits bytes) ≡ false → denied 3 ≡ told_of (fits nodesize s bytes)
+  unfolding fits on_sheet bind ask told_of
   fits-no bytes h = rw (c.reads, h)
 
   pub fits-says : (bytes : List ℕ) → (nodesize_fits nodesize && data_fits bytes) ≡ true
-      → Says (leb (125 + length s + 4 * n + length bytes) nodesize) ≡ judged_of (fits nodesize s bytes)
-  unfolding fits on_sheet bind ask judged_of
+      → Ok (leb (125 + length s + 4 * n + length bytes) nodesize) ≡ told_of (fits nodesize s bytes)
+  unfolding fits on_sheet bind ask told_of
   fits-says bytes h =
       let e : 125 + length s + 4 * n + length bytes ≡ 100 + length s + 4 * n + (25 + length bytes) = omega arith in
       rw (c.reads, h, space-sheet s n c, e)

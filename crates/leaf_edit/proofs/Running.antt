@@ -1,7 +1,7 @@
 -- Running sizes: one pass finds the cut that trying every cut finds. Assumes nothing.
 use mathlib.Core.Path.{◌≡◌, refl, sym, ap, ◌∙◌}
 use mathlib.Core.Bool.{Bool, true, false, ◌&&◌, cond}
-use mathlib.Core.Option.{Option, none, some}
+use mathlib.Core.Option.{Option as Maybe, none, some}
 use mathlib.Core.List.{List, [], ◌∷◌, ◌++◌, append_assoc, append-nil}
 use Prim.Native.Nat.{ℕ, zero, suc, ◌+◌, ◌-◌, ◌*◌, ◌≤◌, ◌<◌}
 use native.Mathlib.Omega.{arith}
@@ -9,6 +9,7 @@ use lib.Dec.{leb, ltb}
 use lib.ListN.{length, take, drop, length-append}
 use lib.Seq.{take_at, drop_at}
 use borrow.Author.Tests.{le-leb, lt-leb, lt-ltb, le-ltb}
+use Rattle.std.specs.Prelude.{Option, Some, None}
 use Rattle.fields.proofs.Lists.{and-false}
 use Rattle.fields.specs.Lists.{all}
 use Rattle.format.specs.Items.{Item}
@@ -17,9 +18,8 @@ use Rattle.item_list.specs.Steps.{item_at, list_items}
 use Rattle.item_list.proofs.Steps.{WholeAt, data-long}
 use Rattle.item_list.proofs.Walks.{More}
 use Rattle.item_list.proofs.Spaces.{space-append, space-cons}
-use Rattle.leaf_edit.specs.declared.division_measure.Cutting.{Cutting}
-use Rattle.leaf_edit.specs.declared.division_measure.Cutting.TheVariants.{Before, Nowhere}
-use Rattle.leaf_edit.specs.Division.{Sized, fits_alone, cutting_of, closest, improved}
+use Rattle.leaf_edit.specs.declared.division_measure.Cut.{Cut}
+use Rattle.leaf_edit.specs.Division.{Sized, fits_alone, cut_of, cutting_of, closest, improved}
 
 -- the space of the item at a position
 pub space-at : (s : List ℕ) (at size : ℕ) → WholeAt s at (at + size) → item_space (item_at s at) ≡ size + 4
@@ -47,7 +47,7 @@ module _ (s : List ℕ) (at size : ℕ) (items : List Item) (r : More s at (at +
 
 -- ---- the better cut, as code tests it
 
-module _ (n left right at : ℕ) (best : Cutting) where
+module _ (n left right at : ℕ) (best : Option Cut) where
   pub keep-first : at < 1 → best ≡ improved n left right at best
   unfolding improved
   keep-first h = rw (lt-leb 1 at h)
@@ -65,28 +65,29 @@ module _ (n left right at : ℕ) (best : Cutting) where
     unfolding improved
     fair = rw (le-leb 1 at h, le-leb left n hl, le-leb right n hr, gap_is)
 
-    pub cut-new : best ≡ Nowhere → Before at gap ≡ improved n left right at best
+    pub cut-new : best ≡ None → Some (cut_of at gap) ≡ improved n left right at best
     unfolding closest
     cut-new e = sym (ap (closest at gap) e) ∙ fair
 
-    pub cut-closer : (other least : ℕ) → best ≡ Before other least → gap < least → Before at gap ≡ improved n left right at best
-    unfolding closest
-    cut-closer other least e x = sym (ap (closest at gap) e ∙ rw (lt-ltb gap least x)) ∙ fair
+    module _ (other : Cut) (e : best ≡ Some other) where
+      pub cut-closer : gap < other.gap → Some (cut_of at gap) ≡ improved n left right at best
+      unfolding closest
+      cut-closer x = sym (ap (closest at gap) e ∙ rw (lt-ltb gap other.gap x)) ∙ fair
 
-    pub cut-kept : (other least : ℕ) → best ≡ Before other least → least ≤ gap → Before other least ≡ improved n left right at best
-    unfolding closest
-    cut-kept other least e x = sym (ap (closest at gap) e ∙ rw (le-ltb gap least x)) ∙ fair
+      pub cut-kept : other.gap ≤ gap → Some other ≡ improved n left right at best
+      unfolding closest
+      cut-kept x = sym (ap (closest at gap) e ∙ rw (le-ltb gap other.gap x)) ∙ fair
 
 -- ---- the better cut, as the definition has it
 
-step_of : (items : List Item) (at : ℕ) (b : Bool) (o : Option ℕ)
+step_of : (items : List Item) (at : ℕ) (b : Bool) (o : Maybe ℕ)
     → cond b (closest at (gap_of items at) (cutting_of items o)) (cutting_of items o) ≡ cutting_of items (cond b (closer items o at) o)
 unfolding closest cutting_of closer
 step_of items at false o = refl
 step_of items at true none = refl
 step_of items at true (some other) = go (ltb (gap_of items at) (gap_of items other))
   where
-    go : (b : Bool) → cond b (Before at (gap_of items at)) (Before other (gap_of items other)) ≡ cutting_of items (cond b (some at) (some other))
+    go : (b : Bool) → cond b (Some (cut_of at (gap_of items at))) (Some (cut_of other (gap_of items other))) ≡ cutting_of items (cond b (some at) (some other))
     go true = refl
     go false = refl
 
@@ -107,7 +108,7 @@ best-next n items (suc j) left right l r =
 -- ---- the state of the pass
 
 -- `i` items were passed, which take `left`; the others take `right`
-pub record Passed (n : ℕ) (items : List Item) (i left right : ℕ) (best : Cutting) (rest : List Item) : Type 0 where
+pub record Passed (n : ℕ) (items : List Item) (i left right : ℕ) (best : Option Cut) (rest : List Item) : Type 0 where
   pub front : List Item
   pub same : items ≡ front ++ rest
   pub count : length front ≡ i
@@ -115,18 +116,18 @@ pub record Passed (n : ℕ) (items : List Item) (i left right : ℕ) (best : Cut
   pub right_is : right ≡ space_of rest
   pub best-is : best ≡ cutting_of items (best_cut n items (i - 1))
 
-pub passed_none : (n : ℕ) (s : List ℕ) (count : ℕ) → Sized s count → Passed n (list_items s) 0 101 (100 + length s + 4 * count) Nowhere (list_items s)
+pub passed_none : (n : ℕ) (s : List ℕ) (count : ℕ) → Sized s count → Passed n (list_items s) 0 101 (100 + length s + 4 * count) None (list_items s)
 unfolding space_of best_cut cutting_of
 passed_none n s count z =
     record { front = []; same = refl; count = refl; left_is = refl; right_is = sym z.space-is; best-is = refl }
 
-pub passed-all : (n : ℕ) (items : List Item) (i left right : ℕ) (best : Cutting) (rest : List Item) → Passed n items i left right best rest → rest ≡ []
+pub passed-all : (n : ℕ) (items : List Item) (i left right : ℕ) (best : Option Cut) (rest : List Item) → Passed n items i left right best rest → rest ≡ []
     → best ≡ cutting_of items (best_cut n items (length items - 1))
 passed-all n items i left right best rest p e =
     let all_of : length items ≡ i = ap length (p.same ∙ ap (λ (l : List Item). p.front ++ l) e ∙ append-nil p.front) ∙ p.count in
     p.best-is ∙ ap (λ (k : ℕ). cutting_of items (best_cut n items (k - 1))) (sym all_of)
 
-module _ (n : ℕ) (items : List Item) (i left right : ℕ) (best : Cutting) (s : List ℕ) (at size : ℕ) (rest : List Item)
+module _ (n : ℕ) (items : List Item) (i left right : ℕ) (best : Option Cut) (s : List ℕ) (at size : ℕ) (rest : List Item)
     (p : Passed n items i left right best rest) (m : More s at (at + size) rest) where
   pub space-here : right ≡ (size + 4) + space_of m.others
   space-here =
@@ -148,7 +149,7 @@ module _ (n : ℕ) (items : List Item) (i left right : ℕ) (best : Cutting) (s 
       let k = p.count in
       omega (arith, e, f, k)
 
-  pub passed-next : (better : Cutting) → better ≡ improved n left right i best
+  pub passed-next : (better : Option Cut) → better ≡ improved n left right i best
       → Passed n items (i + 1) (left + (size + 4)) (right - (size + 4)) better m.others
   passed-next better e =
       let x : Item = item_at s at in
@@ -173,10 +174,3 @@ module _ (n : ℕ) (items : List Item) (i left right : ℕ) (best : Cutting) (s 
             ∙ best-next n items i left right (l ∙ ap space_of (sym before)) (p.right_is ∙ ap space_of (sym after))
             ∙ ap (λ (k : ℕ). cutting_of items (best_cut n items k)) (sym back);
       }
-
--- the gap of two sizes, by the larger
-pub gap_up : (left right : ℕ) → left < right → right - left ≡ (left - right) + (right - left)
-gap_up left right h = omega arith
-
-pub gap_down : (left right : ℕ) → right ≤ left → left - right ≡ (left - right) + (right - left)
-gap_down left right h = omega arith

@@ -4,57 +4,44 @@ ghost use Rattle.item_list.specs.Steps.{list_items};
 ghost use Rattle.leaf_edit.specs.Division.{Sized, Divided, improved, chosen};
 
 use crate::Division;
-use format::ITEM_HEAD;
+use format::{ITEM_HEAD, Refusal};
 
-// The best two-way cut so far: the number of the item that it stands before, and its gap.
-#[derive(Drop)]
-enum Cutting {
-    Before { at: usize, gap: usize },
-    Nowhere,
+// A two-way cut: the number of the item that it stands before, and its gap.
+#[derive(Clone, Copy)]
+struct Cut {
+    at: usize,
+    gap: usize,
 }
 
-// The better of the best cut so far and the one before item `i`, whose leaves take `left` and `right`.
-fn improve(nodesize: usize, left: usize, right: usize, i: usize, best: Cutting) -> Cutting
-    ensures { result ≡ improved nodesize left right i best }
+// The better of the best cut so far and the one before item `at`, whose leaves take `left` and `right`.
+fn improve(nodesize: usize, left: usize, right: usize, at: usize, best: Option<Cut>) -> Option<Cut>
+    ensures { result ≡ improved nodesize left right at best }
 {
-    if i < 1 {
+    if at < 1 || nodesize < left || nodesize < right {
         return best;
     }
-    if nodesize < left {
-        return best;
-    }
-    if nodesize < right {
-        return best;
-    }
-    let gap = if left < right {
-        right - left
-    } else {
-        left - right
-    };
-    match best {
-        Cutting::Nowhere => return Cutting::Before { at: i, gap },
-        Cutting::Before { at, gap: least } => {
-            if gap < least {
-                return Cutting::Before { at: i, gap };
-            }
-            return Cutting::Before { at, gap: least };
+    let gap = left.abs_diff(right);
+    if let Some(other) = best {
+        if other.gap <= gap {
+            return best;
         }
     }
+    Some(Cut { at, gap })
 }
 
 // The best two-way cut if there is one, else leaves filled from the left.
-fn choose(best: Cutting, leaves: usize) -> Division
+fn choose(best: Option<Cut>, leaves: usize) -> Division
     ensures { result ≡ chosen best leaves }
 {
     match best {
-        Cutting::Before { at, .. } => return Division::TwoWay(at),
-        Cutting::Nowhere => return Division::Leaves(leaves),
+        Some(cut) => Division::TwoWay(cut.at),
+        None => Division::Leaves(leaves),
     }
 }
 
 // `left` and `right` are what the leaves of a cut before item `i` take; `used` is what the last of the leaves filled from the
 // left takes, and `leaves` how many follow the first.
-pub fn measure(s: &[u8], nodesize: usize, count: usize) -> Division
+pub fn measure(s: &[u8], nodesize: usize, count: usize) -> Result<Division, Refusal>
     requires { Sized s.now count × (nodesize ≤ 65536) }
     ensures { Divided nodesize (list_items s.now) result }
 {
@@ -63,14 +50,15 @@ pub fn measure(s: &[u8], nodesize: usize, count: usize) -> Division
     let mut i: usize = 0;
     let mut left: usize = 101;
     let mut right = 100 + s.len() + 4 * count;
-    let mut best = Cutting::Nowhere;
+    let mut best = None;
     let mut used: usize = 101;
     let mut leaves: usize = 0;
+    // No `for`: each turn steps by the size of its own item.
     while at < s.len() {
         size = item_list::size_after(s, at, size);
         let space = size + 4;
         if nodesize < 101 + space {
-            return Division::TooLarge;
+            return Err(Refusal::NO_FIT);
         }
         best = improve(nodesize, left, right, i, best);
         left += space;
@@ -84,5 +72,5 @@ pub fn measure(s: &[u8], nodesize: usize, count: usize) -> Division
         leaves += 1;
         used = 101 + space;
     }
-    choose(best, leaves)
+    Ok(choose(best, leaves))
 }

@@ -17,6 +17,7 @@ pub fn fill_write(s: &[u8], nodesize: usize, count: usize, cuts: &mut [u16])
     let mut used: usize = 101;
     let mut leaves: usize = 0;
     let mut i: usize = 0;
+    // No `for`: each turn steps by the size of its own item.
     while at < s.len() {
         size = item_list::size_after(s, at, size);
         let space = size + 4;

@@ -17,12 +17,12 @@ pub use editing::{delete, insert, insert_unbounded};
 pub use fill::fill_write;
 pub use fitting::{fit, fits};
 pub use halves::split;
-pub use lookup::{item, item_range};
+pub use lookup::{ItemRange, item, item_range};
 pub use whole::split_to_fit;
 
-// Where a new item goes and how many items there are; or the refusal.
-#[derive(Drop)]
-pub enum InsertAt {
-    Free { at: usize, count: usize },
-    Refused(u32),
+// Where a new item goes and how many items there are.
+#[derive(Clone, Copy)]
+pub struct InsertAt {
+    pub at: usize,
+    pub count: usize,
 }

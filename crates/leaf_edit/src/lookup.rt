@@ -1,66 +1,36 @@
 // An item by its number, from 0.
-ghost use Rattle.std.specs.Prelude.{◌≡◌, [], ◌+◌, ◌-◌, ◌≤◌, length};
-ghost use Rattle.fields.specs.Parts.{part};
-ghost use Rattle.format.specs.Questions.{code_of, lent_number, lent_part};
+ghost use Rattle.std.specs.Prelude.{◌≡◌, ◌+◌, MatchResult};
+ghost use Rattle.format.specs.Questions.{refused, accepted, lent_number};
 ghost use Rattle.format.specs.Sheets.{item_data, item_start};
+ghost use Rattle.leaf_edit.specs.Lookups.{Ranged};
 
-use format::ITEM_HEAD;
-use item_list::{ItemQuery, Listing};
+use format::{ITEM_HEAD, Refusal};
+use item_list::ItemQuery;
 
-// No part of the list: what a refusal hands back stands at its first byte.
-fn no_part<'a>(sheet: &'a [u8]) -> &'a [u8]
-    ensures { (result.now ≡ []) × (result.ref_ptr.0 ≡ sheet.entry.ref_ptr.0) × (result.ref_ptr.1 ≡ sheet.entry.ref_ptr.1) }
-{
-    &sheet[0..0]
+// Where an item's data starts in its list, and how long it is.
+#[derive(Clone, Copy)]
+pub struct ItemRange {
+    pub start: usize,
+    pub size: usize,
 }
 
-// The part of the list from one position up to another.
-fn part_of<'a>(sheet: &'a [u8], from: usize, to: usize) -> &'a [u8]
-    requires { (from ≤ to) × (to ≤ length sheet.now) }
-    ensures { (result.now ≡ part from (to - from) sheet.now) × (result.ref_ptr.0 ≡ sheet.entry.ref_ptr.0) × (result.ref_ptr.1 ≡ from + sheet.entry.ref_ptr.1) }
+// Its data, as a part of the list: these bytes, at their position in the caller's slice.
+pub fn item<'a>(sheet: &'a [u8], index: usize) -> Result<&'a [u8], Refusal>
+    ensures { MatchResult result (λ bytes. (item_data sheet.now index ≡ accepted bytes.now) × (bytes.ref_ptr.0 ≡ sheet.entry.ref_ptr.0) × (bytes.ref_ptr.1 ≡ lent_number (item_start sheet.now index) + sheet.entry.ref_ptr.1)) (λ refusal. item_data sheet.now index ≡ refused refusal.number) }
 {
-    &sheet[from..to]
+    let range = item_range(sheet, index)?;
+    Ok(&sheet[range.start..range.start + range.size])
 }
 
-// Its data, as a part of the list: these bytes, at their position in the caller's slice. `refused` gets the refusal, or 0.
-pub fn item<'a>(sheet: &'a [u8], index: usize, refused: &mut u32) -> &'a [u8]
-    ensures { (result.now ≡ lent_part (item_data sheet.now index)) × (refused.new ≡ code_of (item_data sheet.now index)) × (result.ref_ptr.0 ≡ sheet.entry.ref_ptr.0) × (result.ref_ptr.1 ≡ lent_number (item_start sheet.now index) + sheet.entry.ref_ptr.1) }
+// Where its data starts and how long it is, for callers that can't be handed a part.
+pub fn item_range(sheet: &[u8], index: usize) -> Result<ItemRange, Refusal>
+    ensures { Ranged sheet.now index result }
 {
-    let listing = item_list::find(sheet, ItemQuery::Index(index));
-    match listing {
-        Listing::Refused(refusal) => {
-            *refused = refusal;
-            return no_part(sheet);
-        }
-        Listing::Missing { .. } => {
-            *refused = 5;
-            return no_part(sheet);
-        }
-        Listing::Found { start, end, .. } => {
-            *refused = 0;
-            return part_of(sheet, start + ITEM_HEAD, end);
-        }
-    }
-}
-
-// Where its data starts and how long it is, for callers that can't be handed a part. Returns the refusal, or 0.
-pub fn item_range(sheet: &[u8], index: usize, start: &mut u64, size: &mut u64) -> u32
-    ensures { (result ≡ code_of (item_data sheet.now index)) × (start.new ≡ lent_number (item_start sheet.now index)) × (size.new ≡ length (lent_part (item_data sheet.now index))) }
-{
-    *start = 0;
-    *size = 0;
-    let listing = item_list::find(sheet, ItemQuery::Index(index));
-    match listing {
-        Listing::Refused(refusal) => return refusal,
-        Listing::Missing { .. } => return 5,
-        Listing::Found {
-            start: from,
-            end,
-            ..
-        } => {
-            *start = (from + ITEM_HEAD) as u64;
-            *size = (end - (from + ITEM_HEAD)) as u64;
-            return 0;
-        }
-    }
+    let listing = item_list::find(sheet, ItemQuery::Index(index))?;
+    let place = listing.place.ok_or(Refusal::MISSING)?;
+    let start = place.start + ITEM_HEAD;
+    Ok(ItemRange {
+        start,
+        size: place.end - start,
+    })
 }

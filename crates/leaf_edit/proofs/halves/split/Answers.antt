@@ -1,43 +1,31 @@
-use mathlib.Core.Path.{refl, sym, ◌∙◌}
+use mathlib.Core.Path.{refl, sym, ap, ◌∙◌}
+use mathlib.Core.List.{[], ◌∷◌}
+use Prim.Native.Nat.{ℕ}
 use native.Mathlib.Omega.{arith}
-use lib.ListN.{length}
-use Rattle.fields.proofs.Numbers.{are_bytes-in}
+use Rattle.format.proofs.Answers.{handed_on}
+use Rattle.format.specs.Questions.{accepted}
 use Rattle.format.specs.Sheets.{split}
-use Rattle.item_list.proofs.Reading.{Counted, counted, sheet-refused}
-use Rattle.leaf_edit.proofs.Splits.{cuts-refused, cuts-short, cuts-written, one_written, split-refused, split-few, split-half}
-use Rattle.leaf_edit.proofs.halves.split.Lts as lts
-use Rattle.leaf_edit.proofs.halves.split.Reads as reads
-use Rattle.leaf_edit.proofs.halves.split.Tie as tie
+use Rattle.leaf_edit.proofs.Checks.{good, bad}
+use Rattle.leaf_edit.proofs.Splits.{cuts-refused, cuts-like, half-up, split-refused, split-few, split-half}
 use Rattle.leaf_edit.proofs.halves.split.Goals as goal
 
-abbrev InCount : Type 0
-InCount = lts.Past-After-known_told2 tie.the-claims reads.Pre reads.Post
-
-pub returns-in-Refused : goal.returns-in-Refused
-returns-in-Refused c =
-    cuts-refused (split _) _ _ _ _ (split-refused _ _ (sheet-refused _ _ (sym c.check-checked.ensures ∙ c.in-Refused.is))) refl
-
--- the list was accepted
-good : (c : InCount) → Counted c.args.sheet.now c.in-Count.count
-good c = counted _ _ (are_bytes-in c.args.sheet.now (λ i. (c.shared_slice_known-1.given i).fits)) (sym c.check-checked.ensures ∙ c.in-Count.is)
+pub returns-in_err-count : goal.returns-in_err-count
+returns-in_err-count c =
+    rw (handed_on c.from_residual.ensures.1) (cuts-refused (split _) _ _ _ _ (split-refused _ _ (bad _ c.check.ensures c.in_err-count.was)) refl)
 
 pub returns-then-count-lt2 : goal.returns-then-count-lt2
 returns-then-count-lt2 c =
-    cuts-refused (split _) _ _ _ _ (split-few _ _ (good c.before.before) c.if-count-lt2.true) refl
+    cuts-refused (split _) _ _ _ _ (split-few _ _ (good c.check.ensures c.type_inv.sheet c.in_ok-count.was) c.if-count-lt2.true) refl
 
-pub returns-then-cuts-lt1 : goal.returns-then-cuts-lt1
-returns-then-cuts-lt1 c =
-    let a = c.args in
-    cuts-short (split a.sheet.now) (length a.cuts.now) a.cuts.now _ _ (split-half _ _ (good c.before.before.before) c.if-count-lt2.false) c.if-cuts-lt1.true refl
+pub put_cut-requires : goal.put_cut-requires
+put_cut-requires c =
+    let g = good c.check.ensures c.type_inv.sheet c.in_ok-count.was in
+    let l = g.few in
+    let e = c.div_ceil.ensures ∙ half-up c.in_ok-count.count in
+    omega (arith, e, l)
 
-pub overflow_add-cuts : goal.overflow_add-cuts
-overflow_add-cuts c = let l = (good c.before.before.before).few in omega arith
-
-pub overflow_cast-cuts : goal.overflow_cast-cuts
-overflow_cast-cuts c = let l = (good c.before.before.before).few in omega arith
-
-pub returns-in-Count : goal.returns-in-Count
-returns-in-Count c =
-    let a = c.args in
-    cuts-written (split a.sheet.now) (length a.cuts.now) a.cuts.now _ _ (split-half _ _ (good c.before.before.before) c.if-count-lt2.false) _ refl c.if-cuts-lt1.false
-    (one_written a.cuts.now _ c.if-cuts-lt1.false)
+pub returns : goal.returns
+returns c =
+    let g = good c.check.ensures c.type_inv.sheet c.in_ok-count.was in
+    let e = c.div_ceil.ensures ∙ half-up c.in_ok-count.count in
+    cuts-like (split c.args.sheet.now) _ (split-half _ _ g c.if-count-lt2.false ∙ ap (λ (n : ℕ). accepted (n ∷ [])) (sym e)) c.put_cut.ensures

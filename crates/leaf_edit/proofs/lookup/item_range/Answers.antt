@@ -1,55 +1,35 @@
-use mathlib.Core.Path.{sym, ap, ◌∙◌}
-use mathlib.Core.List.{List}
-use Prim.Native.Nat.{ℕ}
 use native.Mathlib.Omega.{arith}
-use lib.ListN.{length}
-use Rattle.fields.proofs.Numbers.{are_bytes-in}
-use Rattle.format.specs.Questions.{Answer, code_of, lent_number, lent_part}
-use Rattle.item_list.proofs.Reading.{located, lacking, listing-refused}
-use Rattle.leaf_edit.proofs.Lookups.{item_refused, start-refused, item-missing, start-missing, Stored, stored}
-use Rattle.leaf_edit.proofs.lookup.item_range.Lts as lts
-use Rattle.leaf_edit.proofs.lookup.item_range.Reads as reads
-use Rattle.leaf_edit.proofs.lookup.item_range.Tie as tie
+use Rattle.format.proofs.Answers.{handed_on}
+use Rattle.leaf_edit.proofs.Checks.{found-bad, hit, miss, there, gone, missing}
+use Rattle.leaf_edit.proofs.Lookups.{item_refused, start-refused, item-missing, start-missing, stored}
 use Rattle.leaf_edit.proofs.lookup.item_range.Goals as goal
 
-abbrev InFound : Type 0
-InFound = lts.Past-After-known_told2 tie.the-claims reads.Pre reads.Post
+pub returns-in_err-listing : goal.returns-in_err-listing
+returns-in_err-listing c =
+    let e = found-bad _ _ c.find.ensures c.in_err-listing.was in
+    rw (handed_on c.from_residual.ensures.1) (item_refused _ _ _ e, start-refused _ _ _ e)
 
-pub returns-in-Refused : goal.returns-in-Refused
-unfolding lent_part lent_number code_of
-returns-in-Refused c =
-    let e = listing-refused _ _ _ (sym c.find-listing.ensures ∙ c.in-Refused.is) in
-    let h = item_refused _ _ _ e in
-    let k = start-refused _ _ _ e in
-    (sym (ap code_of h), sym (ap lent_number k), sym (ap (λ (x : Answer (List ℕ)). length (lent_part x)) h))
-
-pub returns-in-Missing : goal.returns-in-Missing
-unfolding lent_part lent_number code_of
-returns-in-Missing c =
-    let a = c.args in
-    let bytes = are_bytes-in a.sheet.now (λ i. (c.shared_slice_known-1.given i).fits) in
-    let l = lacking _ _ _ bytes (sym c.find-listing.ensures ∙ c.in-Missing.is) in
-    let h = item-missing a.sheet.now a.index _ l in
-    let k = start-missing a.sheet.now a.index _ l in
-    (sym (ap code_of h), sym (ap lent_number k), sym (ap (λ (x : Answer (List ℕ)). length (lent_part x)) h))
-
--- the item was found
-found : (c : InFound) → Stored c.args.sheet.now c.args.index c.in-Found.from c.in-Found.end
-found c =
-    let bytes = are_bytes-in c.args.sheet.now (λ i. (c.shared_slice_known-1.given i).fits) in
-    stored _ _ _ _ _ _ (located _ _ _ _ _ _ bytes (sym c.find-listing.ensures ∙ c.in-Found.is))
+pub returns-in_err-place : goal.returns-in_err-place
+returns-in_err-place c =
+    let l = miss _ _ _ c.find.ensures c.type_inv.sheet c.in_ok-listing.was (gone c.ok_or.ensures.ok_part c.in_err-place.was) in
+    rw (missing c.ok_or.ensures.value c.ok_or.ensures.ok_part c.in_err-place.was c.from_residual-in_err-place.ensures.1) (item-missing _ _ _ l, start-missing _ _ _ l)
 
 pub overflow_add-start : goal.overflow_add-start
-overflow_add-start c = let d = found c.before in let p = d.ordered in let q = d.within in omega arith
+overflow_add-start c =
+    let d = stored _ _ _ _ (hit _ _ _ c.find.ensures c.type_inv.sheet c.in_ok-listing.was (there c.ok_or.ensures.ok_part c.in_ok-place.was)) in
+    let p = d.ordered in
+    let q = d.within in
+    omega arith
 
-pub overflow_add-size : goal.overflow_add-size
-overflow_add-size c = let d = found c.before in let p = d.ordered in let q = d.within in omega arith
+pub overflow_sub-result : goal.overflow_sub-result
+overflow_sub-result c =
+    let d = stored _ _ _ _ (hit _ _ _ c.find.ensures c.type_inv.sheet c.in_ok-listing.was (there c.ok_or.ensures.ok_part c.in_ok-place.was)) in
+    let p = d.ordered in
+    omega arith
 
-pub overflow_sub-size : goal.overflow_sub-size
-overflow_sub-size c = let d = found c.before in let p = d.ordered in let q = d.within in omega arith
-
-pub returns-in-Found : goal.returns-in-Found
-unfolding lent_part lent_number code_of
-returns-in-Found c =
-    let d = found c.before in
-    (sym (ap code_of d.is), sym (ap lent_number d.start_of), sym (ap (λ (x : Answer (List ℕ)). length (lent_part x)) d.is ∙ d.long))
+pub returns : goal.returns
+returns c =
+    let d = stored _ _ _ _ (hit _ _ _ c.find.ensures c.type_inv.sheet c.in_ok-listing.was (there c.ok_or.ensures.ok_part c.in_ok-place.was)) in
+    let p = d.ordered in
+    let q = d.within in
+    (d.is, d.start_of, omega arith)
