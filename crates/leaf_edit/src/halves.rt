@@ -10,7 +10,7 @@ pub fn put_cut(at: usize, cuts: &mut [u16]) -> Result<Edited, Refusal>
     requires { at ≤ 65535 }
     ensures { Answered (held_cuts (length cuts.old) (accepted (at ∷ []))) result cuts.old cuts.new }
 {
-    if cuts.is_empty() {
+    if cuts.len() < 1 {
         return Err(Refusal::NO_ROOM);
     }
     cuts[0] = at as u16;
