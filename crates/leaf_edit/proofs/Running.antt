@@ -18,7 +18,7 @@ use Rattle.item_list.specs.Steps.{item_at, list_items}
 use Rattle.item_list.proofs.Steps.{WholeAt, data-long}
 use Rattle.item_list.proofs.Walks.{More}
 use Rattle.item_list.proofs.Spaces.{space-append, space-cons}
-use Rattle.leaf_edit.specs.declared.division_measure.Cut.{Cut}
+use Rattle.leaf_edit.specs.declared.two_way.Cut.{Cut}
 use Rattle.leaf_edit.specs.Division.{Sized, fits_alone, cut_of, cutting_of, closest, improved}
 
 -- the space of the item at a position

@@ -11,7 +11,7 @@ use Rattle.format.specs.Items.{Item}
 use Rattle.format.specs.Sheets.{best_cut}
 use Rattle.item_list.specs.Steps.{list_items}
 use Rattle.item_list.proofs.Walks.{More}
-use Rattle.leaf_edit.specs.declared.division_measure.Cut.{Cut}
+use Rattle.leaf_edit.specs.declared.two_way.Cut.{Cut}
 use Rattle.leaf_edit.specs.Division.{Sized, fits_alone, Divided, cutting_of, improved, chosen}
 use Rattle.leaf_edit.proofs.Running.{Passed, passed_none, passed-all, passed-next, each-end, each_over, each_more}
 use Rattle.leaf_edit.proofs.Filling.{Counting, counting-none, counting-all, counting-stays, counting-starts}

@@ -6,7 +6,7 @@ use Rattle.format.specs.Items.{Item}
 use Rattle.format.specs.Sheets.{item_space, space_of, gap_of, best_cut, filled}
 use Rattle.item_list.specs.Steps.{IsList, list_items}
 use Rattle.format.specs.declared.Refusal.{Refusal}
-use Rattle.leaf_edit.specs.declared.division_measure.Cut.{Cut}
+use Rattle.leaf_edit.specs.declared.two_way.Cut.{Cut}
 use Rattle.leaf_edit.specs.declared.division.Division.{Division}
 use Rattle.leaf_edit.specs.declared.division.Division.TheVariants.{TwoWay, Leaves}
 

@@ -3,21 +3,20 @@
 #![tactic(auto)]
 
 mod division;
-mod division_measure;
 mod editing;
-mod fill;
 mod fitting;
 mod halves;
 mod lookup;
+mod sheet;
+mod two_way;
 mod whole;
 
 pub use division::Division;
-pub use division_measure::measure;
 pub use editing::{delete, insert, insert_unbounded};
-pub use fill::fill_write;
 pub use fitting::{fit, fits};
 pub use halves::split;
 pub use lookup::{ItemRange, item, item_range};
+pub use sheet::Sheet;
 pub use whole::split_to_fit;
 
 // Where a new item goes and how many items there are.

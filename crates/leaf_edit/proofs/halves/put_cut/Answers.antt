@@ -1,7 +1,5 @@
 use mathlib.Core.Path.{refl}
 use mathlib.Core.List.{[], ◌∷◌}
-use Prim.Native.Nat.{◌≤◌, ◌<◌}
-use native.Mathlib.Omega.{arith}
 use lib.ListN.{length}
 use Rattle.format.specs.Questions.{accepted}
 use Rattle.leaf_edit.proofs.Splits.{cuts-short, cuts-written, one_written}

@@ -5,12 +5,12 @@ use Rattle.format.specs.Items.{Item}
 use Rattle.item_list.specs.Steps.{list_items}
 use Rattle.item_list.proofs.Steps.{PastItem}
 use Rattle.item_list.proofs.Walks.{Walked}
-use Rattle.leaf_edit.proofs.Filling.{Writing}
-use Rattle.leaf_edit.proofs.fill.fill_write.Given as goal
+use Rattle.leaf_edit.proofs.Together.{Measuring}
+use Rattle.leaf_edit.proofs.sheet.Sheet.measure.Given as goal
 
 abbrev pub invariant-loop-at : goal.invariant-loop-at
 invariant-loop-at l =
-    PastItem l.s l.at l.size × Walked l.s l.at (λ (rest : List Item). Writing l.nodesize (list_items l.s) l.initial.cuts l.cuts l.used l.leaves l.i rest)
+    PastItem l.s l.at l.size × Walked l.s l.at (λ (rest : List Item). Measuring l.nodesize (list_items l.s) l.i l.left l.right l.best l.last l.leaves rest)
 
 abbrev pub decreases-loop-at : goal.decreases-loop-at
 decreases-loop-at l = length l.s - l.at

@@ -1,6 +1,6 @@
 use Rattle.leaf_edit.proofs.Running.{keep-first, keep_left, keep-right, cut-new, cut-closer, cut-kept}
-use Rattle.leaf_edit.proofs.division_measure.improve.Goals as goal
-use Rattle.leaf_edit.proofs.division_measure.improve.Goals.{then-at-lt1-via-then-at-lt1, then-at-lt1-via-else-at-lt1+then-nodesize-left, then-at-lt1-via-else-at-lt1+else-nodesize-left+then-nodesize-right}
+use Rattle.leaf_edit.proofs.two_way.improve.Goals as goal
+use Rattle.leaf_edit.proofs.two_way.improve.Goals.{then-at-lt1-via-then-at-lt1, then-at-lt1-via-else-at-lt1+then-nodesize-left, then-at-lt1-via-else-at-lt1+else-nodesize-left+then-nodesize-right}
 
 pub returns-then-at-lt1 : goal.returns-then-at-lt1
 returns-then-at-lt1 c =
