@@ -106,9 +106,6 @@ module _ (n : ℕ) (items : List Item) (old cuts : List ℕ) (used leaves i : �
   passed-one : i + 1 + length m.others ≡ length items
   passed-one = let e = ap length m.is in let p = k.passed in omega (arith, e, p)
 
-  pub passed-fewer : i < length items
-  passed-fewer = let e = passed-one in omega arith
-
   pub writing-stays : n ≤ 65536 → used + (size + 4) ≤ n → Writing n items old cuts (used + (size + 4)) leaves (i + 1) m.others
   writing-stays l h =
       let f = k.few in

@@ -1,5 +1,5 @@
 -- Running sizes: one pass finds the cut that trying every cut finds. Assumes nothing.
-use mathlib.Core.Path.{◌≡◌, refl, sym, ap, ◌∙◌}
+use mathlib.Core.Path.{◌≡◌, refl, sym, ap, ◌∙◌, subst}
 use mathlib.Core.Bool.{Bool, true, false, ◌&&◌, cond}
 use mathlib.Core.Option.{Option as Maybe, none, some}
 use mathlib.Core.List.{List, [], ◌∷◌, ◌++◌, append_assoc, append-nil}
@@ -14,9 +14,9 @@ use Rattle.fields.proofs.Lists.{and-false}
 use Rattle.fields.specs.Lists.{all}
 use Rattle.format.specs.Items.{Item}
 use Rattle.format.specs.Sheets.{item_space, space_of, cut_fits, gap_of, closer, best_cut}
-use Rattle.item_list.specs.Steps.{item_at, list_items}
+use Rattle.item_list.specs.Steps.{item_at, item_size_at, list_items}
 use Rattle.item_list.proofs.Steps.{WholeAt, data-long}
-use Rattle.item_list.proofs.Walks.{More}
+use Rattle.item_list.proofs.Walks.{Rest, More, rest-item}
 use Rattle.item_list.proofs.Spaces.{space-append, space-cons}
 use Rattle.leaf_edit.specs.declared.two_way.Cut.{Cut}
 use Rattle.leaf_edit.specs.Division.{Sized, fits_alone, cut_of, cutting_of, closest, improved}
@@ -25,6 +25,10 @@ use Rattle.leaf_edit.specs.Division.{Sized, fits_alone, cut_of, cutting_of, clos
 pub space-at : (s : List ℕ) (at size : ℕ) → WholeAt s at (at + size) → item_space (item_at s at) ≡ size + 4
 unfolding item_space
 space-at s at size w = omega (arith, data-long s at (at + size) w)
+
+-- the item at hand in a pass, by the size that the code has read
+pub item-here : {s : List ℕ} {at size : ℕ} {items : List Item} → size ≡ item_size_at s at → Rest s at items → at < length s → More s at (at + size) items
+item-here {s = s} {at = at} {items = items} e r h = subst (λ (k : ℕ). More s at (at + k) items) (sym e) (rest-item s at items r h)
 
 space-none : space_of [] ≡ 101
 unfolding space_of
@@ -141,13 +145,6 @@ module _ (n : ℕ) (items : List Item) (i left right : ℕ) (best : Option Cut) 
       let l = p.left_is in
       let r = p.right_is in
       omega (arith, e, f, l, r)
-
-  pub passed-few : i < length items
-  passed-few =
-      let e = ap length p.same ∙ length-append p.front rest in
-      let f = ap length m.is in
-      let k = p.count in
-      omega (arith, e, f, k)
 
   pub passed-next : (better : Option Cut) → better ≡ improved n left right i best
       → Passed n items (i + 1) (left + (size + 4)) (right - (size + 4)) better m.others
