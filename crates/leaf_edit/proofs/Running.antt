@@ -8,9 +8,8 @@ use native.Mathlib.Omega.{arith}
 use lib.Dec.{leb, ltb}
 use lib.ListN.{length, take, drop, length-append}
 use lib.Seq.{take_at, drop_at}
-use borrow.Author.Tests.{le-leb, lt-leb, lt-ltb, le-ltb}
+use borrow.Author.Tests.{le-leb, lt-leb}
 use Rattle.std.specs.Prelude.{Option, Some, None}
-use Rattle.fields.proofs.Lists.{and-false}
 use Rattle.fields.specs.Lists.{all}
 use Rattle.format.specs.Items.{Item}
 use Rattle.format.specs.Sheets.{item_space, space_of, cut_fits, gap_of, closer, best_cut}
@@ -49,40 +48,12 @@ module _ (s : List ℕ) (at size : ℕ) (items : List Item) (r : More s at (at +
   pub each_more : 101 + (size + 4) ≤ n → all (fits_alone n) items ≡ all (fits_alone n) r.others
   each_more h = each-cons ∙ rw (le-leb (101 + (size + 4)) n h)
 
--- ---- the better cut, as code tests it
+-- ---- the better cut
 
-module _ (n left right at : ℕ) (best : Option Cut) where
-  pub keep-first : at < 1 → best ≡ improved n left right at best
-  unfolding improved
-  keep-first h = rw (lt-leb 1 at h)
-
-  pub keep_left : n < left → best ≡ improved n left right at best
-  unfolding improved
-  keep_left h = rw (lt-leb left n h, and-false (leb 1 at))
-
-  pub keep-right : n < right → best ≡ improved n left right at best
-  unfolding improved
-  keep-right h = rw (lt-leb right n h, and-false (leb left n), and-false (leb 1 at))
-
-  module _ (h : 1 ≤ at) (hl : left ≤ n) (hr : right ≤ n) (gap : ℕ) (gap_is : gap ≡ (left - right) + (right - left)) where
-    fair : closest at gap best ≡ improved n left right at best
-    unfolding improved
-    fair = rw (le-leb 1 at h, le-leb left n hl, le-leb right n hr, gap_is)
-
-    pub cut-new : best ≡ None → Some (cut_of at gap) ≡ improved n left right at best
-    unfolding closest
-    cut-new e = sym (ap (closest at gap) e) ∙ fair
-
-    module _ (other : Cut) (e : best ≡ Some other) where
-      pub cut-closer : gap < other.gap → Some (cut_of at gap) ≡ improved n left right at best
-      unfolding closest
-      cut-closer x = sym (ap (closest at gap) e ∙ rw (lt-ltb gap other.gap x)) ∙ fair
-
-      pub cut-kept : other.gap ≤ gap → Some other ≡ improved n left right at best
-      unfolding closest
-      cut-kept x = sym (ap (closest at gap) e ∙ rw (le-ltb gap other.gap x)) ∙ fair
-
--- ---- the better cut, as the definition has it
+-- none stands before the first item
+keep-first : (n left right : ℕ) (best : Option Cut) → best ≡ improved n left right 0 best
+unfolding improved
+keep-first n left right best = refl
 
 step_of : (items : List Item) (at : ℕ) (b : Bool) (o : Maybe ℕ)
     → cond b (closest at (gap_of items at) (cutting_of items o)) (cutting_of items o) ≡ cutting_of items (cond b (closer items o at) o)
@@ -104,7 +75,7 @@ improved-is n items j = rw (le-leb 1 (suc j) (omega arith)) (step_of items (suc 
 pub best-next : (n : ℕ) (items : List Item) (i left right : ℕ) → left ≡ space_of (take i items) → right ≡ space_of (drop i items)
     → improved n left right i (cutting_of items (best_cut n items (i - 1))) ≡ cutting_of items (best_cut n items i)
 unfolding best_cut
-best-next n items zero left right l r = sym (keep-first n left right 0 (cutting_of items none) (omega arith))
+best-next n items zero left right l r = sym (keep-first n left right (cutting_of items none))
 best-next n items (suc j) left right l r =
     let e : suc j - 1 ≡ j = omega arith in
     (λ k. improved n (l k) (r k) (suc j) (cutting_of items (best_cut n items (e k)))) ∙ improved-is n items j

@@ -12,6 +12,7 @@ pub struct Cut {
 }
 
 // The better of the best cut so far and the one before item `at`, whose leaves take `left` and `right`.
+#[tactic(auto, unfolding(crate::specs::Division::improved, crate::specs::Division::closest))]
 pub fn improve(
     nodesize: usize,
     left: usize,
