@@ -17,6 +17,7 @@ pub fn fit(nodesize: u32, sheet: &[u8]) -> Result<bool, Refusal>
 }
 
 // With one more item of this data.
+// Not one function with `fit`: question 3 and the space are others, and the rest is one line.
 pub fn fits(nodesize: u32, sheet: &[u8], body: &[u8]) -> Result<bool, Refusal>
     ensures { result ≡ told_of (fits nodesize sheet.now body.now) }
 {
