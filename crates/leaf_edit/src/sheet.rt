@@ -1,5 +1,5 @@
-// An item list that is to be divided into leaves, and the three passes over it: one measures, one writes the cuts of leaves filled from
-// the left, and one puts the questions of `split_to_fit`.
+// An item list that is to be divided into leaves: the pass that measures, the pass that writes the cuts of leaves filled from the left,
+// and the questions of `split_to_fit` between them.
 ghost use Rattle.std.specs.Prelude.{true, ◌≡◌, ◌≤◌, length};
 ghost use Rattle.fields.specs.Parts.{written};
 ghost use Rattle.format.specs.Items.{nodesize_fits};
@@ -89,7 +89,7 @@ impl Sheet<'_> {
 
     // Questions 18, 19 and 21. Two leaves hold two items or more, so that 19 is put to leaves filled from the left alone. Question 20 is
     // not put: with 18 answered yes every leaf holds an item.
-    pub fn divide(&self, cuts: &mut [u16]) -> Result<Edited, Refusal>
+    pub(crate) fn divide(&self, cuts: &mut [u16]) -> Result<Edited, Refusal>
         requires { nodesize_fits self.now.nodesize ≡ true }
         ensures { Answered (held_cuts (length cuts.old) (split_to_fit self.now.nodesize self.now.bytes.now)) result cuts.old cuts.new }
     {
