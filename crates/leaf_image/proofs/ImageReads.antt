@@ -7,11 +7,13 @@ use native.Mathlib.Omega.{arith}
 use lib.Dec.{T, leb, eqb}
 use lib.ListN.{length, drop}
 use borrow.Author.Tests.{le-leb}
+use Rattle.std.specs.Prelude.{Result, Ok, Err}
 use Rattle.fields.specs.Numbers.{are_bytes}
 use Rattle.fields.specs.Parts.{written}
 use Rattle.format.specs.declared.Edited.{Edited}
-use Rattle.format.specs.declared.Edited.TheVariants.{Written, Refused as No}
-use Rattle.format.specs.Questions.{Answer, refused, absent, remove, accepted, decides, ask, bind, result_or_code, Answered}
+use Rattle.format.specs.declared.Edited.TheVariants.{Written}
+use Rattle.format.specs.declared.Refusal.{Refusal}
+use Rattle.format.specs.Questions.{Answer, refused, absent, remove, accepted, decides, ask, bind, result_or_code, denied, Answered}
 use Rattle.format.specs.Items.{Item, rising, sheet_bytes, read_sheet, nodesize_fits, held_sheet}
 use Rattle.format.specs.History.{items_in}
 use Rattle.format.specs.LeafImage.{count_in, data_position, data_size_in, image_item, image_items, items_in_image, is_leaf, read_image}
@@ -20,9 +22,8 @@ use Rattle.format.proofs.Items.{sane-fit, nodesize-out}
 use Rattle.format.proofs.LeafImages.{leaf-out, image-sane, image-few, image-size, image-listed}
 use Rattle.item_list.specs.ItemWrites.{held_bytes}
 use Rattle.item_list.proofs.ItemWrites.{room-short, room-left, held-written, held-refused, answered-no, answered-by}
-use Rattle.leaf_image.specs.declared.Packing.{Packing}
-use Rattle.leaf_image.specs.declared.Packing.TheVariants.{Packed, Refused}
-use Rattle.leaf_image.specs.Packing.{packed, listed_in, IsPacked}
+use Rattle.leaf_image.specs.declared.Packed.{Packed}
+use Rattle.leaf_image.specs.Packing.{packing, packed, listed_in, IsPacked}
 
 -- ---- questions 24 and 2, as an answer
 
@@ -30,8 +31,8 @@ use Rattle.leaf_image.specs.Packing.{packed, listed_in, IsPacked}
 abbrev sorted : Answer (List Item) → Answer (List Item)
 sorted answer = bind answer (λ items. ask (rising items) 2 (accepted items))
 
-abbrev told : Answer (List Item) → Packing
-told answer = result_or_code Refused (λ items. Packed (length items) (length (sheet_bytes items))) answer
+abbrev told : Answer (List Item) → Result Packed Refusal
+told answer = result_or_code denied (λ items. packing (length items) (length (sheet_bytes items))) answer
 
 items-decide : (least count end : ℕ) (area headers : List ℕ) → T (decides (image_items least area count end headers))
 unfolding image_items
@@ -45,31 +46,33 @@ sorted-decides answer t =
     decides-bind answer (λ items. ask (rising items) 2 (accepted items)) t (λ items. decides-ask (rising items) 2 tt (accepted items) tt)
 
 -- a refusal told is the answer's
-told-refused : (answer : Answer (List Item)) (k : ℕ) → T (decides answer) → told answer ≡ Refused k → answer ≡ refused k
-told-refused (refused n) k t e = let p : n ≡ k = cc in ap refused p
-told-refused absent k t e = absurd t
-told-refused remove k t e = absurd t
-told-refused (accepted items) k t e = let z : ◌≡◌ {A = ℕ} 0 1 = cc in absurd (omega arith)
+told-refused : (answer : Answer (List Item)) (e : Refusal) → T (decides answer) → told answer ≡ Err e → answer ≡ refused e.number
+told-refused (refused n) e t h = let p : record { number = n } ≡ e = cc in ap (λ (r : Refusal). refused r.number) p
+told-refused absent e t h = absurd t
+told-refused remove e t h = absurd t
+told-refused (accepted items) e t h = let z : ◌≡◌ {A = ℕ} 0 1 = cc in absurd (omega arith)
 
 -- so are count and size
-record Listed (answer : Answer (List Item)) (count size : ℕ) : Type 0 where
+record Listed (answer : Answer (List Item)) (p : Packed) : Type 0 where
   reads : answer ≡ accepted (items_in answer)
   sorts : sorted answer ≡ accepted (items_in answer)
-  count-is : count ≡ length (items_in answer)
-  size_is : size ≡ length (sheet_bytes (items_in answer))
+  count-is : p.count ≡ length (items_in answer)
+  size_is : p.size ≡ length (sheet_bytes (items_in answer))
 
-told-listed : (answer : Answer (List Item)) (count size : ℕ) → told (sorted answer) ≡ Packed count size → Listed answer count size
+told-listed : (answer : Answer (List Item)) (p : Packed) → told (sorted answer) ≡ Ok p → Listed answer p
 unfolding ask bind items_in
-told-listed (refused n) count size e = let z : ◌≡◌ {A = ℕ} 0 1 = cc in absurd (omega arith)
-told-listed absent count size e = let z : ◌≡◌ {A = ℕ} 0 1 = cc in absurd (omega arith)
-told-listed remove count size e = let z : ◌≡◌ {A = ℕ} 0 1 = cc in absurd (omega arith)
-told-listed (accepted items) count size e =
+told-listed (refused n) p e = let z : ◌≡◌ {A = ℕ} 0 1 = cc in absurd (omega arith)
+told-listed absent p e = let z : ◌≡◌ {A = ℕ} 0 1 = cc in absurd (omega arith)
+told-listed remove p e = let z : ◌≡◌ {A = ℕ} 0 1 = cc in absurd (omega arith)
+told-listed (accepted items) p e =
     let h = go (rising items) e in
     record { reads = refl; sorts = h.0; count-is = h.1; size_is = h.2 }
   where
-    go : (b : Bool) → told (ask b 2 (accepted items)) ≡ Packed count size
-        → (ask b 2 (accepted items) ≡ accepted items) × (count ≡ length items) × (size ≡ length (sheet_bytes items))
-    go true f = (refl, cc, cc)
+    go : (b : Bool) → told (ask b 2 (accepted items)) ≡ Ok p
+        → (ask b 2 (accepted items) ≡ accepted items) × (p.count ≡ length items) × (p.size ≡ length (sheet_bytes items))
+    go true f =
+        let q : record { count = length items; size = length (sheet_bytes items) } ≡ p = cc in
+        (refl, ap (λ (k : Packed). k.count) (sym q), ap (λ (k : Packed). k.size) (sym q))
     go false f = let z : ◌≡◌ {A = ℕ} 0 1 = cc in absurd (omega arith)
 
 -- question 1 does not refuse
@@ -84,12 +87,12 @@ sorted-read (accepted items) h = h items refl
 -- ---- the answer
 
 module _ (nodesize : ℕ) (image old : List ℕ) where
-  pub read-node : nodesize_fits nodesize ≡ false → Answered (held_sheet (length old) (read_image nodesize image)) (No 3) old old
+  pub read-node : nodesize_fits nodesize ≡ false → Answered (held_sheet (length old) (read_image nodesize image)) (denied 3) old old
   unfolding read_image ask
   read-node f = answered-no (read_image nodesize image) (length old) 3 old (rw f)
 
   module _ (fits : nodesize_fits nodesize ≡ true) where
-    pub read-leaf : is_leaf nodesize image ≡ false → Answered (held_sheet (length old) (read_image nodesize image)) (No 23) old old
+    pub read-leaf : is_leaf nodesize image ≡ false → Answered (held_sheet (length old) (read_image nodesize image)) (denied 23) old old
     unfolding read_image ask
     read-leaf l = answered-no (read_image nodesize image) (length old) 23 old (rw (fits, l))
 
@@ -117,44 +120,44 @@ module _ (nodesize : ℕ) (image old : List ℕ) where
             rw (fits, leaf) (ap (λ (n : ℕ). bind (items_in_image n image) (λ items. read_sheet (sheet_bytes items))) (sym long))
             ∙ sorted-read answer (λ items e. image-listed (length image) image items bytes refl fit e)
 
-        pub read-refused : (k : ℕ) → packed image ≡ Refused k → Answered (held_sheet (length old) (read_image nodesize image)) (No k) old old
-        read-refused k e =
-            answered-no (read_image nodesize image) (length old) k old
+        pub read-refused : (e : Refusal) → packed image ≡ Err e → Answered (held_sheet (length old) (read_image nodesize image)) (Err e) old old
+        read-refused e h =
+            answered-no (read_image nodesize image) (length old) e.number old
             (reads
-            ∙ told-refused (sorted answer) k (sorted-decides answer (items-decide (25 * count_in image) (count_in image) (length image - 101) (drop 101 image) (drop 101 image)))
-            (sym told_is ∙ e))
+            ∙ told-refused (sorted answer) e (sorted-decides answer (items-decide (25 * count_in image) (count_in image) (length image - 101) (drop 101 image) (drop 101 image)))
+            (sym told_is ∙ h))
 
-        module _ (count size : ℕ) (e : packed image ≡ Packed count size) where
-          listed : Listed answer count size
-          listed = told-listed answer count size (sym told_is ∙ e)
+        module _ (p : Packed) (e : packed image ≡ Ok p) where
+          listed : Listed answer p
+          listed = told-listed answer p (sym told_is ∙ e)
 
           pub is-packed : IsPacked image
           is-packed = record { reads = listed.reads }
 
-          pub packed-count-is : count ≡ length (listed_in image)
+          pub packed-count-is : p.count ≡ length (listed_in image)
           packed-count-is = listed.count-is
 
-          pub packed-size-is : size ≡ length (sheet_bytes (listed_in image))
+          pub packed-size-is : p.size ≡ length (sheet_bytes (listed_in image))
           packed-size-is = listed.size_is
 
           -- from question 21 of the bytes to that of the items
-          by_bytes : (r : Edited) (new : List ℕ) → Answered (held_bytes (length old) count (sheet_bytes (listed_in image))) r old new
+          by_bytes : (r : Result Edited Refusal) (new : List ℕ) → Answered (held_bytes (length old) p.count (sheet_bytes (listed_in image))) r old new
               → Answered (held_sheet (length old) (read_image nodesize image)) r old new
           by_bytes r new w =
-              answered-by (read_image nodesize image) (length old) count (listed_in image) (sheet_bytes (listed_in image)) r old new (reads ∙ listed.sorts) refl
+              answered-by (read_image nodesize image) (length old) p.count (listed_in image) (sheet_bytes (listed_in image)) r old new (reads ∙ listed.sorts) refl
               (sym listed.count-is) (sane-fit (listed_in image) (image-sane (length image) image (listed_in image) bytes refl fit listed.reads)) w
 
-          pub read-full : length old < size → Answered (held_sheet (length old) (read_image nodesize image)) (No 21) old old
+          pub read-full : length old < p.size → Answered (held_sheet (length old) (read_image nodesize image)) (denied 21) old old
           read-full h =
-              by_bytes (No 21) old
-              (held-refused (length old) count size (sheet_bytes (listed_in image)) old old (sym listed.size_is) (room-short (length old) size count h))
+              by_bytes (denied 21) old
+              (held-refused (length old) p.count p.size (sheet_bytes (listed_in image)) old old (sym listed.size_is) (room-short (length old) p.size p.count h))
 
-          pub read-written : (new : List ℕ) → size ≤ length old → new ≡ written 0 (sheet_bytes (listed_in image)) old
-              → Answered (held_sheet (length old) (read_image nodesize image)) (Written size) old new
+          pub read-written : (new : List ℕ) → p.size ≤ length old → new ≡ written 0 (sheet_bytes (listed_in image)) old
+              → Answered (held_sheet (length old) (read_image nodesize image)) (Ok (Written p.size)) old new
           read-written new h w =
-              let few : count ≤ 4096 = omega (arith, listed.count-is, image-few (length image) image (listed_in image) bytes refl fit listed.reads) in
-              let small : size ≤ 262144 =
+              let few : p.count ≤ 4096 = omega (arith, listed.count-is, image-few (length image) image (listed_in image) bytes refl fit listed.reads) in
+              let small : p.size ≤ 262144 =
               omega (arith, listed.size_is, image-bounds.1, image-size (length image) image (listed_in image) bytes refl fit listed.reads) in
-              by_bytes (Written size) new
-              (held-written (length old) count size (sheet_bytes (listed_in image)) old new (sym listed.size_is)
-              (sym (room-left (length old) size count h small) ∙ le-leb count 4096 few) w)
+              by_bytes (Ok (Written p.size)) new
+              (held-written (length old) p.count p.size (sheet_bytes (listed_in image)) old new (sym listed.size_is)
+              (sym (room-left (length old) p.size p.count h small) ∙ le-leb p.count 4096 few) w)

@@ -1,4 +1,4 @@
-pub mod Packed
+pub mod Packing
 pub mod Leaves
 pub mod Puts
 pub mod ImageReads

@@ -4,54 +4,52 @@ ghost use Rattle.format.specs.Constants.{leaf_header, item_header};
 ghost use Rattle.format.specs.LeafImage.{count_in};
 ghost use Rattle.leaf_image.specs.Packing.{packed};
 
-use super::{Packing, headers};
-use format::{ITEM_HEAD, ITEM_HEADER, LEAF_HEADER};
+use super::{Packed, headers};
+use format::{ITEM_HEAD, ITEM_HEADER, LEAF_HEADER, Refusal};
 
 // The headers one by one: each one's data is to end where the one before begins, the first one's at the image's end. So positions
 // never rise, and only the last has to be held against the end of the headers. Keys that fall are refused after all headers: a fault
 // of packing in a later one is refused first.
-fn walk(image: &[u8], count: usize) -> Packing
+fn walk(image: &[u8], count: usize) -> Result<Packed, Refusal>
     requires { (count ≡ count_in image.now) × (leaf_header + item_header * count ≤ length image.now) }
     ensures { result ≡ packed image.now }
 {
     let area = image.len() - LEAF_HEADER;
     let mut at = LEAF_HEADER;
-    let mut n: usize = 0;
     let mut end = area;
     let mut last = item_list::no_key();
     let mut ordered = true;
-    while n < count {
+    for n in 0..count {
         let position = headers::position_at(image, at) as usize;
         if position + headers::size_at(image, at) as usize != end {
-            return Packing::Refused(24);
+            return Err(Refusal::PACKING);
         }
         let key = headers::key_at(image, at);
         ordered = item_list::follows(ordered, n, last, key);
         last = key;
         end = position;
         at += ITEM_HEADER;
-        n += 1;
     }
     if end < ITEM_HEADER * count {
-        return Packing::Refused(24);
+        return Err(Refusal::PACKING);
     }
     if ordered {
-        return Packing::Packed {
+        return Ok(Packed {
             count,
             size: 1 + ITEM_HEAD * count + (area - end),
-        };
+        });
     }
-    Packing::Refused(2)
+    Err(Refusal::KEYS)
 }
 
 // More headers than the image holds are refused without a look at them: the first one's data could not begin behind them all.
-pub fn check(image: &[u8]) -> Packing
+pub fn check(image: &[u8]) -> Result<Packed, Refusal>
     requires { leaf_header ≤ length image.now }
     ensures { result ≡ packed image.now }
 {
     let count = fields::get_u32_le(image, 96) as usize;
     if image.len() - LEAF_HEADER < ITEM_HEADER * count {
-        return Packing::Refused(24);
+        return Err(Refusal::PACKING);
     }
     walk(image, count)
 }

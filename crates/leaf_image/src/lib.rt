@@ -9,9 +9,9 @@ mod writing;
 pub use reading::read;
 pub use writing::write;
 
-// Questions 24 and 2 of an image: the number of its items and the length of the item list that they make, or the refusal.
+// What questions 24 and 2 of an image show: the number of its items and the length of the item list that they make.
 #[derive(Clone, Copy)]
-pub enum Packing {
-    Packed { count: usize, size: usize },
-    Refused(u32),
+pub struct Packed {
+    pub count: usize,
+    pub size: usize,
 }

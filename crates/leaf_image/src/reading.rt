@@ -7,8 +7,8 @@ ghost use Rattle.format.specs.Items.{item_bytes, sheet_bytes, held_sheet};
 ghost use Rattle.format.specs.LeafImage.{data_position, data_size_in, image_item, is_leaf, read_image};
 ghost use Rattle.leaf_image.specs.Packing.{IsPacked, listed_in};
 
-use super::{Packing, checking, headers};
-use format::{Edited, ITEM_HEADER, LEAF_HEADER};
+use super::{checking, headers};
+use format::{Edited, ITEM_HEADER, LEAF_HEADER, Refusal};
 
 // Question 23. The checksum, which takes longest, is asked last.
 fn is_leaf(nodesize: usize, image: &[u8]) -> bool
@@ -43,32 +43,26 @@ fn put_sheet(image: &[u8], count: usize, out: &mut [u8])
 {
     fields::put_u8(out, 0, 1);
     let mut at = LEAF_HEADER;
-    let mut n: usize = 0;
     let mut to: usize = 1;
-    while n < count {
+    for _ in 0..count {
         to = put_item(image, at, out, to);
         at += ITEM_HEADER;
-        n += 1;
     }
 }
 
-pub fn read(nodesize: u32, image: &[u8], out: &mut [u8]) -> Edited
+pub fn read(nodesize: u32, image: &[u8], out: &mut [u8]) -> Result<Edited, Refusal>
     ensures { Answered (held_sheet (length out.old) (read_image nodesize image.now)) result out.old out.new }
 {
     if !item_list::nodesize_fits(nodesize) {
-        return Edited::Refused(3);
+        return Err(Refusal::RANGE);
     }
     if !is_leaf(nodesize as usize, image) {
-        return Edited::Refused(23);
+        return Err(Refusal::NO_LEAF);
     }
-    match checking::check(image) {
-        Packing::Refused(refusal) => Edited::Refused(refusal),
-        Packing::Packed { count, size } => {
-            if out.len() < size {
-                return Edited::Refused(21);
-            }
-            put_sheet(image, count, out);
-            Edited::Written(size)
-        }
+    let packed = checking::check(image)?;
+    if out.len() < packed.size {
+        return Err(Refusal::NO_ROOM);
     }
+    put_sheet(image, packed.count, out);
+    Ok(Edited::Written(packed.size))
 }

@@ -1,6 +1,5 @@
 // The writer of an image: questions 1, 2, 3, 18 and 21, then the image. Item headers grow from the left, data from the right.
 ghost use Rattle.std.specs.Prelude.{◌≡◌, ◌+◌, ◌-◌, ◌≤◌, length};
-ghost use Rattle.fields.specs.Numbers.{le_bytes};
 ghost use Rattle.fields.specs.Parts.{written};
 ghost use Rattle.format.specs.Constants.{item_header, leaf_header, most_data, most_items};
 ghost use Rattle.format.specs.Questions.{Answered};
@@ -9,15 +8,7 @@ ghost use Rattle.format.specs.LeafImage.{item_header_bytes, headers_bytes, data_
 ghost use Rattle.item_list.specs.Steps.{IsList, list_items};
 ghost use Rattle.leaf_image.specs.Writing.{leaf_header_bytes, area_bytes};
 
-use format::{Edited, ITEM_HEAD, ITEM_HEADER, Key, LEAF_HEADER};
-use item_list::Checked;
-
-fn put_kind(out: &mut [u8], at: usize, kind: u8)
-    requires { at + 1 ≤ length out.old }
-    ensures { out.new ≡ written at (le_bytes 1 kind) out.old }
-{
-    fields::put_u8(out, at, kind);
-}
+use format::{Edited, ITEM_HEAD, ITEM_HEADER, Key, LEAF_HEADER, Refusal};
 
 // An item header goes to `out` at `at`.
 fn put_item_header(key: Key, position: usize, size: usize, out: &mut [u8], at: usize)
@@ -25,7 +16,7 @@ fn put_item_header(key: Key, position: usize, size: usize, out: &mut [u8], at: u
     ensures { out.new ≡ written at (item_header_bytes key position size) out.old }
 {
     fields::put_u64_le(out, at, key.objectid);
-    put_kind(out, at + 8, key.kind);
+    fields::put_u8(out, at + 8, key.kind);
     fields::put_u64_le(out, at + 9, key.offset);
     fields::put_u32_le(out, at + 17, position as u32);
     fields::put_u32_le(out, at + 21, size as u32);
@@ -92,32 +83,36 @@ fn put_image(header: &[u8], sheet: &[u8], count: usize, nodesize: usize, out: &m
 }
 
 // Questions 3, 18 and 21 of an item list with so many items, then the image.
-fn write_listed(nodesize: u32, header: &[u8], sheet: &[u8], count: usize, out: &mut [u8]) -> Edited
+fn write_listed(
+    nodesize: u32,
+    header: &[u8],
+    sheet: &[u8],
+    count: usize,
+    out: &mut [u8],
+) -> Result<Edited, Refusal>
     requires { IsList sheet.now × (count ≡ length (list_items sheet.now)) }
     ensures { Answered (held_image (length out.old) (write_image nodesize header.now sheet.now)) result out.old out.new }
 {
     if !item_list::nodesize_fits(nodesize) {
-        return Edited::Refused(3);
+        return Err(Refusal::RANGE);
     }
     if header.len() != LEAF_HEADER {
-        return Edited::Refused(3);
+        return Err(Refusal::RANGE);
     }
     let size = nodesize as usize;
     if size < 100 + sheet.len() + 4 * count {
-        return Edited::Refused(18);
+        return Err(Refusal::NO_FIT);
     }
     if out.len() < size {
-        return Edited::Refused(21);
+        return Err(Refusal::NO_ROOM);
     }
     put_image(header, sheet, count, size, out);
-    Edited::Written(size)
+    Ok(Edited::Written(size))
 }
 
-pub fn write(nodesize: u32, header: &[u8], sheet: &[u8], out: &mut [u8]) -> Edited
+pub fn write(nodesize: u32, header: &[u8], sheet: &[u8], out: &mut [u8]) -> Result<Edited, Refusal>
     ensures { Answered (held_image (length out.old) (write_image nodesize header.now sheet.now)) result out.old out.new }
 {
-    match item_list::check(sheet) {
-        Checked::Refused(refusal) => Edited::Refused(refusal),
-        Checked::Count(count) => write_listed(nodesize, header, sheet, count, out),
-    }
+    let count = item_list::check(sheet)?;
+    write_listed(nodesize, header, sheet, count, out)
 }

@@ -1,7 +1,7 @@
 use mathlib.Core.Path.{◌≡◌, sym, ◌∙◌}
 use native.Mathlib.Omega.{arith}
 use Rattle.format.specs.LeafImage.{count_in}
-use Rattle.leaf_image.proofs.Packed.{count-is, packed-over}
+use Rattle.leaf_image.proofs.Packing.{count-is, packed-over}
 use Rattle.leaf_image.proofs.checking.check.Lts as lts
 use Rattle.leaf_image.proofs.checking.check.Reads as reads
 use Rattle.leaf_image.proofs.checking.check.Tie as tie
