@@ -12,8 +12,9 @@ use borrow.Author.Tests.{lt-leb}
 use Rattle.fields.specs.Parts.{part, written}
 use Rattle.fields.proofs.Lists.{lt-or}
 use Rattle.fields.proofs.Parts.{part-rest, stores}
-use Rattle.format.specs.declared.Edited.TheVariants.{Written, Refused as Denied}
-use Rattle.format.specs.Questions.{Answer, refused, absent, remove, accepted, ask, bind, held_text, Answered}
+use Rattle.std.specs.Prelude.{Ok}
+use Rattle.format.specs.declared.Edited.TheVariants.{Written}
+use Rattle.format.specs.Questions.{Answer, refused, absent, remove, accepted, ask, bind, held_text, denied, Answered}
 use Rattle.format.specs.References.{Ref, Body, total_of, flags_of, start_of, read_body}
 use Rattle.format.specs.Bodies.{body_fits, on_body}
 use Rattle.format.specs.Lister.{line, ref_lines, listing, printed, listed}
@@ -22,7 +23,6 @@ use Rattle.format.proofs.Refs.{read_refs-decides}
 use Rattle.inline_refs.specs.Steps.{read_from}
 use Rattle.inline_refs.specs.Scans.{refs_in, ref_count_of}
 use Rattle.inline_refs.proofs.Notes.{Opens}
-use Rattle.inline_refs.specs.declared.count.Counted.TheVariants.{Count, Refused}
 use Rattle.inline_refs.proofs.Counts.{count-reads, fault-reads}
 use Rattle.text.specs.Puts.{Put}
 use Rattle.lister_text.specs.Refs.{refs_of}
@@ -56,11 +56,11 @@ module _ (type : ℕ) (s : List ℕ) where
   text-shut n e = ap printed (sym (listing-is ∙ ap (λ (x : Answer (List Ref)). bind x (λ refs. accepted (text refs))) e))
 
   module _ (start : ℕ) (o : Opens type s start) where
-    pub text-fault : (n : ℕ) → Refused n ≡ ref_count_of (read_from s start) → printed (refused n) ≡ printed (listing type s)
+    pub text-fault : (n : ℕ) → denied n ≡ ref_count_of (read_from s start) → printed (refused n) ≡ printed (listing type s)
     unfolding read_from
     text-fault n e = text-shut n (o.reads ∙ fault-reads (read_from s start) n (read_refs-decides (length (drop start s)) (drop start s)) e)
 
-    pub text-is : (count : ℕ) → Count count ≡ ref_count_of (read_from s start)
+    pub text-is : (count : ℕ) → Ok count ≡ ref_count_of (read_from s start)
         → line (start ∷ total_of s ∷ flags_of s ∷ count ∷ []) ++ ref_lines (refs_of (read_from s start)) ≡ printed (listing type s)
     unfolding printed bind refs_of
     text-is count e =
@@ -74,10 +74,9 @@ unfolding listed
 text-empty [] e = refl
 text-empty (type ∷ body) e = absurd (omega arith)
 
-pub text-some : (input : List ℕ) → (length input ≡ 0 → ⊥) → printed (listing (get_or input 0 0) (part 1 (length input - 1) input)) ≡ listed input
+pub text-some : {input body : List ℕ} {type : ℕ} → input ≡ type ∷ body → printed (listing type body) ≡ listed input
 unfolding listed
-text-some [] h = absurd (h refl)
-text-some (type ∷ body) h = ap (λ (l : List ℕ). printed (listing type l)) (part-rest 1 (type ∷ body))
+text-some e = ap listed (sym e)
 
 -- ---- the lent output
 
@@ -85,11 +84,11 @@ module _ (text old : List ℕ) where
   pub put-fits : (n : ℕ) (new : List ℕ) → Put text 0 old n new → n ≤ length old → new ≡ written 0 text old
   put-fits n new p h = p.bytes ∙ stores text old 0 (omega (arith, p.further))
 
-  pub text-short : (n : ℕ) → n ≡ 0 + length text → length old < n → Answered (held_text (length old) text) (Denied 21) old old
+  pub text-short : (n : ℕ) → n ≡ 0 + length text → length old < n → Answered (held_text (length old) text) (denied 21) old old
   text-short n e h = text-refused text old (omega arith)
 
   pub text-writes : (n m : ℕ) (new : List ℕ) → n ≡ 0 + length text → n ≤ length old → Put text 0 old m new
-      → Answered (held_text (length old) text) (Written n) old new
+      → Answered (held_text (length old) text) (Ok (Written n)) old new
   text-writes n m new e h p = text-written text old n new (omega arith) h (put-fits m new p (omega (arith, p.further)))
 
 -- ---- how much of an input decides its text

@@ -7,20 +7,23 @@ use native.Mathlib.Omega.{arith}
 use lib.Dec.{T}
 use lib.ListN.{length, drop, length-append}
 use borrow.Author.Tests.{le-leb, lt-leb}
+use Rattle.std.specs.Prelude.{Option, Result, Ok, Err, IsOk}
 use Rattle.fields.proofs.Lists.{by-test}
 use Rattle.fields.specs.Numbers.{le, words}
 use Rattle.fields.specs.Parts.{part}
 use Rattle.fields.proofs.Numbers.{length-words}
+use Rattle.format.specs.declared.Refusal.{Refusal}
 use Rattle.format.specs.Questions.{Answer, refused, accepted, bind}
 use Rattle.format.specs.References.{known, payload_length, count_position, counted, field_count, Ref, ref_at, total_of, flags_of}
 use Rattle.format.specs.Lister.{digits, line, ref_line, ref_lines, printed}
-use Rattle.format.proofs.Answers.{bind_ok}
+use Rattle.format.proofs.Answers.{refused-not, bind_ok}
 use Rattle.format.proofs.Rows.{payload-fields, some-field}
-use Rattle.inline_refs.specs.Steps.{read_from}
-use Rattle.inline_refs.proofs.Steps.{At}
+use Rattle.inline_refs.specs.declared.step.RefAt.{RefAt}
+use Rattle.inline_refs.specs.Steps.{ref_step_at, read_from}
+use Rattle.inline_refs.proofs.Steps.{At, stopped}
 use Rattle.text.specs.Numbers.{spaced}
 use Rattle.text.specs.Puts.{Put}
-use Rattle.lister_text.specs.Refs.{refs_of}
+use Rattle.lister_text.specs.Refs.{ReadIn, Readable, refs_of}
 use Rattle.text.proofs.Numbers.{digits-short, spaced-append, spaced-short, line-is}
 use Rattle.text.proofs.Writes.{put_is, put_then}
 
@@ -138,9 +141,13 @@ ref-short k l t =
 
 -- ---- one reference further
 
--- the references from a position on can be read
-abbrev pub Readable : List ℕ → ℕ → Type 0
-Readable s at = read_from s at ≡ accepted (refs_of (read_from s at))
+-- so no step refuses
+pub no-fault : (s : List ℕ) (at : ℕ) (r : Result (Option RefAt) Refusal) → r ≡ ref_step_at s at → Readable s at → IsOk r
+no-fault s at (Ok step) e h = refl
+no-fault s at (Err refusal) e h = refused-not (sym (stopped s at e refl) ∙ h)
+
+pub read-in : (s : List ℕ) (at : ℕ) (r : RefAt) → At s at r.kind r.start r.size r.count r.next.at → ReadIn s r
+read-in s at r h = record { kind_known = h.kind_known; long = h.long; count_at = h.count_at; inside = omega (arith, h.start, h.further, h.within) }
 
 pub readable : (x : Answer (List Ref)) (refs : List Ref) → x ≡ accepted refs → x ≡ accepted (refs_of x)
 unfolding refs_of

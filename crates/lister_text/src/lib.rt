@@ -3,55 +3,50 @@
 
 mod lines;
 
-ghost use Rattle.std.specs.Prelude.{◌≡◌, ◌≤◌, length, take};
+ghost use Rattle.std.specs.Prelude.{◌≡◌, ◌≤◌, length, take, MatchResult};
 ghost use Rattle.fields.specs.Parts.{written};
-ghost use Rattle.format.specs.Questions.{Answered, held_text};
-ghost use Rattle.format.specs.Lister.{listing, printed, listed};
+ghost use Rattle.format.specs.Questions.{Answered, held_text, refused};
+ghost use Rattle.format.specs.Lister.{printed, listed};
 ghost use Rattle.text.specs.Puts.{Put};
 
-use format::Edited;
-use inline_refs::{Counted, Start};
+use format::{Edited, Refusal};
+use inline_refs::Kinds;
 
-// The text of a body of that type.
-fn put_body(out: &mut [u8], item_type: u8, body: &[u8]) -> usize
-    ensures { Put (printed (listing item_type body.now)) 0 out.old result out.new × (result ≤ 327775) }
+// The text of an input whose references can be read. A refusal is found before a byte is written.
+fn put_read(out: &mut [u8], input: &[u8]) -> Result<usize, Refusal>
+    ensures { MatchResult result (λ next. Put (listed input.now) 0 out.old next out.new × (next ≤ 327775)) (λ refusal. (printed (refused refusal.number) ≡ listed input.now) × (out.new ≡ out.old)) }
 {
-    match inline_refs::open_body(item_type, body) {
-        Start::Refused(number) => lines::put_refused(out, number),
-        Start::From(start) => {
-            let rows = inline_refs::rows();
-            match inline_refs::count_refs(&rows, body, start) {
-                Counted::Refused(number) => lines::put_refused(out, number),
-                Counted::Count(count) => {
-                    let at = lines::put_head(out, body, start, count);
-                    lines::put_refs(out, at, &rows, body, start, count)
-                }
-            }
-        }
-    }
+    let Some((item_type, body)) = input.split_first() else {
+        return Err(Refusal::SHORT);
+    };
+    let start = inline_refs::open_body(*item_type, body)?;
+    let kinds = Kinds::new();
+    let count = inline_refs::count_refs(&kinds, body, start)?;
+    let at = lines::put_head(out, body, start, count);
+    Ok(lines::put_refs(out, at, &kinds, body, start))
 }
 
 // The text of a whole input, or as much of it as the output holds; and how long it is.
 fn put_text(out: &mut [u8], input: &[u8]) -> usize
     ensures { Put (listed input.now) 0 out.old result out.new × (result ≤ 327775) }
 {
-    if input.len() == 0 {
-        return lines::put_refused(out, 6);
+    match put_read(out, input) {
+        Ok(next) => next,
+        Err(refusal) => lines::put_refused(out, refusal.number),
     }
-    put_body(out, input[0], &input[1..])
 }
 
 // The text, where the output holds it; else refusal 21, which writes nothing, so it is measured first.
-pub fn list(input: &[u8], out: &mut [u8]) -> Edited
+pub fn list(input: &[u8], out: &mut [u8]) -> Result<Edited, Refusal>
     ensures { Answered (held_text (length out.old) (listed input.now)) result out.old out.new }
 {
     let mut measured = [0u8; 1];
     let n = put_text(&mut measured, input);
     if out.len() < n {
-        return Edited::Refused(21);
+        return Err(Refusal::NO_ROOM);
     }
     put_text(out, input);
-    Edited::Written(n)
+    Ok(Edited::Written(n))
 }
 
 // The text in an output that holds any: 100 bytes are enough for the first line, and five for each byte of the longest body. The

@@ -7,12 +7,12 @@ use Rattle.text.proofs.Writes.{put-none, put_is}
 use Rattle.lister_text.proofs.Texts.{no-count, some-count}
 use Rattle.lister_text.proofs.lines.put_count.Goals as goal
 
-pub returns-then-count-eq0 : goal.returns-then-count-eq0
-returns-then-count-eq0 c =
-    (put_is (no-count c.args.kind _ _ c.requires.2 c.if-count-eq0.true) (put-none _ _), omega arith)
+pub returns-then-reference-eq0 : goal.returns-then-reference-eq0
+returns-then-reference-eq0 c =
+    (put_is (no-count _ _ _ c.requires.0.count_at c.if-reference-eq0.true) (put-none _ _), omega arith)
 
 pub returns : goal.returns
 returns c = (
-  put_is (ap (λ (n : ℕ). spaced (n ∷ [])) c.weight_at-weight.ensures ∙ some-count c.args.kind _ _ c.requires.2 c.if-count-eq0.false) c.put_field.ensures.0,
+  put_is (ap (λ (n : ℕ). spaced (n ∷ [])) c.weight_at-weight.ensures ∙ some-count _ _ _ c.requires.0.count_at c.if-reference-eq0.false) c.put_field.ensures.0,
   c.put_field.ensures.1,
 )

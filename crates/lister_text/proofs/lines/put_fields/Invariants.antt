@@ -1,15 +1,11 @@
-use mathlib.Core.Path.{◌≡◌}
-use Prim.Native.Nat.{◌+◌, ◌*◌, ◌≤◌}
-use lib.ListN.{length, drop}
+use Prim.Native.Nat.{◌+◌, ◌-◌, ◌*◌, ◌≤◌}
+use lib.ListN.{drop}
 use Rattle.fields.specs.Numbers.{words}
 use Rattle.text.specs.Numbers.{spaced}
 use Rattle.text.proofs.Writes.{Makes}
 use Rattle.lister_text.proofs.lines.put_fields.Given as goal
 
-abbrev pub invariant-loop-left : goal.invariant-loop-left
-invariant-loop-left l =
-    Makes (spaced (words l.left (drop l.field l.body))) l.next l.out (spaced (words l.many (drop l.start l.body))) l.at l.initial.out
-    × (l.next + 21 * l.left ≤ 1000000) × (l.field + 8 * l.left ≤ length l.body) × (length l.out ≡ length l.initial.out)
-
-abbrev pub decreases-loop-left : goal.decreases-loop-left
-decreases-loop-left l = l.left
+abbrev pub invariant-loop-n : goal.invariant-loop-n
+invariant-loop-n l =
+    Makes (spaced (words (l.many - l.n) (drop (l.start + 8 * l.n) l.body))) l.next l.out (spaced (words l.many (drop l.start l.body))) l.at l.initial.out
+    × (l.next ≤ l.at + 21 * l.n)

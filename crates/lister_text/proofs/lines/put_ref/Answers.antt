@@ -1,4 +1,3 @@
-use Prim.Native.Nat.{◌*◌, ◌≤◌}
 use native.Mathlib.Omega.{arith}
 use Rattle.format.proofs.Rows.{payload-fields}
 use Rattle.lister_text.proofs.Texts.{put-line}
@@ -6,17 +5,9 @@ use Rattle.lister_text.proofs.lines.put_ref.Goals as goal
 
 pub put_fields-b-requires : goal.put_fields-b-requires
 put_fields-b-requires c =
-    let inside : 8 * c.field_count-many.result ≤ c.args.size =
-    omega (arith, payload-fields c.args.kind c.requires.0, c.field_count-many.ensures, c.requires.2) in
-    (omega (arith, c.requires.1), omega (arith, c.requires.1, c.requires.4, c.requires.5, c.put_digits-a.ensures.1))
-
-pub put_count-c-requires : goal.put_count-c-requires
-put_count-c-requires c =
-    (c.requires.0, omega (arith, c.requires.1, c.requires.2), c.requires.3, c.put_fields-b.ensures.1)
-
-pub put_byte-requires : goal.put_byte-requires
-put_byte-requires c =
-    omega (arith, c.put_count-c.ensures.1, c.put_fields-b.ensures.1)
+    let r = c.requires.0 in
+    let fields = payload-fields c.args.reference.kind r.kind_known in
+    (omega (arith, fields, c.field_count-many.ensures, r.long, r.inside), omega (arith, fields, c.field_count-many.ensures, r.long, r.inside, c.requires.1, c.requires.2, c.put_digits-a.ensures.1))
 
 pub returns : goal.returns
 returns c =
