@@ -4,7 +4,8 @@ ghost use Rattle.format.specs.Constants.{leaf_header, item_header};
 ghost use Rattle.format.specs.LeafImage.{count_in};
 ghost use Rattle.leaf_image.specs.Packing.{packed};
 
-use super::{Packed, headers};
+use super::Packed;
+use super::headers::Header;
 use format::{ITEM_HEAD, ITEM_HEADER, LEAF_HEADER, Refusal};
 
 // The headers one by one: each one's data is to end where the one before begins, the first one's at the image's end. So positions
@@ -20,11 +21,12 @@ fn walk(image: &[u8], count: usize) -> Result<Packed, Refusal>
     let mut last = item_list::no_key();
     let mut ordered = true;
     for n in 0..count {
-        let position = headers::position_at(image, at) as usize;
-        if position + headers::size_at(image, at) as usize != end {
+        let header = Header { image, at };
+        let position = header.position() as usize;
+        if position + header.size() as usize != end {
             return Err(Refusal::PACKING);
         }
-        let key = headers::key_at(image, at);
+        let key = header.key();
         ordered = item_list::follows(ordered, n, last, key);
         last = key;
         end = position;

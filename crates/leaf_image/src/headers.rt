@@ -5,30 +5,37 @@ ghost use Rattle.format.specs.LeafImage.{data_position, data_size_in, key_in};
 
 use format::Key;
 
-// Where the data of the header at `at` begins.
-pub fn position_at(image: &[u8], at: usize) -> u32
-    requires { at + item_header ≤ length image.now }
-    ensures { result ≡ data_position (drop at image.now) }
-{
-    fields::get_u32_le(image, at + 17)
+// The header at a position of an image that holds all of it.
+#[derive(Clone, Copy)]
+pub struct Header<'a> {
+    pub image: &'a [u8],
+    pub at: usize,
+    ghost inside: { at + item_header ≤ length image.now },
 }
 
-// How long its data is.
-pub fn size_at(image: &[u8], at: usize) -> u32
-    requires { at + item_header ≤ length image.now }
-    ensures { result ≡ data_size_in (drop at image.now) }
-{
-    fields::get_u32_le(image, at + 21)
-}
+impl<'a> Header<'a> {
+    // Where its data begins.
+    pub fn position(self) -> u32
+        ensures { result ≡ data_position (drop self.entry.at self.entry.image.now) }
+    {
+        fields::get_u32_le(self.image, self.at + 17)
+    }
 
-// Its key.
-pub fn key_at(image: &[u8], at: usize) -> Key
-    requires { at + item_header ≤ length image.now }
-    ensures { result ≡ key_in (drop at image.now) }
-{
-    Key {
-        objectid: fields::get_u64_le(image, at),
-        kind: image[at + 8],
-        offset: fields::get_u64_le(image, at + 9),
+    // How long its data is.
+    pub fn size(self) -> u32
+        ensures { result ≡ data_size_in (drop self.entry.at self.entry.image.now) }
+    {
+        fields::get_u32_le(self.image, self.at + 21)
+    }
+
+    // Its key.
+    pub fn key(self) -> Key
+        ensures { result ≡ key_in (drop self.entry.at self.entry.image.now) }
+    {
+        Key {
+            objectid: fields::get_u64_le(self.image, self.at),
+            kind: self.image[self.at + 8],
+            offset: fields::get_u64_le(self.image, self.at + 9),
+        }
     }
 }

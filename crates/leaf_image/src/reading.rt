@@ -1,13 +1,14 @@
 // The reader of an image: questions 3, 23, 24, 2 and 21, then the item list.
 ghost use Rattle.std.specs.Prelude.{◌≡◌, ◌+◌, ◌≤◌, length, drop};
 ghost use Rattle.fields.specs.Parts.{written};
-ghost use Rattle.format.specs.Constants.{item_head, item_header, leaf_header};
+ghost use Rattle.format.specs.Constants.{item_head, leaf_header};
 ghost use Rattle.format.specs.Questions.{Answered};
 ghost use Rattle.format.specs.Items.{item_bytes, sheet_bytes, held_sheet};
 ghost use Rattle.format.specs.LeafImage.{data_position, data_size_in, image_item, is_leaf, read_image};
 ghost use Rattle.leaf_image.specs.Packing.{IsPacked, listed_in};
 
-use super::{checking, headers};
+use super::checking;
+use super::headers::Header;
 use format::{Edited, ITEM_HEADER, LEAF_HEADER, Refusal};
 
 // Question 23. The checksum, which takes longest, is asked last.
@@ -25,15 +26,15 @@ fn is_leaf(nodesize: usize, image: &[u8]) -> bool
     fields::get_u32_le(image, 0) == crc32c::finish(register)
 }
 
-// The item whose header stands at `at` goes to `out` at `to`. Returns the position past it.
-fn put_item(image: &[u8], at: usize, out: &mut [u8], to: usize) -> usize
-    requires { (at + item_header ≤ length image.now) × (leaf_header + (data_position (drop at image.now) + data_size_in (drop at image.now)) ≤ length image.now) × (length image.now ≤ 65536) × (to + (item_head + data_size_in (drop at image.now)) ≤ length out.old) }
-    ensures { (result ≡ to + (item_head + data_size_in (drop at image.now))) × (out.new ≡ written to (item_bytes (image_item (drop leaf_header image.now) (drop at image.now))) out.old) }
+// The item that the header describes goes to `out` at `to`. Returns the position past it.
+fn put_item<'a>(header: Header<'a>, out: &mut [u8], to: usize) -> usize
+    requires { (leaf_header + (data_position (drop header.at header.image.now) + data_size_in (drop header.at header.image.now)) ≤ length header.image.now) × (length header.image.now ≤ 65536) × (to + (item_head + data_size_in (drop header.at header.image.now)) ≤ length out.old) }
+    ensures { (result ≡ to + (item_head + data_size_in (drop header.entry.at header.entry.image.now))) × (out.new ≡ written to (item_bytes (image_item (drop leaf_header header.entry.image.now) (drop header.entry.at header.entry.image.now))) out.old) }
 {
-    let start = LEAF_HEADER + headers::position_at(image, at) as usize;
-    let size = headers::size_at(image, at) as usize;
-    let inside = item_list::append_head(headers::key_at(image, at), size, out, to);
-    item_list::append(image, start, start + size, out, inside)
+    let start = LEAF_HEADER + header.position() as usize;
+    let size = header.size() as usize;
+    let inside = item_list::append_head(header.key(), size, out, to);
+    item_list::append(header.image, start, start + size, out, inside)
 }
 
 // The items of a packed image go to `out` as an item list.
@@ -45,7 +46,7 @@ fn put_sheet(image: &[u8], count: usize, out: &mut [u8])
     let mut at = LEAF_HEADER;
     let mut to: usize = 1;
     for _ in 0..count {
-        to = put_item(image, at, out, to);
+        to = put_item(Header { image, at }, out, to);
         at += ITEM_HEADER;
     }
 }

@@ -10,14 +10,14 @@ loop-n-init c =
     let p = c.requires in
     (omega arith, omega arith, behind-first c.args.image.now c.no_key-last.result (omega (arith, p.0, p.1)))
 
-pub returns-then-position-size_at : goal.returns-then-position-size_at
-returns-then-position-size_at c =
+pub returns-then-position-size : goal.returns-then-position-size
+returns-then-position-size c =
     let loop = c.loop-n in
     let more : loop.n < count_in c.args.image.now = omega (arith, c.loop-n-test.true, c.requires.0) in
     sym
     (loop.invariant.2
     ∙ behind-apart _ _ _ _ _ _ more
-    (λ e. c.if-position-size_at.true (omega (arith, e, c.position_at-position.ensures, c.size_at.ensures))))
+    (λ e. c.if-position-size.true (omega (arith, e, c.position-position.ensures, c.size.ensures))))
 
 pub loop-n-preserved : goal.loop-n-preserved
 loop-n-preserved c =
@@ -26,8 +26,8 @@ loop-n-preserved c =
       omega arith,
       omega arith,
       loop.invariant.2
-          ∙ behind-next _ _ _ _ _ _ more _ _ _ _ c.position_at-position.ensures c.size_at.ensures c.key_at-key.ensures c.follows-ordered.ensures
-          c.if-position-size_at.false loop.invariant.1,
+          ∙ behind-next _ _ _ _ _ _ more _ _ _ _ c.position-position.ensures c.size.ensures c.key-key.ensures c.follows-ordered.ensures
+          c.if-position-size.false loop.invariant.1,
     )
 
 pub returns-then-end-count : goal.returns-then-end-count

@@ -4,6 +4,6 @@ use Rattle.leaf_image.proofs.reading.put_item.Goals as goal
 
 pub returns : goal.returns
 returns c =
-    let a = c.args in
-    item-puts a.image.now (drop a.at a.image.now) c.requires.1 a.out.now _ _ a.to c.position_at.result c.size_at-size.result _ _ c.key_at.result
-    c.position_at.ensures c.size_at-size.ensures c.key_at.ensures c.requires.3 c.append_head-inside.ensures c.append.ensures
+    let h = c.args.header in
+    item-puts h.image.now (drop h.at h.image.now) c.requires.0 c.args.out.now _ _ c.args.to c.position.result c.size-size.result _ _ c.key.result
+    c.position.ensures c.size-size.ensures c.key.ensures c.requires.2 c.append_head-inside.ensures c.append.ensures

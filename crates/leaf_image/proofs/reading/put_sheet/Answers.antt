@@ -18,11 +18,17 @@ loop-init c =
     let room : length (sheet_bytes (listed_in c.args.image.now)) ≤ length c.put_u8.new.out = omega (arith, c.requires.3, c.put_u8.auto.out) in
     (omega arith, left-first c.args.image.now _ c.requires.1 room)
 
+pub invariant_of-put_item : goal.invariant_of-put_item
+invariant_of-put_item c =
+    let i = c.loop.invariant in
+    let more : c.loop.counter < count_in c.args.image.now = omega (arith, c.loop-test.true, packed-count _ _ c.requires.1 c.requires.2) in
+    record { inside = fits-header i.1 more i.0 }
+
 pub put_item-to-requires : goal.put_item-to-requires
 put_item-to-requires c =
     let i = c.loop.invariant in
     let more : c.loop.counter < count_in c.args.image.now = omega (arith, c.loop-test.true, packed-count _ _ c.requires.1 c.requires.2) in
-    (fits-header i.1 more i.0, fits-image i.1 more, c.requires.0, fits_out i.1 more)
+    (fits-image i.1 more, c.requires.0, fits_out i.1 more)
 
 pub overflow_add-at : goal.overflow_add-at
 overflow_add-at c =
