@@ -10,6 +10,15 @@ ghost use Rattle.leaf_image.specs.Writing.{leaf_header_bytes, area_bytes};
 
 use format::{Edited, ITEM_HEAD, ITEM_HEADER, Key, LEAF_HEADER, Refusal};
 
+// What a leaf of `nodesize` bytes is written from: an item list with so many items, which fit in it.
+#[derive(Clone, Copy)]
+struct Leaf<'a> {
+    sheet: &'a [u8],
+    count: usize,
+    nodesize: usize,
+    ghost fits: { IsList sheet.now × (count ≡ length (list_items sheet.now)) × (space_of (list_items sheet.now) ≤ nodesize) × (nodesize ≤ 65536) },
+}
+
 // An item header goes to `out` at `at`.
 fn put_item_header(key: Key, position: usize, size: usize, out: &mut [u8], at: usize)
     requires { (position ≤ 65535) × (size ≤ most_data) × (at + item_header ≤ length out.old) }
@@ -22,15 +31,16 @@ fn put_item_header(key: Key, position: usize, size: usize, out: &mut [u8], at: u
     fields::put_u32_le(out, at + 21, size as u32);
 }
 
-// The headers and the data of all items, which fit in a leaf of `nodesize` bytes. Returns where the last one's data begins.
-fn put_items(sheet: &[u8], nodesize: usize, out: &mut [u8]) -> usize
-    requires { IsList sheet.now × (space_of (list_items sheet.now) ≤ nodesize) × (nodesize ≤ 65536) × (nodesize ≤ length out.old) }
-    ensures { (result + length (data_bytes (list_items sheet.now)) ≡ nodesize) × (out.new ≡ written result (data_bytes (list_items sheet.now)) (written leaf_header (headers_bytes (nodesize - leaf_header) (list_items sheet.now)) out.old)) }
+// The headers and the data of all items. Returns where the last one's data begins.
+fn put_items<'a>(leaf: Leaf<'a>, out: &mut [u8]) -> usize
+    requires { leaf.nodesize ≤ length out.old }
+    ensures { (result + length (data_bytes (list_items leaf.entry.sheet.now)) ≡ leaf.entry.nodesize) × (out.new ≡ written result (data_bytes (list_items leaf.entry.sheet.now)) (written leaf_header (headers_bytes (leaf.entry.nodesize - leaf_header) (list_items leaf.entry.sheet.now)) out.old)) }
 {
+    let sheet = leaf.sheet;
     let mut from: usize = 1;
     let mut size = ITEM_HEAD;
     let mut at = LEAF_HEADER;
-    let mut end = nodesize;
+    let mut end = leaf.nodesize;
     while from < sheet.len() {
         size = item_list::size_after(sheet, from, size);
         let next = from + size;
@@ -62,23 +72,23 @@ fn put_leaf_header(header: &[u8], count: usize, out: &mut [u8])
 }
 
 // What follows it: the items from both ends, and the gap between them cleared.
-fn put_area(sheet: &[u8], count: usize, nodesize: usize, out: &mut [u8])
-    requires { IsList sheet.now × (count ≡ length (list_items sheet.now)) × (space_of (list_items sheet.now) ≤ nodesize) × (nodesize ≤ 65536) × (nodesize ≤ length out.old) }
-    ensures { out.new ≡ written leaf_header (area_bytes nodesize (list_items sheet.now)) out.old }
+fn put_area<'a>(leaf: Leaf<'a>, out: &mut [u8])
+    requires { leaf.nodesize ≤ length out.old }
+    ensures { out.new ≡ written leaf_header (area_bytes leaf.entry.nodesize (list_items leaf.entry.sheet.now)) out.old }
 {
-    let begin = put_items(sheet, nodesize, out);
-    let gap = LEAF_HEADER + ITEM_HEADER * count;
+    let begin = put_items(leaf, out);
+    let gap = LEAF_HEADER + ITEM_HEADER * leaf.count;
     fields::clear(out, gap, begin - gap);
 }
 
 // The image, and then the checksum of what stands from byte 32 on.
-fn put_image(header: &[u8], sheet: &[u8], count: usize, nodesize: usize, out: &mut [u8])
-    requires { IsList sheet.now × (count ≡ length (list_items sheet.now)) × (length header.now ≡ leaf_header) × (space_of (list_items sheet.now) ≤ nodesize) × (nodesize ≤ 65536) × (nodesize ≤ length out.old) }
-    ensures { out.new ≡ written 0 (image_bytes nodesize header.now (list_items sheet.now)) out.old }
+fn put_image<'a>(leaf: Leaf<'a>, header: &[u8], out: &mut [u8])
+    requires { (length header.now ≡ leaf_header) × (leaf.nodesize ≤ length out.old) }
+    ensures { out.new ≡ written 0 (image_bytes leaf.entry.nodesize header.now (list_items leaf.entry.sheet.now)) out.old }
 {
-    put_leaf_header(header, count, out);
-    put_area(sheet, count, nodesize, out);
-    let register = crc32c::update(0xffff_ffff, &out[32..nodesize]);
+    put_leaf_header(header, leaf.count, out);
+    put_area(leaf, out);
+    let register = crc32c::update(0xffff_ffff, &out[32..leaf.nodesize]);
     fields::put_u32_le(out, 0, crc32c::finish(register));
 }
 
@@ -106,7 +116,12 @@ fn write_listed(
     if out.len() < size {
         return Err(Refusal::NO_ROOM);
     }
-    put_image(header, sheet, count, size, out);
+    let leaf = Leaf {
+        sheet,
+        count,
+        nodesize: size,
+    };
+    put_image(leaf, header, out);
     Ok(Edited::Written(size))
 }
 

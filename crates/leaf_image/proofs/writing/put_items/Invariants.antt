@@ -10,7 +10,7 @@ use Rattle.leaf_image.proofs.writing.put_items.Given as goal
 
 abbrev pub invariant-loop-from : goal.invariant-loop-from
 invariant-loop-from l =
-    PastItem l.sheet l.from l.size × Walked l.sheet l.from (λ (rest : List Item). Placing l.nodesize (list_items l.sheet) l.initial.out l.out l.at l.end rest)
+    PastItem l.leaf.sheet.now l.from l.size × Walked l.leaf.sheet.now l.from (λ (rest : List Item). Placing l.leaf.nodesize (list_items l.leaf.sheet.now) l.initial.out l.out l.at l.end rest)
 
 abbrev pub decreases-loop-from : goal.decreases-loop-from
-decreases-loop-from l = length l.sheet - l.from
+decreases-loop-from l = length l.leaf.sheet.now - l.from
