@@ -6,7 +6,7 @@ ghost use Rattle.leaf_image.specs.Packing.{packed};
 
 use super::Packed;
 use super::headers::Header;
-use format::{ITEM_HEAD, ITEM_HEADER, LEAF_HEADER, Refusal};
+use format::{ITEM_HEAD, ITEM_HEADER, Key, LEAF_HEADER, Refusal};
 
 // The headers one by one: each one's data is to end where the one before begins, the first one's at the image's end. So positions
 // never rise, and only the last has to be held against the end of the headers. Keys that fall are refused after all headers: a fault
@@ -18,7 +18,7 @@ fn walk(image: &[u8], count: usize) -> Result<Packed, Refusal>
     let area = image.len() - LEAF_HEADER;
     let mut at = LEAF_HEADER;
     let mut end = area;
-    let mut last = item_list::no_key();
+    let mut last = Key::default();
     let mut ordered = true;
     for n in 0..count {
         let header = Header { image, at };

@@ -8,7 +8,7 @@ use Rattle.leaf_image.proofs.checking.walk.Goals as goal
 pub loop-n-init : goal.loop-n-init
 loop-n-init c =
     let p = c.requires in
-    (omega arith, omega arith, behind-first c.args.image.now c.no_key-last.result (omega (arith, p.0, p.1)))
+    (omega arith, omega arith, behind-first c.args.image.now c.default-last.result (omega (arith, p.0, p.1)))
 
 pub returns-then-position-size : goal.returns-then-position-size
 returns-then-position-size c =
