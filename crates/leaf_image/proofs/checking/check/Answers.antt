@@ -23,6 +23,3 @@ pub walk-requires : goal.walk-requires
 walk-requires c =
     let e = count-read c.before.before in
     (e, omega (arith, c.if-image-count.false, c.requires))
-
-pub returns : goal.returns
-returns c = c.walk.ensures

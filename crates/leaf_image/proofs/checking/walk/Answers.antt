@@ -2,7 +2,7 @@ use mathlib.Core.Path.{sym, ◌∙◌}
 use Prim.Native.Nat.{◌<◌}
 use native.Mathlib.Omega.{arith}
 use Rattle.format.specs.LeafImage.{count_in}
-use Rattle.leaf_image.proofs.Packing.{behind-first, behind-low, behind-apart, behind-next, behind-end}
+use Rattle.leaf_image.proofs.Packing.{behind-first, behind-apart, behind-next, behind-end}
 use Rattle.leaf_image.proofs.checking.walk.Goals as goal
 
 pub loop-n-init : goal.loop-n-init
@@ -29,11 +29,6 @@ loop-n-preserved c =
           ∙ behind-next _ _ _ _ _ _ more _ _ _ _ c.position-position.ensures c.size.ensures c.key-key.ensures c.follows-ordered.ensures
           c.if-position-size.false loop.invariant.1,
     )
-
-pub returns-then-end-count : goal.returns-then-end-count
-returns-then-end-count c =
-    let loop = c.loop-n in
-    sym (loop.invariant.2 ∙ behind-low _ _ _ _ _ _ (omega (arith, c.if-end-count.true, c.requires.0)))
 
 pub returns-then-ordered : goal.returns-then-ordered
 returns-then-ordered c =

@@ -1,4 +1,3 @@
-use borrow.Author.Rules.{rules}
 use mathlib.Core.Path.{◌∙◌}
 use Prim.Native.Nat.{◌≤◌, ◌<◌}
 use native.Mathlib.Omega.{arith}
@@ -29,13 +28,6 @@ put_item-to-requires c =
     let i = c.loop.invariant in
     let more : c.loop.counter < count_in c.args.image.now = omega (arith, c.loop-test.true, packed-count _ _ c.requires.1 c.requires.2) in
     (fits-image i.1 more, c.requires.0, fits_out i.1 more)
-
-pub overflow_add-at : goal.overflow_add-at
-overflow_add-at c =
-    let i = c.loop.invariant in
-    let more : c.loop.counter < count_in c.args.image.now = omega (arith, c.loop-test.true, packed-count _ _ c.requires.1 c.requires.2) in
-    let inside = fits-header i.1 more i.0 in
-    search rules
 
 pub loop-preserved : goal.loop-preserved
 loop-preserved c =

@@ -17,9 +17,6 @@ loop-from-init c =
     let p = c.args.leaf.fits in
     (past_first _ (list-some _ p.0), record { items = _; rest = rest_all _ p.0; so = placing-none _ _ _ p.2 c.requires })
 
-pub size_after-size-requires : goal.size_after-size-requires
-size_after-size-requires c = let b = c.loop-from.invariant.0 in (b.inside, b.low, b.high)
-
 -- an item is at hand
 more : {s : List ℕ} {from size : ℕ} {items : List Item} → size ≡ item_size_at s from → Rest s from items → from < length s → More s from (from + size) items
 more {s = s} {from = from} {items = items} e rest h = subst (λ (k : ℕ). More s from (from + k) items) (sym e) (rest-item _ _ _ rest h)
@@ -45,21 +42,12 @@ put_item_header-requires c =
     let l = c.loop-from.invariant.1.so.long in
     (omega (arith, t, c.args.leaf.fits.3), omega (arith, t), omega (arith, t, l, c.requires))
 
-pub overflow_add-from : goal.overflow_add-from
-overflow_add-from c = let w = (more c.size_after-size.ensures c.loop-from.invariant.1.rest c.loop-from-test.true).whole in search rules
-
 pub append-requires : goal.append-requires
 append-requires c =
     let w = (more c.size_after-size.ensures c.loop-from.invariant.1.rest c.loop-from-test.true).whole in
     let t = turn _ _ _ _ _ _ _ c.loop-from.invariant.1.so _ _ _ (more c.size_after-size.ensures c.loop-from.invariant.1.rest c.loop-from-test.true) c.requires in
     let l = c.loop-from.invariant.1.so.long in
     (omega (arith, t), w.within, omega (arith, t), omega (arith, t, l, c.requires))
-
-pub overflow_add-at : goal.overflow_add-at
-overflow_add-at c =
-    let t = turn _ _ _ _ _ _ _ c.loop-from.invariant.1.so _ _ _ (more c.size_after-size.ensures c.loop-from.invariant.1.rest c.loop-from-test.true) c.requires in
-    let p = c.args.leaf.fits.3 in
-    omega (arith, t, p)
 
 pub loop-from-smaller : goal.loop-from-smaller
 loop-from-smaller c = let w = (more c.size_after-size.ensures c.loop-from.invariant.1.rest c.loop-from-test.true).whole in omega arith
@@ -75,9 +63,6 @@ loop-from-preserved c =
         so = placed-next _ _ _ _ _ _ _ i.so _ _ _ m c.requires _ _ _ c.key_at.ensures c.put_item_header.ensures c.append.ensures.1;
       },
     )
-
-pub shape_of-out : goal.shape_of-out
-shape_of-out c = c.loop-from.invariant.1.so.long
 
 pub returns : goal.returns
 returns c = let i = c.loop-from.invariant.1 in placing-all _ _ _ _ _ _ _ i.so (rest_end _ _ _ i.rest c.loop-from-test.false)
