@@ -4,14 +4,14 @@ use mathlib.Core.Path.{◌≡◌, refl, sym, ap, ap₂, ◌∙◌}
 use mathlib.Core.Logic.{◌⊎◌, inl, inr}
 use mathlib.Core.Bool.{Bool, true, false}
 use mathlib.Core.List.{List, [], ◌∷◌, ◌++◌}
-use Prim.Native.Nat.{ℕ, ◌+◌, ◌-◌, ◌≤◌, ◌<◌}
+use Prim.Native.Nat.{ℕ, ◌+◌, ◌≤◌, ◌<◌}
 use native.Mathlib.Omega.{arith}
-use lib.ListN.{length, take, drop, get_or}
+use lib.ListN.{length, take, drop}
 use lib.Seq.{take_all, length-take-le}
 use borrow.Author.Tests.{lt-leb}
-use Rattle.fields.specs.Parts.{part, written}
+use Rattle.fields.specs.Parts.{written}
 use Rattle.fields.proofs.Lists.{lt-or}
-use Rattle.fields.proofs.Parts.{part-rest, stores}
+use Rattle.fields.proofs.Parts.{stores}
 use Rattle.std.specs.Prelude.{Ok}
 use Rattle.format.specs.declared.Edited.TheVariants.{Written}
 use Rattle.format.specs.Questions.{Answer, refused, absent, remove, accepted, ask, bind, held_text, denied, Answered}

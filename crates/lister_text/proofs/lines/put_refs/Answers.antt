@@ -1,12 +1,9 @@
 use native.Mathlib.Omega.{arith}
 use lib.ListN.{drop}
 use Rattle.inline_refs.proofs.Steps.{stepped, ended}
-use Rattle.text.proofs.Writes.{makes-all, makes-is, makes-next, makes-done}
+use Rattle.text.proofs.Writes.{makes-is, makes-next, makes-done}
 use Rattle.lister_text.proofs.Texts.{no-fault, read-in, readable-next, lines_next, lines_end, ref-short}
 use Rattle.lister_text.proofs.lines.put_refs.Goals as goal
-
-pub loop-reference-init : goal.loop-reference-init
-loop-reference-init c = (makes-all _ _ _, c.requires.1, omega arith, c.requires.2)
 
 pub unwrap-requires : goal.unwrap-requires
 unwrap-requires c = no-fault _ _ _ c.step.ensures c.loop-reference.invariant.1
