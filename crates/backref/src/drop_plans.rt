@@ -33,23 +33,21 @@ pub fn plan_drop(item_type: u8, body: &[u8], wanted: RefName, amount: u32) -> Re
     let total = fields::get_u64_le(body, 0);
     ask_drop(wanted, amount, found.weight, total)?;
     let rest = total_plans::total_less(total, amount);
-    if found.weight <= amount {
-        return Ok(Plan::Edit(BodyEdit {
-            from: found.at,
-            to: found.next,
-            new: [0; 32],
-            size: 0,
-            total: rest,
-            count: 0,
-        }));
-    }
-    Ok(Plan::Edit(BodyEdit {
+    let gone = BodyEdit {
         from: found.at,
         to: found.next,
-        new: new_bytes::bytes_of(wanted, found.weight - amount),
-        size: new_bytes::size_of(wanted),
+        new: [0; 32],
+        size: 0,
         total: rest,
         count: 0,
+    };
+    if found.weight <= amount {
+        return Ok(Plan::Edit(gone));
+    }
+    Ok(Plan::Edit(BodyEdit {
+        new: new_bytes::bytes_of(wanted, found.weight - amount),
+        size: new_bytes::size_of(wanted),
+        ..gone
     }))
 }
 
@@ -58,15 +56,15 @@ pub fn plan_take(item_type: u8, body: &[u8], wanted: RefName) -> Result<Plan, Re
     ensures { PlannedTaken result body.now (take_inline item_type body.now wanted) }
 {
     let seen = inline_refs::scan_body(item_type, body, wanted, 0)?;
-    let Some(found) = inline_refs::hit_of(seen) else {
+    let Some(taken) = inline_refs::hit_of(seen) else {
         return Ok(Plan::Absent);
     };
     Ok(Plan::Edit(BodyEdit {
-        from: found.at,
-        to: found.next,
+        from: taken.at,
+        to: taken.next,
         new: [0; 32],
         size: 0,
         total: fields::get_u64_le(body, 0),
-        count: found.weight,
+        count: taken.weight,
     }))
 }

@@ -79,30 +79,27 @@ pub fn plan_off(item_type: u8, body: &[u8], wanted: RefName, off: Off) -> DropPl
     }
     let amount = amount_off(off);
     let rest = total_off(off, total);
-    if found.weight <= amount {
-        let edit = BodyEdit {
-            from: found.at,
-            to: found.next,
-            new: [0; 32],
-            size: 0,
-            total: rest,
-            count: found.weight,
-        };
-        return DropPlan {
-            plan: Ok(Plan::Edit(edit)),
-            left: first.behind,
-        };
-    }
-    let edit = BodyEdit {
+    let gone = BodyEdit {
         from: found.at,
         to: found.next,
-        new: new_bytes::bytes_of(wanted, found.weight - amount),
-        size: new_bytes::size_of(wanted),
+        new: [0; 32],
+        size: 0,
         total: rest,
         count: found.weight,
     };
+    if found.weight <= amount {
+        return DropPlan {
+            plan: Ok(Plan::Edit(gone)),
+            left: first.behind,
+        };
+    }
+    let less = BodyEdit {
+        new: new_bytes::bytes_of(wanted, found.weight - amount),
+        size: new_bytes::size_of(wanted),
+        ..gone
+    };
     DropPlan {
-        plan: Ok(Plan::Edit(edit)),
+        plan: Ok(Plan::Edit(less)),
         left: first.behind + (found.weight - amount) as u64,
     }
 }
