@@ -20,7 +20,6 @@ use Rattle.balance.specs.Tally.{RefRun, start, joins, kept_run, after, runs_apar
 use Rattle.balance.proofs.SideBySide.{span-snoc}
 use Rattle.balance.specs.declared.record.Run.{Run as Passed}
 use Rattle.balance.specs.declared.record.Admitted.{Admitted}
-use Rattle.std.specs.Prelude.{Option, Some, None, is_some}
 use Rattle.balance.specs.Spans.{clear, last_rank, run_of, OneRank, RunKept, one_more, Admitting}
 
 pub payload-178 : payload_length 178 ≡ 28
