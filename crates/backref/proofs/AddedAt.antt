@@ -15,7 +15,7 @@ use Rattle.fields.specs.Numbers.{le, le_bytes, are_bytes}
 use Rattle.fields.specs.Parts.{part, written, spliced}
 use Rattle.fields.proofs.Lists.{by-test, all_left, all_right, same-yes}
 use Rattle.format.specs.Questions.{Answer, refused, accepted, ask, bind, denied}
-use Rattle.format.specs.References.{payload_length, Ref, make_ref, ref_bytes, refs_bytes, start_of, Body, body_with, read_body, body_bytes, total_of}
+use Rattle.format.specs.References.{Ref, make_ref, ref_bytes, refs_bytes, start_of, Body, body_with, read_body, body_bytes, total_of}
 use Rattle.format.specs.Bodies.{body_fits, on_body, named}
 use Rattle.format.proofs.Refs.{whole, length-ref_bytes, refs_bytes-append}
 use Rattle.format.proofs.Bodies.{on-body, read-start, read-total, read-sound, body_bytes-read, length-body_bytes, start-least, ReadsBody, body, short, strange, cut_off, read_body-decides}
@@ -29,7 +29,6 @@ use Rattle.inline_refs.proofs.Views.{Between, View, viewed}
 use Rattle.backref.specs.declared.plan.Plan.{Plan}
 use Rattle.backref.specs.declared.plan.Plan.TheVariants.{Edit}
 use Rattle.backref.specs.Plans.{edited, Planned}
-use Rattle.backref.proofs.NewBytes.{Holds}
 use Rattle.backref.proofs.Outcomes.{plan-edit}
 
 -- ---- a body is read, or a question is answered "no"

@@ -2,13 +2,13 @@
 use mathlib.Core.Path.{◌≡◌, refl, sym, ap, subst, ◌∙◌}
 use mathlib.Core.Bool.{Bool, true, false}
 use mathlib.Core.List.{List, [], ◌++◌, append-nil}
-use Prim.Native.Nat.{ℕ, ◌+◌, ◌≤◌, ◌<◌}
+use Prim.Native.Nat.{ℕ, ◌≤◌, ◌<◌}
 use native.Mathlib.Omega.{arith}
 use lib.Bits.{bit_or}
 use lib.Dec.{T, leb}
 use lib.ListN.{length, take, drop, replicate, take-append-drop}
 use borrow.Author.Tests.{le-leb, lt-leb, leb-true}
-use Rattle.std.specs.Prelude.{Option, Some, None, Result, Ok, Err}
+use Rattle.std.specs.Prelude.{Result, Ok, Err}
 use Rattle.format.specs.declared.Refusal.{Refusal}
 use Rattle.fields.specs.Numbers.{le, le_bytes, are_bytes}
 use Rattle.fields.specs.Parts.{part, written, spliced}
@@ -16,7 +16,7 @@ use Rattle.fields.proofs.Numbers.{length-le_bytes}
 use Rattle.format.specs.Questions.{Answer, refused, accepted, ask, bind, told_of, denied}
 use Rattle.format.specs.References.{total_of, flags_of}
 use Rattle.format.specs.Bodies.{body_fits, raised_by, lowered_by_one, reduced_by, on_head, on_total, raise_total, lower_total, reduce_total, flags, with_flags}
-use Rattle.backref.specs.declared.plan.Plan.TheVariants.{Edit, Absent, Remove}
+use Rattle.backref.specs.declared.plan.Plan.TheVariants.{Edit}
 use Rattle.backref.specs.declared.plan.Plan.{Plan}
 use Rattle.backref.specs.Plans.{edited, Planned, KeepsLength}
 use Rattle.backref.specs.Reads.{head_asked}

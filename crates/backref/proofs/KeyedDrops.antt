@@ -1,5 +1,5 @@
 -- Laws of the call on a data reference's item, one for each way out. Assumes nothing.
-use mathlib.Core.Path.{◌≡◌, refl, sym, subst, ◌∙◌}
+use mathlib.Core.Path.{◌≡◌, sym, ◌∙◌}
 use mathlib.Core.Bool.{Bool, true, false}
 use mathlib.Core.List.{List}
 use Prim.Native.Nat.{ℕ, ◌-◌, ◌≤◌, ◌<◌}
@@ -7,7 +7,7 @@ use native.Mathlib.Omega.{arith}
 use lib.Dec.{T}
 use lib.ListN.{length, replicate}
 use borrow.Author.Tests.{le-leb, lt-leb, eq-eqb, ne_eqb}
-use Rattle.std.specs.Prelude.{Option, Some, None, Result, Ok, Err}
+use Rattle.std.specs.Prelude.{Result, Ok}
 use Rattle.format.specs.declared.Refusal.{Refusal}
 use Rattle.fields.specs.Lists.{same}
 use Rattle.fields.specs.Numbers.{le, le_bytes, words, are_bytes}
@@ -17,7 +17,7 @@ use Rattle.format.specs.declared.DataRef.{DataRef}
 use Rattle.format.specs.Questions.{ask, denied}
 use Rattle.format.specs.References.{row_in, payload_length, count_position}
 use Rattle.format.specs.Bodies.{body_fits, triple, keyed_count, drop_keyed_data_ref}
-use Rattle.backref.specs.declared.plan.Plan.TheVariants.{Edit, Absent, Remove}
+use Rattle.backref.specs.declared.plan.Plan.TheVariants.{Edit, Remove}
 use Rattle.backref.specs.declared.plan.Plan.{Plan}
 use Rattle.backref.specs.Plans.{edited, Planned}
 use Rattle.backref.proofs.Outcomes.{plan-edit, plan-refused, plan-remove}

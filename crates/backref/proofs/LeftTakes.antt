@@ -26,7 +26,7 @@ use Rattle.format.proofs.Left.{left_less}
 use Rattle.format.proofs.Splices.{refs_bytes-one}
 use Rattle.inline_refs.specs.declared.ref_name.RefName.{RefName}
 use Rattle.inline_refs.specs.declared.ref_name.RefName.TheVariants.{Block, Data, SharedBlock, SharedData}
-use Rattle.inline_refs.specs.Scans.{kind_of, fields_of, is_wanted, ref_size_of, refs_in, drop_walk, drop_scan_of}
+use Rattle.inline_refs.specs.Scans.{kind_of, fields_of, is_wanted, ref_size_of, refs_in, drop_scan_of}
 use Rattle.inline_refs.proofs.Views.{CutAt, DropView, drop-viewed}
 use Rattle.inline_refs.proofs.RefPositions.{cut-between, cut-passed}
 use Rattle.backref.specs.declared.plan.Plan.TheVariants.{Edit, Absent, Remove}

@@ -8,13 +8,13 @@ use lib.Dec.{leb, le→leb}
 use lib.ListN.{length, take, drop}
 use lib.Seq.{drop_at}
 use borrow.Author.Tests.{le-leb, lt-leb}
-use Rattle.std.specs.Prelude.{Option, Some, None, Result, Ok, Err}
+use Rattle.std.specs.Prelude.{Result, Ok, Err}
 use Rattle.format.specs.declared.Refusal.{Refusal}
 use Rattle.fields.specs.Numbers.{le, le_bytes}
 use Rattle.fields.specs.Parts.{part, written, spliced}
 use Rattle.fields.proofs.Numbers.{le-le_bytes, length-le_bytes}
 use Rattle.fields.proofs.Parts.{written-front, part-written}
-use Rattle.format.specs.Questions.{Answer, refused, absent, remove, accepted, ask, bind, if_absent, denied}
+use Rattle.format.specs.Questions.{Answer, refused, absent, accepted, ask, bind, if_absent, denied}
 use Rattle.format.specs.Bodies.{body_fits, on_head, reduced_by, on_total, reduce_total}
 use Rattle.format.specs.References.{total_of}
 use Rattle.format.proofs.Answers.{ask-yes, if_absent-ok, refused-not}

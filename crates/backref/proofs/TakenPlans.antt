@@ -11,7 +11,7 @@ use Rattle.format.specs.declared.Refusal.{Refusal}
 use Rattle.format.specs.declared.Edited.TheVariants.{Written}
 use Rattle.format.proofs.Answers.{accepted-inj}
 use Rattle.format.specs.declared.Taken.{Taken}
-use Rattle.format.specs.Questions.{Answer, refused, absent, remove, accepted, ask, bind, held, lent, edited_of, taken_of, bytes_of, TakenOut, Answered, AnsweredTaken, denied}
+use Rattle.format.specs.Questions.{Answer, refused, absent, accepted, ask, bind, held, lent, edited_of, taken_of, bytes_of, TakenOut, Answered, AnsweredTaken, denied}
 use Rattle.format.specs.Bodies.{body_fits, held_body, held_taken}
 use Rattle.backref.specs.declared.plan.Plan.TheVariants.{Edit, Absent, Remove}
 use Rattle.backref.specs.declared.plan.BodyEdit.{BodyEdit}

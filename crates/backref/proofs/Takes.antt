@@ -7,7 +7,7 @@ use native.Mathlib.Omega.{arith}
 use lib.Dec.{T}
 use lib.ListN.{take, replicate}
 use borrow.Author.Tests.{lt-ltb, le-ltb}
-use Rattle.std.specs.Prelude.{Option, Some, None, Result, Ok, Err}
+use Rattle.std.specs.Prelude.{Some, None, Result, Ok}
 use Rattle.format.specs.declared.Refusal.{Refusal}
 use Rattle.fields.specs.Numbers.{le, are_bytes}
 use Rattle.fields.specs.Parts.{part}
@@ -24,7 +24,7 @@ use Rattle.inline_refs.specs.declared.scan.Seen.TheVariants.{Open}
 use Rattle.inline_refs.specs.Scans.{kind_of, fields_of, is_wanted, scan_of, refs_in, hit_of}
 use Rattle.inline_refs.proofs.Views.{CutAt}
 use Rattle.inline_refs.proofs.RefPositions.{cut-between, cut-passed, found-view}
-use Rattle.backref.specs.declared.plan.Plan.TheVariants.{Edit, Absent, Remove}
+use Rattle.backref.specs.declared.plan.Plan.TheVariants.{Absent}
 use Rattle.backref.specs.declared.plan.Plan.{Plan}
 use Rattle.backref.specs.Plans.{Planned}
 use Rattle.backref.specs.ByName.{OneOff, drop_named, drop_asked}

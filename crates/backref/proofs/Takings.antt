@@ -5,13 +5,13 @@ use Prim.Native.Nat.{ℕ, ◌≤◌}
 use native.Mathlib.Omega.{arith}
 use lib.Dec.{T, leb, leb→le}
 use lib.ListN.{length, length-append}
-use Rattle.std.specs.Prelude.{Option, Some, None, Result, Ok, Err}
+use Rattle.std.specs.Prelude.{Result, Ok, Err}
 use Rattle.format.specs.declared.Refusal.{Refusal}
 use Rattle.fields.specs.Lists.{Cut, first_cut}
 use Rattle.fields.specs.Numbers.{are_bytes}
 use Rattle.fields.proofs.Lists.{Found, cut-some}
 use Rattle.format.specs.declared.SharedRef.{SharedRef}
-use Rattle.format.specs.Questions.{Answer, refused, absent, remove, accepted, bind, found, bytes_of, TakenOut}
+use Rattle.format.specs.Questions.{Answer, accepted, bind, found, bytes_of, TakenOut}
 use Rattle.format.specs.References.{Ref, ref_bytes, refs_bytes, Body, body_with, read_body, body_bytes}
 use Rattle.format.specs.Bodies.{body_fits, shared_kind, on_body, named, one, take_inline_shared}
 use Rattle.format.proofs.Answers.{ask-ok, bind_ok, found_ok, accepted-inj}

@@ -4,9 +4,8 @@ use mathlib.Core.Bool.{true, false}
 use mathlib.Core.Option.{Option as Maybe}
 use mathlib.Core.List.{List}
 use Prim.Native.Nat.{ℕ}
-use Rattle.std.specs.Prelude.{Option, Some, None, Result, Ok, Err}
+use Rattle.std.specs.Prelude.{Option, Some, None, Ok}
 use Rattle.std.specs.Option.{is_some}
-use Rattle.format.specs.declared.Refusal.{Refusal}
 use Rattle.format.proofs.Bodies.{on-body}
 use Rattle.fields.specs.Lists.{Cut}
 use Rattle.format.specs.declared.DataRef.{DataRef}
