@@ -31,6 +31,7 @@ pub fn drop_inline_data_ref(
     crate::write_plan(body, plan, out)
 }
 
+#[tactic(auto, unfolding(format::specs::Bodies::add_inline_tree_ref))]
 pub fn add_inline_tree_ref(
     item_type: u8,
     body: &[u8],
@@ -44,6 +45,7 @@ pub fn add_inline_tree_ref(
     crate::write_plan(body, plan, out)
 }
 
+#[tactic(auto, unfolding(format::specs::Bodies::add_inline_data_ref))]
 pub fn add_inline_data_ref(
     item_type: u8,
     body: &[u8],
