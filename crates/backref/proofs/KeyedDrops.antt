@@ -15,22 +15,12 @@ use Rattle.fields.specs.Parts.{part, written}
 use Rattle.fields.proofs.Numbers.{length-le_bytes}
 use Rattle.format.specs.declared.DataRef.{DataRef}
 use Rattle.format.specs.Questions.{ask, denied}
-use Rattle.format.specs.References.{row_in, payload_length, count_position}
 use Rattle.format.specs.Bodies.{body_fits, triple, keyed_count, drop_keyed_data_ref}
 use Rattle.backref.specs.declared.plan.Plan.TheVariants.{Edit, Remove}
 use Rattle.backref.specs.declared.plan.Plan.{Plan}
 use Rattle.backref.specs.Plans.{edited, Planned}
 use Rattle.backref.proofs.Outcomes.{plan-edit, plan-refused, plan-remove}
 use Rattle.backref.proofs.PlannedTotals.{rewritten, word-front}
-
--- what the row of a data reference says
-pub long-is : (n : ℕ) → n ≡ payload_length 178 → n ≡ 28
-unfolding payload_length row_in
-long-is n e = e
-
-pub at-is : (n : ℕ) → n ≡ count_position 178 → n ≡ 24
-unfolding count_position row_in
-at-is n e = e
 
 module _ (item : List ℕ) (d : DataRef) (p : Result Plan Refusal) where
   pub keyed-long : 65535 < length item → p ≡ denied 3 → Planned p item (drop_keyed_data_ref item d)
