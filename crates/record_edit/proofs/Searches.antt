@@ -11,13 +11,16 @@ use lib.ListN.{length}
 use mir.Facts.{and_yes}
 use Rattle.fields.specs.Lists.{all, Cut, first_cut}
 use Rattle.fields.proofs.Lists.{all-mid, Found, cut-some}
+use Rattle.std.specs.Prelude.{Option as Maybe, Result}
 use Rattle.format.specs.declared.Key.{Key}
+use Rattle.format.specs.declared.Refusal.{Refusal}
 use Rattle.format.specs.Questions.{Answer, refused, absent, remove, accepted, ask, bind, needed}
 use Rattle.format.specs.Items.{Item, rising, read_sheet, on_sheet}
 use Rattle.format.specs.Sheets.{has_key}
 use Rattle.format.specs.Apply.{is_record, record_of, on_record}
 use Rattle.format.proofs.Items.{sane}
 use Rattle.format.proofs.Keys.{cut-at-key}
+use Rattle.item_list.specs.declared.ItemPlace.{ItemPlace}
 use Rattle.item_list.specs.declared.ItemQuery.TheVariants.{Record}
 use Rattle.item_list.specs.Steps.{item_at, list_items, IsList}
 use Rattle.item_list.specs.Seeks.{passing}
@@ -51,10 +54,10 @@ module _ (s : List ℕ) (three : Bool) where
     unfolding passing
     lacks l e = record { passed = all-passed l.list e; none-there = record-missing extent (list_items s) l.position }
 
-    module _ {n number start end : ℕ} (l : Located (passing (Record extent)) s n number start end) where
-      first-positioned : Positioned (record_of extent) (list_items s) 0 1 number start end
+    module _ {n : ℕ} {place : ItemPlace} (l : Located (passing (Record extent)) s n place) where
+      first-positioned : Positioned (record_of extent) (list_items s) 0 1 place
       unfolding passing
-      first-positioned = positioned (record_of extent) 0 1 (list_items s) number start end l.position
+      first-positioned = positioned (record_of extent) 0 1 (list_items s) place l.position
 
       abbrev d : Cut Item
       d = first-positioned.at_cut
@@ -62,17 +65,17 @@ module _ (s : List ℕ) (three : Bool) where
       found : Found (record_of extent) (list_items s) d
       found = cut-some (record_of extent) (list_items s) first-positioned.is
 
-      within : Inside s d.front d.hit start end
-      within = inside s (list_items s) d.front d.hit d.back start end l.list.bytes-are found.same first-positioned.stands
+      within : Inside s d.front d.hit place.start place.end
+      within = inside s (list_items s) d.front d.hit d.back place.start place.end l.list.bytes-are found.same first-positioned.stands
 
-      pub key-room : start + 21 ≤ length s
+      pub key-room : place.start + 21 ≤ length s
       key-room = let i = within in let p = i.ordered in let q = i.within in omega arith
 
-      pub has : three ≡ true → (key : Key) → key ≡ (item_at s start).key
-          → RecordFound s extent three number (record { key = key; start = start; end = end; item_count = n })
+      pub has : three ≡ true → (key : Key) → key ≡ (item_at s place.start).key
+          → RecordFound s extent three place.index (record { key = key; start = place.start; end = place.end; item_count = n })
       has e key is =
           let hit-is =
-          item-there s d.front d.hit d.back start end l.list.bytes-are found.same
+          item-there s d.front d.hit d.back place.start place.end l.list.bytes-are found.same
           (all-mid sane d.front d.hit d.back (subst (λ (x : List Item). T (all sane x)) found.same l.list.sane-all)) within in
           let key-is : d.hit.key ≡ key = ap (λ (i : Item). i.key) hit-is ∙ sym is in
           let e₁ = within.starts in
@@ -96,8 +99,8 @@ module _ (s : List ℕ) (three : Bool) where
           }
 
 -- question 3 as it was asked, and the answer as it was told
-pub finds-as : (s : List ℕ) (extent : ℕ) {a b : Bool} {r q : FoundRecord} → a ≡ b → r ≡ q → Finds s extent a r → Finds s extent b q
-finds-as s extent {a} {b} {r} {q} e f h = subst (λ (x : FoundRecord). Finds s extent b x) f (subst (λ (x : Bool). Finds s extent x r) e h)
+pub finds-as : (s : List ℕ) (extent : ℕ) {a b : Bool} {r q : Result (Maybe FoundRecord) Refusal} → a ≡ b → r ≡ q → Finds s extent a r → Finds s extent b q
+finds-as s extent {a} {b} {r} {q} e f h = subst (λ (x : Result (Maybe FoundRecord) Refusal). Finds s extent b x) f (subst (λ (x : Bool). Finds s extent x r) e h)
 
 -- ---- what a call on the record answers
 

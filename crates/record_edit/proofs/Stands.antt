@@ -10,7 +10,9 @@ use Rattle.fields.specs.Lists.{all, Cut}
 use Rattle.fields.specs.Numbers.{are_bytes}
 use Rattle.fields.specs.Parts.{part}
 use Rattle.fields.proofs.Lists.{Found, cut-some}
+use Rattle.std.specs.Prelude.{Result, Ok}
 use Rattle.format.specs.declared.Edited.{Edited}
+use Rattle.format.specs.declared.Refusal.{Refusal}
 use Rattle.format.specs.Questions.{Answer, accepted, bind, needed, Answered}
 use Rattle.format.specs.Items.{Item, read_sheet, items_bytes, sheet_bytes, data_fits, held_sheet}
 use Rattle.format.specs.Sheets.{has_key}
@@ -18,7 +20,6 @@ use Rattle.format.specs.Apply.{is_record}
 use Rattle.format.proofs.Items.{length-sheet_bytes, sheet-sane, sheet_bytes-read, sane-fit}
 use Rattle.format.proofs.Keys.{same_key-yes}
 use Rattle.format.proofs.Splices.{sheet-data}
-use Rattle.item_list.specs.declared.Checked.TheVariants.{Count}
 use Rattle.item_list.specs.Steps.{list_items, checked_of}
 use Rattle.item_list.proofs.Reading.{Counted, counted}
 use Rattle.item_list.proofs.Positions.{Inside, inside}
@@ -48,7 +49,7 @@ module _ {s : List ℕ} {target : RecordAt} (bytes : T (are_bytes s)) (h : Stand
       let f : Found (has_key target.key) (list_items s) c = cut-some (has_key target.key) (list_items s) h.finds in
       let k = sheet-sane s (list_items s) bytes h.reads in
       let are : sheet_bytes (list_items s) ≡ s = sheet_bytes-read s (list_items s) bytes h.reads in
-      let list : Counted s target.item_count = counted s target.item_count bytes (ap checked_of h.reads ∙ ap Count h.many) in
+      let list : Counted s target.item_count = counted s target.item_count bytes (ap checked_of h.reads ∙ ap Ok h.many) in
       let e₁ = h.starts in
       let e₂ = h.ends in
       let first : target.start ≡ 1 + length (items_bytes c.front) = sym e₁ ∙ length-sheet_bytes c.front in
@@ -80,7 +81,7 @@ pub on-key : {A : Type 0} {s : List ℕ} {target : RecordAt} (h : StandsAt s tar
 unfolding on_key bind needed
 on-key h next = ap (λ (o : Option (Cut Item)). bind (needed 5 o) next) h.finds
 
-pub key-answered : {s : List ℕ} {target : RecordAt} (h : StandsAt s target) (next : Cut Item → Answer (List Item)) (room : ℕ) (r : Edited) (old new : List ℕ)
+pub key-answered : {s : List ℕ} {target : RecordAt} (h : StandsAt s target) (next : Cut Item → Answer (List Item)) (room : ℕ) (r : Result Edited Refusal) (old new : List ℕ)
     → Answered (held_sheet room (next h.at_cut)) r old new → Answered (held_sheet room (on_key target.key (list_items s) next)) r old new
 key-answered h next room r old new w =
     subst (λ (a : Answer (List Item)). Answered (held_sheet room a) r old new) (sym (on-key h next)) w

@@ -1,36 +1,39 @@
 -- Pieces written one after the other are the two splices, and questions 17 and 21 of them. Assumes nothing.
 use mathlib.Core.Path.{◌≡◌, refl, sym, ap, ap₂, ◌∙◌, subst}
 use mathlib.Core.Bool.{Bool, true, false, ◌&&◌}
-use mathlib.Core.List.{List, [], ◌++◌, append_assoc, append-nil}
+use mathlib.Core.List.{List, ◌++◌, append_assoc}
 use Prim.Native.Nat.{ℕ, ◌+◌, ◌-◌, ◌≤◌, ◌<◌}
 use native.Mathlib.Omega.{arith}
 use lib.ListN.{length, take, drop, length-append, length-drop}
-use lib.Seq.{length-take-le, take-add, take-append-le, take-take, drop_at, drop-length, drop-append-le}
+use lib.Seq.{length-take-le, take-add, take-append-le, take-take, drop_at, drop-append-le}
 use borrow.Author.Tests.{le-leb, lt-leb}
+use Rattle.std.specs.Prelude.{Result, Ok, Err}
 use Rattle.fields.proofs.Lists.{and-false}
 use Rattle.fields.specs.Parts.{part, written, spliced}
 use Rattle.fields.proofs.Parts.{part-rest, length_part, length-spliced}
 use Rattle.format.specs.declared.Key.{Key}
 use Rattle.format.specs.declared.Edited.{Edited}
-use Rattle.format.specs.declared.Edited.TheVariants.{Written, Absent as NoMatch, Remove as Gone, Refused as Denied}
-use Rattle.format.specs.Questions.{Answer, accepted, ask, bind, lent, edited_of, Answered}
+use Rattle.format.specs.declared.Edited.TheVariants.{Written, Absent as NoMatch, Remove as Gone}
+use Rattle.format.specs.declared.Refusal.{Refusal}
+use Rattle.format.specs.Questions.{Answer, accepted, ask, bind, denied, lent, edited_of, Answered}
 use Rattle.format.specs.Items.{Item, item_bytes}
 use Rattle.format.proofs.Items.{length-item_bytes}
 use Rattle.format.proofs.Outputs.{answered-refused, answered-written}
 use Rattle.item_list.specs.ItemWrites.{head_bytes, room_for}
 use Rattle.item_list.proofs.ItemWrites.{length-head, item-head}
-use Rattle.backref.specs.declared.plan.Outcome.TheVariants.{Edit, Absent, Remove, Refused}
+use Rattle.backref.specs.declared.plan.BodyEdit.{BodyEdit}
 use Rattle.backref.specs.declared.plan.Plan.{Plan}
-use Rattle.backref.specs.Plans.{edited, plan_outcome, plan_answer, EditIn}
+use Rattle.backref.specs.declared.plan.Plan.TheVariants.{Edit, Absent, Remove}
+use Rattle.backref.specs.Plans.{edited, plan_answer, EditIn}
 use Rattle.backref.proofs.Writes.{front_of, written_then}
-use Rattle.backref.proofs.Outcomes.{plan-is, length-edited}
+use Rattle.backref.proofs.Outcomes.{length-edited}
 use Rattle.record_edit.specs.declared.SecondEdit.{SecondEdit}
 use Rattle.record_edit.specs.declared.RecordAt.{RecordAt}
 use Rattle.record_edit.specs.Records.{data_of, edit_length, SecondIn, rest_bytes, rest_length, sheet_length, edited_sheet, held_record, held_edit}
 
 -- ---- a planned body
 
-module _ (p : Plan) (body : List ℕ) (h : EditIn p body) where
+module _ (p : BodyEdit) (body : List ℕ) (h : EditIn p body) where
   abbrev item : Key → Item
   item key = record { key = key; bytes = edited p body }
 
@@ -92,20 +95,6 @@ module _ (b : SecondEdit) (end : ℕ) (s : List ℕ) (h : SecondIn b end s) wher
       written_then x y out o₁ o₂ at r₁ n₁ h₁ e₁.1 (e₂.1 ∙ ap (λ (l : List ℕ). written r₁ l o₁) (front_of b.size b.new)) in
       written_then (x ++ y) z out o₂ o₃ at r₂ n₂ h₂ w₂ (e₃ ∙ ap (λ (l : List ℕ). written r₂ l o₂) (part-rest b.to s))
 
-  -- nothing changes behind the record
-  pub alone-writes : (out o : List ℕ) (at : ℕ) → b.size ≡ 0 → b.from ≡ length s
-      → o ≡ written at (part end (b.from - end) s) out
-      → o ≡ written at (rest_bytes b end s) out
-  alone-writes out o at none last e =
-      let order = h.order in
-      let high = h.high in
-      let x : List ℕ = part end (b.from - end) s in
-      let to_end : b.to ≡ length s = omega arith in
-      let y : take b.size b.new ≡ [] = ap (λ (n : ℕ). take n b.new) none in
-      let z : drop b.to s ≡ [] = ap (λ (n : ℕ). drop n s) to_end ∙ drop-length s in
-      e ∙ ap (λ (l : List ℕ). written at l out)
-      (sym (ap₂ (λ (f g : List ℕ). (x ++ f) ++ g) y z ∙ append-nil (x ++ []) ∙ append-nil x))
-
   abbrev inner : List ℕ
   inner = spliced b.from b.to (take b.size b.new) s
 
@@ -148,7 +137,7 @@ module _ (b : SecondEdit) (end : ℕ) (s : List ℕ) (h : SecondIn b end s) wher
 
 -- ---- the whole list
 
-module _ (s : List ℕ) (r : RecordAt) (p : Plan) (b : SecondEdit) (h : SecondIn b r.end s) (k : r.start + 21 ≤ r.end) where
+module _ (s : List ℕ) (r : RecordAt) (p : BodyEdit) (b : SecondEdit) (h : SecondIn b r.end s) (k : r.start + 21 ≤ r.end) where
   abbrev body : List ℕ
   body = data_of s r.start r.end
 
@@ -159,17 +148,7 @@ module _ (s : List ℕ) (r : RecordAt) (p : Plan) (b : SecondEdit) (h : SecondIn
       let high = h.high in
       length_part (r.end - (r.start + 21)) (r.start + 21) s (omega arith)
 
-  -- what the two pieces ask of an output of so many bytes
-  pub record-fits : (m : ℕ) → edit_length p (r.end - (r.start + 21)) ≤ 65535 → sheet_length r p b (length s) ≤ m
-      → (r.start ≤ length s) × (edit_length p (length body) ≤ 65535) × (r.start + 21 + edit_length p (length body) ≤ m)
-  record-fits m j room =
-      let low = h.low in
-      let order = h.order in
-      let high = h.high in
-      let l = length-body in
-      (omega arith, subst (λ (n : ℕ). edit_length p n ≤ 65535) (sym l) j, subst (λ (n : ℕ). r.start + 21 + edit_length p n ≤ m) (sym l) (omega arith))
-
-  -- the same from the length that was asked about
+  -- what the two pieces ask of an output of so many bytes, from the length that was asked about
   pub held_fits : (m size long : ℕ) → size ≡ edit_length p (r.end - (r.start + 21)) → size ≤ 65535
       → long ≡ r.start + 21 + size + rest_length b r.end (length s) → long ≤ m
       → (r.start + 21 ≤ r.end) × (edit_length p (r.end - (r.start + 21)) ≤ 65535) × (sheet_length r p b (length s) ≤ m)
@@ -179,20 +158,9 @@ module _ (s : List ℕ) (r : RecordAt) (p : Plan) (b : SecondEdit) (h : SecondIn
     subst (λ (n : ℕ). n ≤ m) (long-is ∙ ap (λ (n : ℕ). r.start + 21 + n + rest_length b r.end (length s)) is) room,
   )
 
-  pub rest-fits : (m at : ℕ) → at ≡ r.start + 21 + edit_length p (length body) → sheet_length r p b (length s) ≤ m
-      → at + rest_length b r.end (length s) ≤ m
-  rest-fits m at e room =
-      let f : at ≡ r.start + 21 + edit_length p (r.end - (r.start + 21)) = e ∙ ap (λ (n : ℕ). r.start + 21 + edit_length p n) length-body in
-      omega arith
-
   module _ (e : EditIn p body) where
     abbrev new : List ℕ
     new = edited p body
-
-    pub plan-fits : (p.from ≤ p.to) × (p.to ≤ r.end - (r.start + 21)) × (r.end - (r.start + 21) ≤ 65535) × (p.size ≤ 29)
-    plan-fits =
-        let l = length-body in
-        (e.order, subst (λ (n : ℕ). p.to ≤ n) l e.high, subst (λ (n : ℕ). n ≤ 65535) l e.fits, e.small)
 
     length-new : length new ≡ edit_length p (r.end - (r.start + 21))
     length-new = length-edited p body e ∙ ap (edit_length p) length-body
@@ -242,7 +210,7 @@ module _ (s : List ℕ) (r : RecordAt) (p : Plan) (b : SecondEdit) (h : SecondIn
       length-is : length new ≡ size
       length-is = length-new ∙ sym is
 
-      pub over-limit : limit < size → Answered (held_edit room count limit (edited_sheet s r b) new) (Denied 17) old old
+      pub over-limit : limit < size → Answered (held_edit room count limit (edited_sheet s r b) new) (denied 17) old old
       unfolding held_edit ask
       over-limit j =
           let z : limit < length new = subst (λ (n : ℕ). limit < n) (sym length-is) j in
@@ -255,7 +223,7 @@ module _ (s : List ℕ) (r : RecordAt) (p : Plan) (b : SecondEdit) (h : SecondIn
             let z : length new ≤ limit = subst (λ (n : ℕ). n ≤ limit) (sym length-is) j in
             rw (le-leb (length new) limit z)
 
-        pub body-long : 65535 < size → Answered (held_edit room count limit (edited_sheet s r b) new) (Denied 21) old old
+        pub body-long : 65535 < size → Answered (held_edit room count limit (edited_sheet s r b) new) (denied 21) old old
         unfolding held_record ask
         body-long l =
             let z : 65535 < length new = subst (λ (n : ℕ). 65535 < n) (sym length-is) l in
@@ -277,35 +245,37 @@ module _ (s : List ℕ) (r : RecordAt) (p : Plan) (b : SecondEdit) (h : SecondIn
             all-long : long ≡ sheet_length r p b (length s)
             all-long = long-is ∙ ap (λ (n : ℕ). r.start + 21 + n + rest_length b r.end (length s)) is
 
-            pub no_room : room_for room long count ≡ false → Answered (held_edit room count limit (edited_sheet s r b) new) (Denied 21) old old
+            pub no_room : room_for room long count ≡ false → Answered (held_edit room count limit (edited_sheet s r b) new) (denied 21) old old
             unfolding ask
             no_room f = answered-refused old (asked ∙ rw (← all-long, f))
 
             pub all-written : (now : List ℕ) → room_for room long count ≡ true → now ≡ written 0 (edited_sheet s r b new) old
-                → Answered (held_edit room count limit (edited_sheet s r b) new) (Written long) old now
+                → Answered (held_edit room count limit (edited_sheet s r b) new) (Ok (Written long)) old now
             unfolding ask
             all-written now t w =
-                subst (λ (n : ℕ). Answered (held_edit room count limit (edited_sheet s r b) new) (Written n) old now) (length-sheet ∙ sym all-long)
+                subst (λ (n : ℕ). Answered (held_edit room count limit (edited_sheet s r b) new) (Ok (Written n)) old now) (length-sheet ∙ sym all-long)
                 (answered-written {body = edited_sheet s r b new} (asked ∙ rw (← all-long, t)) w)
 
--- ---- by the plan's outcome
+-- ---- by the plan
 
-module _ (p : Plan) (body : List ℕ) (next : List ℕ → Answer (List ℕ)) (old : List ℕ) where
-  pub did-edit : {r : Edited} {now : List ℕ} → p.outcome ≡ Edit → Answered (next (edited p body)) r old now → Answered (bind (plan_answer p body) next) r old now
-  unfolding plan_outcome bind
-  did-edit {r} {now} e h = subst (λ (a : Answer (List ℕ)). Answered (bind a next) r old now) (sym (plan-is p body e)) h
+module _ (body : List ℕ) (next : List ℕ → Answer (List ℕ)) {p : Result Plan Refusal} where
+  pub did-edit : {e : BodyEdit} {r : Result Edited Refusal} {old now : List ℕ} → p ≡ Ok (Edit e) → Answered (next (edited e body)) r old now
+      → Answered (bind (plan_answer p body) next) r old now
+  unfolding plan_answer bind
+  did-edit {r = r} {old} {now} k h = subst (λ (q : Result Plan Refusal). Answered (bind (plan_answer q body) next) r old now) (sym k) h
 
-  pub did_nothing : p.outcome ≡ Absent → Answered (bind (plan_answer p body) next) NoMatch old old
-  unfolding plan_outcome bind lent edited_of
-  did_nothing e =
-      subst (λ (a : Answer (List ℕ)). Answered (bind a next) NoMatch old old) (sym (plan-is p body e)) (record { result = refl; output = refl })
+  module _ (old : List ℕ) where
+    pub did_nothing : p ≡ Ok Absent → Answered (bind (plan_answer p body) next) (Ok NoMatch) old old
+    unfolding plan_answer bind lent edited_of
+    did_nothing k =
+        subst (λ (q : Result Plan Refusal). Answered (bind (plan_answer q body) next) (Ok NoMatch) old old) (sym k) (record { result = refl; output = refl })
 
-  pub did-remove : p.outcome ≡ Remove → Answered (bind (plan_answer p body) next) Gone old old
-  unfolding plan_outcome bind lent edited_of
-  did-remove e =
-      subst (λ (a : Answer (List ℕ)). Answered (bind a next) Gone old old) (sym (plan-is p body e)) (record { result = refl; output = refl })
+    pub did-remove : p ≡ Ok Remove → Answered (bind (plan_answer p body) next) (Ok Gone) old old
+    unfolding plan_answer bind lent edited_of
+    did-remove k =
+        subst (λ (q : Result Plan Refusal). Answered (bind (plan_answer q body) next) (Ok Gone) old old) (sym k) (record { result = refl; output = refl })
 
-  pub did-refuse : (n : ℕ) → p.outcome ≡ Refused n → Answered (bind (plan_answer p body) next) (Denied n) old old
-  unfolding plan_outcome bind lent edited_of
-  did-refuse n e =
-      subst (λ (a : Answer (List ℕ)). Answered (bind a next) (Denied n) old old) (sym (plan-is p body e)) (record { result = refl; output = refl })
+    pub did-refuse : {x : Refusal} {r : Result Edited Refusal} → r ≡ Err x → p ≡ Err x → Answered (bind (plan_answer p body) next) r old old
+    unfolding plan_answer bind lent edited_of
+    did-refuse {r = r} e k =
+        subst (λ (q : Result Plan Refusal). Answered (bind (plan_answer q body) next) r old old) (sym k) (record { result = e; output = refl })

@@ -1,7 +1,8 @@
 -- Where an extent's record stands in an item list, as the search for it has shown; a call on the item of a key; and what an edit
 -- of a record writes, with questions 17 and 21 of it. Assumes nothing.
-use Rattle.std.specs.Prelude.{◌≡◌, Bool, ◌&&◌, List, ◌++◌, ℕ, ◌+◌, ◌-◌, ◌≤◌, T, leb, length, take, drop, replicate}
+use Rattle.std.specs.Prelude.{◌≡◌, Bool, ◌&&◌, List, ◌++◌, ℕ, ◌+◌, ◌-◌, ◌≤◌, T, leb, length, take, drop, replicate, Option, Some, None, Result, Ok, Err}
 use Rattle.std.proofs.Math.Option.{none, some}
+use Rattle.format.specs.declared.Refusal.{Refusal}
 use Rattle.fields.specs.Lists.{Cut, first_cut}
 use Rattle.fields.specs.Parts.{part, spliced}
 use Rattle.format.specs.declared.Key.{Key}
@@ -11,10 +12,9 @@ use Rattle.format.specs.Sheets.{has_key}
 use Rattle.format.specs.Apply.{is_record, record_of}
 use Rattle.item_list.specs.Steps.{list_items}
 use Rattle.item_list.specs.ItemWrites.{room_for}
-use Rattle.backref.specs.declared.plan.Plan.{Plan}
+use Rattle.backref.specs.declared.plan.BodyEdit.{BodyEdit}
 use Rattle.record_edit.specs.declared.RecordAt.{RecordAt}
 use Rattle.record_edit.specs.declared.FoundRecord.{FoundRecord}
-use Rattle.record_edit.specs.declared.FoundRecord.TheVariants.{Refused, Missing, At}
 use Rattle.record_edit.specs.declared.SecondEdit.{SecondEdit}
 
 -- the item of that key is a record, and stands there in a list of so many items
@@ -47,10 +47,10 @@ pub record RecordFound (s : List ℕ) (extent : ℕ) (three : Bool) (index : ℕ
   pub there : StandsFor s extent target
   pub index_is : index ≡ length there.stands.at_cut.front
 
-abbrev pub Finds : List ℕ → ℕ → Bool → FoundRecord → Type 0
-Finds s extent three (Refused refusal) = asked_sheet s three ≡ refused refusal
-Finds s extent three Missing = RecordMissing s extent three
-Finds s extent three (At index target) = RecordFound s extent three index target
+abbrev pub Finds : List ℕ → ℕ → Bool → Result (Option FoundRecord) Refusal → Type 0
+Finds s extent three (Err refusal) = asked_sheet s three ≡ refused refusal.number
+Finds s extent three (Ok None) = RecordMissing s extent three
+Finds s extent three (Ok (Some found)) = RecordFound s extent three found.index found.target
 
 -- question 5, then the item of a key and what stands around it
 unfoldable pub on_key : {A : Type 0} → Key → List Item → (Cut Item → Answer A) → Answer A
@@ -63,8 +63,8 @@ abbrev pub data_of : List ℕ → ℕ → ℕ → List ℕ
 data_of s start end = part (start + 21) (end - (start + 21)) s
 
 -- how long a body of so many bytes is after a planned edit
-abbrev pub edit_length : Plan → ℕ → ℕ
-edit_length p size = p.from + p.size + (size - p.to)
+abbrev pub edit_length : BodyEdit → ℕ → ℕ
+edit_length e size = e.from + e.size + (size - e.to)
 
 -- the second edit stands behind the record
 pub record SecondIn (b : SecondEdit) (end : ℕ) (s : List ℕ) : Type 0 where
@@ -85,8 +85,8 @@ rest_bytes b end s = (part end (b.from - end) s ++ take b.size b.new) ++ drop b.
 abbrev pub rest_length : SecondEdit → ℕ → ℕ → ℕ
 rest_length b end size = b.from - end + b.size + (size - b.to)
 
-abbrev pub sheet_length : RecordAt → Plan → SecondEdit → ℕ → ℕ
-sheet_length r p b size = r.start + 21 + edit_length p (r.end - (r.start + 21)) + rest_length b r.end size
+abbrev pub sheet_length : RecordAt → BodyEdit → SecondEdit → ℕ → ℕ
+sheet_length r e b size = r.start + 21 + edit_length e (r.end - (r.start + 21)) + rest_length b r.end size
 
 -- two splices: the second edit, and before it the record with another body
 unfoldable pub edited_sheet : List ℕ → RecordAt → SecondEdit → List ℕ → List ℕ

@@ -19,15 +19,15 @@ pub struct RecordAt {
     pub item_count: usize,
 }
 
-// Questions 1, 2 and 3: the refusal; or where the extent's record stands, and its item number.
+// The record of an extent: its item number, and where it stands.
 #[derive(Clone, Copy)]
-pub enum FoundRecord {
-    Refused(u32),
-    Missing,
-    At { index: usize, target: RecordAt },
+pub struct FoundRecord {
+    pub index: usize,
+    pub target: RecordAt,
 }
 
 // A second edit, behind the record: the bytes from `from` up to `to` give way to the first `size` of `new`.
+// `new` has its length beside it since nothing is allocated, and a slice would tie the edit to an array that outlives it.
 #[derive(Clone, Copy)]
 pub struct SecondEdit {
     pub from: usize,

@@ -2,37 +2,28 @@
 ghost use Rattle.record_edit.specs.Records.{Finds};
 
 use super::{FoundRecord, RecordAt};
-use item_list::{ItemQuery, Listing};
+use format::Refusal;
+use item_list::ItemQuery;
 
-// `three` says whether question 3 is answered with yes.
-pub fn find_record(sheet: &[u8], extent: u64, three: bool) -> FoundRecord
+// Questions 1, 2 and 3, where `three` says whether question 3 is answered with yes; then the extent's record, if the list has it.
+pub fn find_record(sheet: &[u8], extent: u64, three: bool) -> Result<Option<FoundRecord>, Refusal>
     ensures { Finds sheet.now extent three result }
 {
-    let listing = item_list::find(sheet, ItemQuery::Record(extent));
-    match listing {
-        Listing::Refused(refusal) => return FoundRecord::Refused(refusal),
-        Listing::Missing { .. } => {
-            if three {
-                return FoundRecord::Missing;
-            }
-            return FoundRecord::Refused(3);
-        }
-        Listing::Found {
-            count,
-            index,
-            start,
-            end,
-        } => {
-            if three {
-                let target = RecordAt {
-                    key: item_list::key_at(sheet, start),
-                    start,
-                    end,
-                    item_count: count,
-                };
-                return FoundRecord::At { index, target };
-            }
-            return FoundRecord::Refused(3);
-        }
+    let listing = item_list::find(sheet, ItemQuery::Record(extent))?;
+    if !three {
+        return Err(Refusal::RANGE);
     }
+    let Some(place) = listing.place else {
+        return Ok(None);
+    };
+    let target = RecordAt {
+        key: item_list::key_at(sheet, place.start),
+        start: place.start,
+        end: place.end,
+        item_count: listing.count,
+    };
+    Ok(Some(FoundRecord {
+        index: place.index,
+        target,
+    }))
 }

@@ -8,18 +8,17 @@ ghost use Rattle.backref.specs.Plans.{edited, plan_answer, EditIn, PlanIn};
 ghost use Rattle.record_edit.specs.Records.{data_of, edit_length, SecondIn, nothing, rest_bytes, rest_length, sheet_length, edited_sheet, held_edit};
 
 use super::{RecordAt, SecondEdit};
-use backref::{Outcome, Plan};
-use format::{Edited, ITEM_HEAD, Key, MOST_DATA};
+use backref::{BodyEdit, Plan};
+use format::{Edited, ITEM_HEAD, Key, MOST_DATA, Refusal};
 
 // The planned body goes to `out` at `at`. Returns the position past it.
-fn append_edit(body: &[u8], plan: Plan, out: &mut [u8], at: usize) -> usize
-    requires edit_in { EditIn plan body.now }
-    requires body_in_bounds { at + edit_length plan (length body.now) ≤ length out.old }
-    ensures { (result ≡ at + edit_length plan (length body.now)) × (out.new ≡ written at (edited plan body.now) out.old) }
+fn append_edit(body: &[u8], edit: BodyEdit, out: &mut [u8], at: usize) -> usize
+    requires edit_in { EditIn edit body.now }
+    requires body_in_bounds { at + edit_length edit (length body.now) ≤ length out.old }
+    ensures { (result ≡ at + edit_length edit (length body.now)) × (out.new ≡ written at (edited edit body.now) out.old) }
 {
-    let new = plan.new;
-    let size = plan.size;
-    backref::put_edit(body, plan.from, plan.to, &new[0..size], plan.total, out, at)
+    let new = &edit.new[0..edit.size];
+    backref::put_edit(body, edit.from, edit.to, new, edit.total, out, at)
 }
 
 // All up to the end of the record, with its planned body.
@@ -28,17 +27,17 @@ fn append_record(
     start: usize,
     body: &[u8],
     key: Key,
-    plan: Plan,
+    edit: BodyEdit,
     out: &mut [u8],
 ) -> usize
-    requires edit_in { EditIn plan body.now }
-    requires start_in_bounds { (start ≤ length sheet.now) × (edit_length plan (length body.now) ≤ most_data) × (start + item_head + edit_length plan (length body.now) ≤ length out.old) × (length sheet.now ≤ most_sheet) }
-    ensures { (result ≡ start + item_head + edit_length plan (length body.now)) × (out.new ≡ written 0 (take start sheet.now ++ item_bytes (record { key = key; bytes = edited plan body.now })) out.old) }
+    requires edit_in { EditIn edit body.now }
+    requires start_in_bounds { (start ≤ length sheet.now) × (edit_length edit (length body.now) ≤ most_data) × (start + item_head + edit_length edit (length body.now) ≤ length out.old) × (length sheet.now ≤ most_sheet) }
+    ensures { (result ≡ start + item_head + edit_length edit (length body.now)) × (out.new ≡ written 0 (take start sheet.now ++ item_bytes (record { key = key; bytes = edited edit body.now })) out.old) }
 {
-    let size = backref::plan_length(plan, body.len());
+    let size = backref::edit_length(edit, body.len());
     let head = item_list::append(sheet, 0, start, out, 0);
     let inside = item_list::append_head(key, size, out, head);
-    append_edit(body, plan, out, inside)
+    append_edit(body, edit, out, inside)
 }
 
 // All from the end of the record, with the second edit. Where the record alone changes, what follows it is one piece.
@@ -48,58 +47,53 @@ fn append_rest(sheet: &[u8], end: usize, second: SecondEdit, out: &mut [u8], at:
     ensures { out.new ≡ written at (rest_bytes second end sheet.now) out.old }
 {
     let one = item_list::append(sheet, end, second.from, out, at);
-    if second.size == 0 {
-        if second.from == sheet.len() {
-            return;
-        }
+    if second.size == 0 && second.from == sheet.len() {
+        return;
     }
-    let new = second.new;
-    let two = item_list::append(&new, 0, second.size, out, one);
+    let two = item_list::append(&second.new, 0, second.size, out, one);
     item_list::append(sheet, second.to, sheet.len(), out, two);
 }
 
-fn write_record(sheet: &[u8], target: RecordAt, plan: Plan, second: SecondEdit, out: &mut [u8])
-    requires edit_in { EditIn plan (data_of sheet.now target.start target.end) }
+fn write_record(sheet: &[u8], target: RecordAt, edit: BodyEdit, second: SecondEdit, out: &mut [u8])
+    requires edit_in { EditIn edit (data_of sheet.now target.start target.end) }
     requires second_in { SecondIn second target.end sheet.now }
-    requires item_head_bound { (target.start + item_head ≤ target.end) × (edit_length plan (target.end - (target.start + item_head)) ≤ most_data) × (sheet_length target plan second (length sheet.now) ≤ length out.old) × (length sheet.now ≤ most_sheet) }
-    ensures { out.new ≡ written 0 (edited_sheet sheet.now target second (edited plan (data_of sheet.now target.start target.end))) out.old }
+    requires item_head_bound { (target.start + item_head ≤ target.end) × (edit_length edit (target.end - (target.start + item_head)) ≤ most_data) × (sheet_length target edit second (length sheet.now) ≤ length out.old) × (length sheet.now ≤ most_sheet) }
+    ensures { out.new ≡ written 0 (edited_sheet sheet.now target second (edited edit (data_of sheet.now target.start target.end))) out.old }
 {
-    let start = target.start;
-    let end = target.end;
-    let body = &sheet[start + ITEM_HEAD..end];
-    let at = append_record(sheet, start, body, target.key, plan, out);
-    append_rest(sheet, end, second, out, at);
+    let body = &sheet[target.start + ITEM_HEAD..target.end];
+    let at = append_record(sheet, target.start, body, target.key, edit, out);
+    append_rest(sheet, target.end, second, out, at);
 }
 
 // Questions 17 and 21, then the writing.
 fn write_held(
     sheet: &[u8],
     target: RecordAt,
-    plan: Plan,
+    edit: BodyEdit,
     second: SecondEdit,
     limit: usize,
     count: usize,
     out: &mut [u8],
-) -> Edited
-    requires edit_in { EditIn plan (data_of sheet.now target.start target.end) }
+) -> Result<Edited, Refusal>
+    requires edit_in { EditIn edit (data_of sheet.now target.start target.end) }
     requires second_in { SecondIn second target.end sheet.now }
     requires item_head_bound { (target.start + item_head ≤ target.end) × (length sheet.now ≤ most_sheet) }
-    ensures { Answered (held_edit (length out.old) count limit (edited_sheet sheet.now target second) (edited plan (data_of sheet.now target.start target.end))) result out.old out.new }
+    ensures { Answered (held_edit (length out.old) count limit (edited_sheet sheet.now target second) (edited edit (data_of sheet.now target.start target.end))) result out.old out.new }
 {
-    let size = backref::plan_length(plan, target.end - (target.start + ITEM_HEAD));
+    let size = backref::edit_length(edit, target.end - (target.start + ITEM_HEAD));
     if limit < size {
-        return Edited::Refused(17);
+        return Err(Refusal::INLINE_LIMIT);
     }
     if MOST_DATA < size {
-        return Edited::Refused(21);
+        return Err(Refusal::NO_ROOM);
     }
     let rest = second.from - target.end + second.size + (sheet.len() - second.to);
     let long = target.start + ITEM_HEAD + size + rest;
-    if item_list::room_for(out.len(), long, count) {
-        write_record(sheet, target, plan, second, out);
-        return Edited::Written(long);
+    if !item_list::room_for(out.len(), long, count) {
+        return Err(Refusal::NO_ROOM);
     }
-    Edited::Refused(21)
+    write_record(sheet, target, edit, second, out);
+    Ok(Edited::Written(long))
 }
 
 // The list with a planned body in its record and the second edit behind it, into `out`. `limit` is asked by question 17, and
@@ -107,23 +101,21 @@ fn write_held(
 pub fn edit_record(
     sheet: &[u8],
     target: RecordAt,
-    plan: Plan,
+    plan: Result<Plan, Refusal>,
     second: SecondEdit,
     limit: usize,
     count: usize,
     out: &mut [u8],
-) -> Edited
+) -> Result<Edited, Refusal>
     requires plan_in { PlanIn plan (data_of sheet.now target.start target.end) }
     requires second_in { SecondIn second target.end sheet.now }
     requires item_head_bound { (target.start + item_head ≤ target.end) × (length sheet.now ≤ most_sheet) }
     ensures { Answered (bind (plan_answer plan (data_of sheet.now target.start target.end)) (held_edit (length out.old) count limit (edited_sheet sheet.now target second))) result out.old out.new }
 {
-    let outcome = plan.outcome;
-    match outcome {
-        Outcome::Edit => write_held(sheet, target, plan, second, limit, count, out),
-        Outcome::Absent => Edited::Absent,
-        Outcome::Remove => Edited::Remove,
-        Outcome::Refused(refusal) => Edited::Refused(refusal),
+    match plan? {
+        Plan::Edit(edit) => write_held(sheet, target, edit, second, limit, count, out),
+        Plan::Absent => Ok(Edited::Absent),
+        Plan::Remove => Ok(Edited::Remove),
     }
 }
 
@@ -131,10 +123,10 @@ pub fn edit_record(
 pub fn put_record(
     sheet: &[u8],
     target: RecordAt,
-    plan: Plan,
+    plan: Result<Plan, Refusal>,
     limit: usize,
     out: &mut [u8],
-) -> Edited
+) -> Result<Edited, Refusal>
     requires plan_in { PlanIn plan (data_of sheet.now target.start target.end) }
     requires item_head_bound { (target.start + item_head ≤ target.end) × (target.end ≤ length sheet.now) × (length sheet.now ≤ most_sheet) }
     ensures { Answered (bind (plan_answer plan (data_of sheet.now target.start target.end)) (held_edit (length out.old) target.item_count limit (edited_sheet sheet.now target (nothing (length sheet.now))))) result out.old out.new }

@@ -1,10 +1,5 @@
-use Rattle.record_edit.proofs.Writes.{rest-writes, alone-writes}
+use Rattle.record_edit.proofs.Writes.{rest-writes}
 use Rattle.record_edit.proofs.write.append_rest.Goals as goal
-
-pub returns-then-second-sheet : goal.returns-then-second-sheet
-returns-then-second-sheet c =
-    alone-writes c.args.second c.args.end c.args.sheet.now c.requires.second_in c.args.out.now _ c.args.at c.if-second-eq0.true c.if-second-sheet.true
-    c.append-one.ensures.1
 
 pub returns : goal.returns
 returns c =

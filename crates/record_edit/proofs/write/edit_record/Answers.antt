@@ -1,25 +1,21 @@
-use lib.ListN.{length}
+use mathlib.Core.Path.{ap, ◌∙◌}
+use Rattle.std.specs.Prelude.{Ok}
 use Rattle.backref.proofs.Outcomes.{inside-edit}
-use Rattle.record_edit.specs.Records.{data_of, edited_sheet, held_edit}
+use Rattle.format.proofs.Answers.{handed_on}
 use Rattle.record_edit.proofs.Writes.{did-edit, did_nothing, did-remove, did-refuse}
 use Rattle.record_edit.proofs.write.edit_record.Goals as goal
 
-pub write_held-requires : goal.write_held-requires
-write_held-requires c =
-    record { edit_in = inside-edit c.args.plan (data_of c.args.sheet.now c.args.target.start c.args.target.end) c.in-Edit.is c.requires.plan_in; second_in = c.requires.second_in; item_head_bound = c.requires.item_head_bound }
+pub write_held-requires-clause-edit_in : goal.write_held-requires-clause-edit_in
+write_held-requires-clause-edit_in c = inside-edit _ (c.in_ok-edit.was ∙ ap Ok c.in-Edit.is) c.requires.plan_in
+
+pub returns-in_err-edit : goal.returns-in_err-edit
+returns-in_err-edit c = did-refuse _ _ _ (handed_on c.from_residual.ensures.1) c.in_err-edit.was
 
 pub returns-in-Edit : goal.returns-in-Edit
-returns-in-Edit c =
-    did-edit c.args.plan (data_of c.args.sheet.now c.args.target.start c.args.target.end) (held_edit (length c.args.out.now) c.args.count c.args.limit (edited_sheet c.args.sheet.now c.args.target c.args.second)) c.args.out.now c.in-Edit.is c.write_held.ensures
+returns-in-Edit c = did-edit _ _ (c.in_ok-edit.was ∙ ap Ok c.in-Edit.is) c.write_held.ensures
 
 pub returns-in-Absent : goal.returns-in-Absent
-returns-in-Absent c =
-    did_nothing c.args.plan (data_of c.args.sheet.now c.args.target.start c.args.target.end) (held_edit (length c.args.out.now) c.args.count c.args.limit (edited_sheet c.args.sheet.now c.args.target c.args.second)) c.args.out.now c.in-Absent.is
+returns-in-Absent c = did_nothing _ _ _ (c.in_ok-edit.was ∙ ap Ok c.in-Absent.is)
 
 pub returns-in-Remove : goal.returns-in-Remove
-returns-in-Remove c =
-    did-remove c.args.plan (data_of c.args.sheet.now c.args.target.start c.args.target.end) (held_edit (length c.args.out.now) c.args.count c.args.limit (edited_sheet c.args.sheet.now c.args.target c.args.second)) c.args.out.now c.in-Remove.is
-
-pub returns-in-Refused : goal.returns-in-Refused
-returns-in-Refused c =
-    did-refuse c.args.plan (data_of c.args.sheet.now c.args.target.start c.args.target.end) (held_edit (length c.args.out.now) c.args.count c.args.limit (edited_sheet c.args.sheet.now c.args.target c.args.second)) c.args.out.now _ c.in-Refused.is
+returns-in-Remove c = did-remove _ _ _ (c.in_ok-edit.was ∙ ap Ok c.in-Remove.is)
