@@ -7,9 +7,10 @@ use lib.Dec.{leb, T}
 use lib.ListN.{length}
 use Rattle.fields.specs.Lists.{Cut}
 use Rattle.format.specs.declared.SharedRef.{SharedRef}
+use Rattle.std.specs.Prelude.{Result}
 use Rattle.format.specs.declared.Edited.{Edited}
-use Rattle.format.specs.declared.Edited.TheVariants.{Refused as Denied}
-use Rattle.format.specs.Questions.{Answer, accepted, ask, bind, Answered, refused}
+use Rattle.format.specs.declared.Refusal.{Refusal}
+use Rattle.format.specs.Questions.{Answer, accepted, ask, bind, denied, Answered, refused}
 use Rattle.format.specs.Bodies.{shared_kind, raise_total, add_inline_shared}
 use Rattle.format.specs.Items.{Item, nodesize_fits, held_sheet, put_back}
 use Rattle.format.specs.Apply.{inline_limit, shared_body, apply_shared_add, apply_shared_add_to}
@@ -34,7 +35,7 @@ both-no a b h = rw h
 
 -- ---- apply_shared_add
 
-module _ (i : Item) (name : SharedRef) (count : ℕ) (plan : Plan) (as_item : Bool) where
+module _ (i : Item) (name : SharedRef) (count : ℕ) (plan : Result Plan Refusal) (as_item : Bool) where
   pub shared-item : as_item ≡ true → Planned plan i.bytes (raise_total i.bytes count) → Planned plan i.bytes (shared_body i name count as_item)
   unfolding shared_body
   shared-item e h = rw e h
@@ -52,18 +53,18 @@ module _ (nodesize : ℕ) (name : SharedRef) (count : ℕ) (as_item : Bool) (roo
   three = nodesize_fits nodesize && shared_kind name.kind
 
   pub shared-add-refused : (s : List ℕ) (extent k : ℕ) (old : List ℕ) → asked_sheet s three ≡ refused k
-      → Answered (held_sheet room (apply_shared_add_to nodesize s extent name count as_item)) (Denied k) old old
+      → Answered (held_sheet room (apply_shared_add_to nodesize s extent name count as_item)) (denied k) old old
   unfolding apply_shared_add_to
   shared-add-refused s extent k old e = answered-no _ room k old (on-refused s three k (apply_shared_add nodesize extent name count as_item) e)
 
   pub shared-add-missing : {s : List ℕ} {extent : ℕ} → RecordMissing s extent three → (old : List ℕ)
-      → Answered (held_sheet room (apply_shared_add_to nodesize s extent name count as_item)) (Denied 5) old old
+      → Answered (held_sheet room (apply_shared_add_to nodesize s extent name count as_item)) (denied 5) old old
   unfolding apply_shared_add_to apply_shared_add
   shared-add-missing l old = answered-no _ room 5 old (on-missing l (λ items. shared-next nodesize name count as_item))
 
   pub shared-add-answered : {s : List ℕ} {extent index : ℕ} {target : RecordAt} → T (are_bytes s) → RecordFound s extent three index target
-      → (limit : ℕ) (plan : Plan) (r : Edited) (old new : List ℕ)
-      → limit ≡ limit_for nodesize (target.end - (target.start + 21)) false
+      → (limit : ℕ) (plan : Result Plan Refusal) (r : Result Edited Refusal) (old new : List ℕ)
+      → limit ≡ limit_for nodesize (length (data_of s target.start target.end)) false
       → Planned plan (data_of s target.start target.end) (shared_body (record { key = target.key; bytes = data_of s target.start target.end }) name count as_item)
       → Answered (bind (plan_answer plan (data_of s target.start target.end)) (held_edit room target.item_count limit (edited_sheet s target (nothing (length s))))) r old new
       → Answered (held_sheet room (apply_shared_add_to nodesize s extent name count as_item)) r old new

@@ -10,10 +10,13 @@ use lib.Dec.{T, eqb}
 use lib.ListN.{length, drop}
 use lib.Seq.{append_snoc}
 use borrow.Author.Tests.{eq-eqb, ne_eqb, eqb-true}
+use Rattle.std.specs.Prelude.{Option as Maybe, Some, None, Result, Ok, Err}
+use Rattle.std.specs.Result.{result_ok}
 use Rattle.fields.specs.Lists.{same}
 use Rattle.fields.specs.Numbers.{le}
 use Rattle.fields.specs.Parts.{part}
 use Rattle.fields.proofs.Lists.{by-test, and-true, and-false, eqb_same}
+use Rattle.format.specs.declared.Refusal.{Refusal}
 use Rattle.format.specs.Questions.{Answer, refused, absent, remove, accepted, bind}
 use Rattle.format.specs.References.{row_in, count_position, counted, field_count, Ref, ref_at}
 use Rattle.format.specs.Bodies.{named}
@@ -74,6 +77,16 @@ module _ (m : Ref → Bool) where
   pub all-fault : (x : Answer (List Ref)) (n : ℕ) → x ≡ refused n → false ≡ all_of m x
   unfolding all_of
   all-fault x n e = rw e refl
+
+-- ---- a step that is read or stops the search
+
+pub ok_some : {A : Type 0} (r : Result A Refusal) {o : Maybe A} {a : A} → o ≡ result_ok r → o ≡ Some a → r ≡ Ok a
+ok_some (Ok b) {o} {a} e h = let f = sym e ∙ h in let p : b ≡ a = cc in ap Ok p
+ok_some (Err x) e h = let f = sym e ∙ h in let z : ◌≡◌ {A = ℕ} 0 1 = cc in absurd (omega arith)
+
+pub ok_none : {A : Type 0} (r : Result A Refusal) {o : Maybe A} → o ≡ result_ok r → o ≡ None → (x : Refusal) × (r ≡ Err x)
+ok_none (Ok b) e h = let f = sym e ∙ h in let z : ◌≡◌ {A = ℕ} 0 1 = cc in absurd (omega arith)
+ok_none (Err x) e h = (x, refl)
 
 -- ---- references in front of what is read
 

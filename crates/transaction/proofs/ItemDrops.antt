@@ -13,18 +13,22 @@ use Rattle.fields.specs.Lists.{same}
 use Rattle.fields.specs.Numbers.{le, le_bytes, words}
 use Rattle.fields.specs.Parts.{part, written}
 use Rattle.format.specs.declared.DataRef.{DataRef}
+use Rattle.std.specs.Prelude.{Result, Ok, Err}
 use Rattle.format.specs.declared.Edited.{Edited}
-use Rattle.format.specs.declared.Edited.TheVariants.{Absent as NoMatch, Refused as Denied}
-use Rattle.format.specs.Questions.{Answer, absent, refused, remove, accepted, ask, bind, lent, edited_of, Answered}
-use Rattle.format.specs.Bodies.{triple, body_fits, lowered_by_part, on_total, lower_total, keyed_count, drop_keyed_data_ref}
+use Rattle.format.specs.declared.Refusal.{Refusal}
+use Rattle.format.specs.declared.Edited.TheVariants.{Absent as NoMatch}
+use Rattle.format.specs.Questions.{Answer, absent, refused, remove, accepted, ask, bind, lent, edited_of, decides, Answered}
+use Rattle.format.specs.Bodies.{triple, body_fits, on_head, lowered_by_one, lowered_by_part, on_total, lower_total, keyed_count, drop_keyed_data_ref}
+use Rattle.format.specs.References.{total_of}
 use Rattle.format.specs.Ledger.{less_item}
 use Rattle.format.proofs.Answers.{ask-ok, bind_ok, accepted-inj, refused-not, absent-not, remove-not}
+use Rattle.format.proofs.Decisions.{decides-ask, decides-bind}
 use Rattle.format.proofs.Outputs.{answered-refused}
-use Rattle.backref.specs.declared.plan.Outcome.{Outcome}
-use Rattle.backref.specs.declared.plan.Outcome.TheVariants.{Edit, Absent, Remove, Refused}
+use Rattle.backref.specs.declared.plan.BodyEdit.{BodyEdit}
 use Rattle.backref.specs.declared.plan.Plan.{Plan}
-use Rattle.backref.specs.Plans.{edited, plan_outcome, plan_answer, Planned}
-use Rattle.backref.proofs.Outcomes.{plan-is}
+use Rattle.backref.specs.declared.plan.Plan.TheVariants.{Edit, Absent, Remove}
+use Rattle.backref.specs.Plans.{edited, plan_answer, Planned}
+use Rattle.backref.proofs.Outcomes.{Edits}
 use Rattle.record_edit.specs.declared.RecordAt.{RecordAt}
 use Rattle.record_edit.specs.Records.{data_of, nothing, edited_sheet, held_edit}
 use Rattle.transaction.specs.Drops.{gone, new_count, held_plan, held_at}
@@ -74,104 +78,114 @@ count-is s from to a b l = ap le (last-four s from to 24 a b l)
 pub shared-is : (s : List ℕ) (from to : ℕ) → from + 21 ≤ to → to ≤ length s → length (data_of s from to) ≡ 4 → le (data_of s from to) ≡ le (part (to - 4) 4 s)
 shared-is s from to a b l = ap le (sym (take_all 4 (data_of s from to) (omega arith)) ∙ last-four s from to 0 a b l)
 
-module _ (s : List ℕ) (target : RecordAt) (from to : ℕ) (name : DataRef) (room : ℕ) (p q : Plan)
-    (total : Planned p (data_of s target.start target.end) (lower_total (data_of s target.start target.end)))
-    (item : Planned q (data_of s from to) (drop_keyed_data_ref (data_of s from to) name)) where
-  abbrev at_item : Answer (List ℕ) → List ℕ → Answer (List ℕ)
-  at_item = held_at room s target from to (le (part (to - 4) 4 s) - 1)
+-- ---- the total: a lower one is planned, or it is refused
 
-  abbrev answer : Answer (List ℕ)
-  answer = bind (lower_total (data_of s target.start target.end)) (at_item (drop_keyed_data_ref (data_of s from to) name))
+decided : {A : Type 0} (a : Answer A) → T (decides a) → (a ≡ absent → ⊥) × (a ≡ remove → ⊥)
+decided (refused n) t = ((λ e. let z : ◌≡◌ {A = ℕ} 0 1 = cc in absurd (omega arith)), (λ e. let z : ◌≡◌ {A = ℕ} 0 1 = cc in absurd (omega arith)))
+decided absent t = absurd t
+decided remove t = absurd t
+decided (accepted a) t = ((λ e. absent-not (sym e)), (λ e. remove-not (sym e)))
 
-  -- as the item's plan answers
-  by-plan : {o : Outcome} → q.outcome ≡ o → bind (plan_answer p (data_of s target.start target.end)) (at_item (plan_outcome o q (data_of s from to))) ≡ answer
-  by-plan e =
-      ap₂ (λ (a b : Answer (List ℕ)). bind a (at_item b)) total.says (sym (plan-is q (data_of s from to) e) ∙ item.says)
+lower-decides : (d : List ℕ) → T (decides (lower_total d))
+unfolding lower_total on_total on_head lowered_by_one
+lower-decides d =
+    decides-ask (body_fits d) 3 tt _ (decides-ask (leb 24 (length d)) 6 tt _ (decides-bind _ _ (decides-ask (leb 2 (total_of d)) 13 tt _ tt) (λ t. tt)))
 
-  edits : p.outcome ≡ Edit → plan_answer p (data_of s target.start target.end) ≡ accepted (edited p (data_of s target.start target.end))
-  unfolding plan_outcome
-  edits e = plan-is p (data_of s target.start target.end) e
+lower-edits : (d : List ℕ) (p : Result Plan Refusal) {x : Plan} → p ≡ Ok x → plan_answer p d ≡ lower_total d → Edits p
+unfolding plan_answer
+lower-edits d (Ok (Edit e)) k h = record { edit = e; is = refl }
+lower-edits d (Ok Absent) k h = absurd ((decided (lower_total d) (lower-decides d)).0 (sym h))
+lower-edits d (Ok Remove) k h = absurd ((decided (lower_total d) (lower-decides d)).1 (sym h))
+lower-edits d (Err x) k h = let z : ◌≡◌ {A = ℕ} 0 1 = cc in absurd (omega arith)
 
-  pub item_refused : (k : ℕ) (old : List ℕ) → p.outcome ≡ Edit → q.outcome ≡ Refused k → Answered answer (Denied k) old old
-  unfolding plan_outcome bind held_at
-  item_refused k old e f =
-      answered-refused old (sym (by-plan f) ∙ ap (λ (a : Answer (List ℕ)). bind a (at_item (refused k))) (edits e))
+module _ (s : List ℕ) (target : RecordAt) (p : Result Plan Refusal)
+    (total : Planned p (data_of s target.start target.end) (lower_total (data_of s target.start target.end))) where
+  abbrev body : List ℕ
+  body = data_of s target.start target.end
 
-  pub item-absent : (old : List ℕ) → p.outcome ≡ Edit → q.outcome ≡ Absent → Answered answer NoMatch old old
-  unfolding plan_outcome bind held_at lent edited_of
-  item-absent old e f =
-      subst (λ (a : Answer (List ℕ)). Answered a NoMatch old old)
-      (ap (λ (a : Answer (List ℕ)). bind a (at_item absent)) (sym (edits e)) ∙ by-plan f)
-      (record { result = refl; output = refl })
+  -- a total that is not lowered: the item is not read
+  pub total-refused : (next : List ℕ → Answer (List ℕ)) {x : Refusal} {r : Result Edited Refusal} (old : List ℕ) → r ≡ Err x → p ≡ Err x
+      → Answered (bind (lower_total body) next) r old old
+  unfolding plan_answer bind lent edited_of
+  total-refused next {x} {r} old f e =
+      subst (λ (a : Answer (List ℕ)). Answered (bind a next) r old old) (ap (λ (q : Result Plan Refusal). plan_answer q body) (sym e) ∙ total.says)
+      (record { result = f; output = refl })
 
-  pub item-goes : (r : Edited) (old new : List ℕ) → q.outcome ≡ Remove → Answered (held_plan room (target.item_count - 1) s target p (gone from to)) r old new
-      → Answered answer r old new
-  unfolding plan_outcome held_at
-  item-goes r old new f w = subst (λ (a : Answer (List ℕ)). Answered a r old new) (by-plan f) w
+  -- and nothing is made
+  pub total-stays : (next : List ℕ → Answer (List ℕ)) {x : Refusal} → p ≡ Err x → {result : List ℕ} → bind (lower_total body) next ≡ accepted result → ⊥
+  unfolding plan_answer
+  total-stays next e f =
+      let h = bind_ok (lower_total body) next f in
+      refused-not (ap (λ (q : Result Plan Refusal). plan_answer q body) (sym e) ∙ total.says ∙ h.1)
 
-  pub item-counts : (count : ℕ) (r : Edited) (old new : List ℕ) → q.outcome ≡ Edit → count ≡ le (part (to - 4) 4 s)
-      → Answered (held_plan room target.item_count s target p (new_count to (count - 1))) r old new
-      → Answered answer r old new
-  unfolding plan_outcome held_at
-  item-counts count r old new f e w =
-      subst (λ (a : Answer (List ℕ)). Answered a r old new)
-      (ap (λ (n : ℕ). held_plan room target.item_count s target p (new_count to (n - 1))) e ∙ by-plan f) w
+  module _ (from to : ℕ) (name : DataRef) (room : ℕ) (q : Result Plan Refusal) (item : Planned q (data_of s from to) (drop_keyed_data_ref (data_of s from to) name)) where
+    abbrev at_item : Answer (List ℕ) → List ℕ → Answer (List ℕ)
+    at_item = held_at room s target from to (le (part (to - 4) 4 s) - 1)
 
--- a total that is not lowered: the item is not read
-pub total-refused : (s : List ℕ) (target : RecordAt) (room : ℕ) (next : List ℕ → Answer (List ℕ)) (p : Plan) (r : Edited) (old new : List ℕ)
-    → Planned p (data_of s target.start target.end) (lower_total (data_of s target.start target.end))
-    → (p.outcome ≡ Edit → ⊥)
-    → Answered (bind (plan_answer p (data_of s target.start target.end)) (held_edit room target.item_count 65564 (edited_sheet s target (nothing (length s))))) r old new
-    → Answered (bind (lower_total (data_of s target.start target.end)) next) r old new
-unfolding bind plan_outcome
-total-refused s target room next p r old new total other w =
-    subst (λ (a : Answer (List ℕ)). Answered a r old new) (go p.outcome refl other ∙ ap (λ (a : Answer (List ℕ)). bind a next) total.says) w
-  where
-    go : (o : Outcome) → p.outcome ≡ o → (o ≡ Edit → ⊥)
-        → bind (plan_answer p (data_of s target.start target.end)) (held_edit room target.item_count 65564 (edited_sheet s target (nothing (length s)))) ≡ bind (plan_answer p (data_of s target.start target.end)) next
-    go Edit e h = absurd (h refl)
-    go Absent e h = rw (plan-is p (data_of s target.start target.end) e)
-    go Remove e h = rw (plan-is p (data_of s target.start target.end) e)
-    go (Refused k) e h = rw (plan-is p (data_of s target.start target.end) e)
+    abbrev answer : Answer (List ℕ)
+    answer = bind (lower_total body) (at_item (drop_keyed_data_ref (data_of s from to) name))
 
--- and nothing is made
-pub total-stays : (p : Plan) (d : List ℕ) (next : List ℕ → Answer (List ℕ)) → Planned p d (lower_total d) → (p.outcome ≡ Edit → ⊥)
-    → {result : List ℕ} → bind (lower_total d) next ≡ accepted result → ⊥
-unfolding plan_outcome
-total-stays p d next total other f = go p.outcome refl other
-  where
-    made : (body : List ℕ) × (plan_answer p d ≡ accepted body)
-    made = let h = bind_ok (lower_total d) next f in (h.0, total.says ∙ h.1)
+    -- as the item's plan answers
+    by-plan : {x : Result Plan Refusal} → q ≡ x → bind (plan_answer p body) (at_item (plan_answer x (data_of s from to))) ≡ answer
+    by-plan e =
+        ap₂ (λ (a b : Answer (List ℕ)). bind a (at_item b)) total.says (ap (λ (y : Result Plan Refusal). plan_answer y (data_of s from to)) (sym e) ∙ item.says)
 
-    go : (o : Outcome) → p.outcome ≡ o → (o ≡ Edit → ⊥) → ⊥
-    go Edit e h = h refl
-    go Absent e h = absent-not (sym (plan-is p d e) ∙ made.1)
-    go Remove e h = remove-not (sym (plan-is p d e) ∙ made.1)
-    go (Refused k) e h = refused-not (sym (plan-is p d e) ∙ made.1)
+    accepts : {x : Plan} → p ≡ Ok x → (rest : List ℕ) × (plan_answer p body ≡ accepted rest)
+    unfolding plan_answer
+    accepts e =
+        let h = lower-edits body p e total.says in
+        (edited h.edit body, ap (λ (y : Result Plan Refusal). plan_answer y body) h.is)
+
+    pub item_refused : {x : Refusal} {y : Plan} {r : Result Edited Refusal} (old : List ℕ) → p ≡ Ok y → r ≡ Err x → q ≡ Err x → Answered answer r old old
+    unfolding plan_answer bind held_at lent edited_of
+    item_refused {x} {y} {r} old e g f =
+        subst (λ (a : Answer (List ℕ)). Answered a r old old)
+        (ap (λ (a : Answer (List ℕ)). bind a (at_item (refused x.number))) (sym (accepts e).1) ∙ by-plan f)
+        (record { result = g; output = refl })
+
+    pub item-absent : {y : Plan} (old : List ℕ) → p ≡ Ok y → q ≡ Ok Absent → Answered answer (Ok NoMatch) old old
+    unfolding plan_answer bind held_at lent edited_of
+    item-absent old e f =
+        subst (λ (a : Answer (List ℕ)). Answered a (Ok NoMatch) old old)
+        (ap (λ (a : Answer (List ℕ)). bind a (at_item absent)) (sym (accepts e).1) ∙ by-plan f)
+        (record { result = refl; output = refl })
+
+    pub item-goes : (r : Result Edited Refusal) (old new : List ℕ) → q ≡ Ok Remove → Answered (held_plan room (target.item_count - 1) s target p (gone from to)) r old new
+        → Answered answer r old new
+    unfolding plan_answer held_at
+    item-goes r old new f w = subst (λ (a : Answer (List ℕ)). Answered a r old new) (by-plan f) w
+
+    pub item-counts : (count : ℕ) (r : Result Edited Refusal) (old new : List ℕ) {e : BodyEdit} → q ≡ Ok (Edit e) → count ≡ le (part (to - 4) 4 s)
+        → Answered (held_plan room target.item_count s target p (new_count to (count - 1))) r old new
+        → Answered answer r old new
+    unfolding plan_answer held_at
+    item-counts count r old new f e w =
+        subst (λ (a : Answer (List ℕ)). Answered a r old new)
+        (ap (λ (n : ℕ). held_plan room target.item_count s target p (new_count to (n - 1))) e ∙ by-plan f) w
 
 -- what stands there counts at least one
-pub one-counted : (s : List ℕ) (from to count : ℕ) (name : DataRef) (q : Plan) → from + 21 ≤ to → to ≤ length s
-    → Planned q (data_of s from to) (drop_keyed_data_ref (data_of s from to) name) → q.outcome ≡ Edit → count ≡ le (part (to - 4) 4 s) → 1 ≤ count
-unfolding plan_outcome
+pub one-counted : (s : List ℕ) (from to count : ℕ) (name : DataRef) (q : Result Plan Refusal) {edit : BodyEdit} → from + 21 ≤ to → to ≤ length s
+    → Planned q (data_of s from to) (drop_keyed_data_ref (data_of s from to) name) → q ≡ Ok (Edit edit) → count ≡ le (part (to - 4) 4 s) → 1 ≤ count
+unfolding plan_answer
 one-counted s from to count name q a b h e is =
-    let k = keyed-out (data_of s from to) name (sym h.says ∙ plan-is q (data_of s from to) e) in
+    let k = keyed-out (data_of s from to) name (sym h.says ∙ ap (λ (x : Result Plan Refusal). plan_answer x (data_of s from to)) e) in
     let c = count-is s from to a b k.0 in
     let one = k.1 in
     omega arith
 
 -- and one, where the item goes
-pub one-gone : (s : List ℕ) (from to : ℕ) (name : DataRef) (q : Plan) → from + 21 ≤ to → to ≤ length s
-    → Planned q (data_of s from to) (drop_keyed_data_ref (data_of s from to) name) → q.outcome ≡ Remove → 0 ≡ le (part (to - 4) 4 s) - 1
-unfolding plan_outcome
+pub one-gone : (s : List ℕ) (from to : ℕ) (name : DataRef) (q : Result Plan Refusal) → from + 21 ≤ to → to ≤ length s
+    → Planned q (data_of s from to) (drop_keyed_data_ref (data_of s from to) name) → q ≡ Ok Remove → 0 ≡ le (part (to - 4) 4 s) - 1
+unfolding plan_answer
 one-gone s from to name q a b h e =
-    let k = keyed-gone (data_of s from to) name (sym h.says ∙ plan-is q (data_of s from to) e) in
+    let k = keyed-gone (data_of s from to) name (sym h.says ∙ ap (λ (x : Result Plan Refusal). plan_answer x (data_of s from to)) e) in
     let c = count-is s from to a b k.0 in
     let one = k.1 in
     omega arith
 
 -- ---- an item of another reference: the total is lowered, then the item goes or counts what is left
 
-module _ (s : List ℕ) (target : RecordAt) (from to room : ℕ) (p : Plan) (r : Edited) (old new : List ℕ) where
+module _ (s : List ℕ) (target : RecordAt) (from to room : ℕ) (p : Result Plan Refusal) (r : Result Edited Refusal) (old new : List ℕ) where
   pub block_goes : Planned p (data_of s target.start target.end) (lower_total (data_of s target.start target.end))
       → Answered (held_plan room (target.item_count - 1) s target p (gone from to)) r old new
       → Answered (bind (lower_total (data_of s target.start target.end)) (held_at room s target from to 0 remove)) r old new

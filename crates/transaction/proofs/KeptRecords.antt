@@ -9,7 +9,9 @@ use Rattle.fields.specs.Lists.{Cut}
 use Rattle.fields.proofs.Lists.{Found, cut-some}
 use Rattle.format.specs.declared.BlockRef.{BlockRef}
 use Rattle.format.specs.declared.Key.{Key}
+use Rattle.std.specs.Prelude.{Result}
 use Rattle.format.specs.declared.Edited.{Edited}
+use Rattle.format.specs.declared.Refusal.{Refusal}
 use Rattle.format.specs.Questions.{Answer, refused, ask, bind, needed, Answered}
 use Rattle.format.specs.Items.{Item, key_of, read_sheet, on_sheet, held_sheet}
 use Rattle.format.specs.Sheets.{has_key}
@@ -64,14 +66,14 @@ module _ (s : List ℕ) (bytenr level : ℕ) (name : BlockRef) (own : Bool) wher
         }
 
     -- by the flag that code tested
-    pub kept-told : (flag : Bool) (room : ℕ) (r : Edited) (old new : List ℕ) → own ≡ flag
+    pub kept-told : (flag : Bool) (room : ℕ) (r : Result Edited Refusal) (old new : List ℕ) → own ≡ flag
         → Answered (held_sheet room (on_key key (list_items s) (drop_tree_ref name flag (list_items s)))) r old new
         → Answered (held_sheet room (drop_kept_tree_ref_from s bytenr level name own)) r old new
     kept-told flag room r old new e w =
         subst (λ (a : Answer (List Item)). Answered (held_sheet room a) r old new)
         (ap (λ (b : Bool). on_key key (list_items s) (drop_tree_ref name b (list_items s))) (sym e) ∙ sym kept-is) w
 
-    pub kept-plain : (room : ℕ) (r : Edited) (old new : List ℕ) → own ≡ false
+    pub kept-plain : (room : ℕ) (r : Result Edited Refusal) (old new : List ℕ) → own ≡ false
         → Answered (held_sheet room (on_key key (list_items s) (drop_ref (Block name) 1 (list_items s)))) r old new
         → Answered (held_sheet room (drop_kept_tree_ref_from s bytenr level name own)) r old new
     unfolding drop_ref

@@ -8,12 +8,12 @@ use native.Mathlib.Omega.{arith}
 use lib.Dec.{eqb}
 use lib.ListN.{length, take, drop, length-drop}
 use borrow.Author.Tests.{eq-eqb, ne_eqb, le-leb, lt-leb}
+use Rattle.std.specs.Prelude.{Ok}
 use Rattle.fields.specs.Lists.{all}
 use Rattle.fields.specs.Numbers.{le}
 use Rattle.fields.specs.Parts.{part}
 use Rattle.fields.proofs.Lists.{by-test, and-false}
-use Rattle.format.specs.declared.Judged.TheVariants.{Says, Refused as Unjudged}
-use Rattle.format.specs.Questions.{Answer, refused, absent, remove, accepted, ask, bind, judged_of}
+use Rattle.format.specs.Questions.{Answer, refused, absent, remove, accepted, ask, bind, denied, told_of}
 use Rattle.format.specs.References.{Ref, Body, total_of, flags_of, start_of, read_refs, read_body}
 use Rattle.format.specs.Bodies.{body_fits, on_body, held_by, held_only_by}
 use Rattle.format.proofs.Answers.{refused-not}
@@ -99,26 +99,26 @@ reads-body d start o =
     (ap (λ (x : Answer (List Ref)). bind x (λ refs. accepted (record { total = total_of d; fixed = drop 8 (take (start_of 168 d) d); refs = refs }))) e)
 
 module _ (d : List ℕ) (root ino : ℕ) (offsets : List ℕ) where
-  pub only-long : 65535 < length d → Unjudged 3 ≡ judged_of (held_only_by d root ino offsets)
-  unfolding judged_of held_only_by ask body_fits
+  pub only-long : 65535 < length d → denied 3 ≡ told_of (held_only_by d root ino offsets)
+  unfolding told_of held_only_by ask body_fits
   only-long h = simp (lt-leb _ _ h)
 
   module _ (fits : length d ≤ 65535) where
-    pub only-many : 4096 < length offsets → Unjudged 3 ≡ judged_of (held_only_by d root ino offsets)
-    unfolding judged_of held_only_by ask body_fits
+    pub only-many : 4096 < length offsets → denied 3 ≡ told_of (held_only_by d root ino offsets)
+    unfolding told_of held_only_by ask body_fits
     only-many h = simp (le-leb _ _ fits, lt-leb _ _ h)
 
     module _ (few : length offsets ≤ 4096) where
-      only-is : (b : Bool) → b ≡ held_by root ino offsets (flags_of d) (read_body 168 d) → Says b ≡ judged_of (held_only_by d root ino offsets)
-      unfolding judged_of held_only_by ask body_fits
+      only-is : (b : Bool) → b ≡ held_by root ino offsets (flags_of d) (read_body 168 d) → Ok b ≡ told_of (held_only_by d root ino offsets)
+      unfolding told_of held_only_by ask body_fits
       only-is b e = simp (le-leb _ _ fits, le-leb _ _ few, e)
 
-      pub only-shut : (n : ℕ) → refs_in 168 d ≡ refused n → Says false ≡ judged_of (held_only_by d root ino offsets)
+      pub only-shut : (n : ℕ) → refs_in 168 d ≡ refused n → Ok false ≡ told_of (held_only_by d root ino offsets)
       unfolding refs_in on_body
       only-shut n e = only-is false (not-read root ino offsets (flags_of d) d n (read_body 168 d) fits e)
 
       pub only-held : (b : Bool) (start : ℕ) → Opens 168 d start → b ≡ held_in root ino offsets (total_of d) (flags_of d) (read_from d start)
-          → Says b ≡ judged_of (held_only_by d root ino offsets)
+          → Ok b ≡ told_of (held_only_by d root ino offsets)
       only-held b start o e =
           only-is b (e ∙ held-body root ino offsets (flags_of d) (total_of d) (drop 8 (take (start_of 168 d) d)) (read_from d start)
           ∙ ap (held_by root ino offsets (flags_of d)) (reads-body d start o))

@@ -13,8 +13,10 @@ use Rattle.fields.specs.Numbers.{le, le_bytes}
 use Rattle.fields.specs.Parts.{part, written}
 use Rattle.fields.proofs.Numbers.{length-le_bytes}
 use Rattle.fields.proofs.Parts.{length-written}
+use Rattle.std.specs.Prelude.{Result, Ok}
 use Rattle.format.specs.declared.Edited.{Edited}
-use Rattle.format.specs.declared.Edited.TheVariants.{Written, Absent as NoMatch, Remove as Gone, Refused as Denied}
+use Rattle.format.specs.declared.Refusal.{Refusal}
+use Rattle.format.specs.declared.Edited.TheVariants.{Written}
 use Rattle.format.specs.Questions.{Answer, refused, absent, remove, accepted, ask, bind, held, lent, edited_of, Answered}
 use Rattle.format.specs.References.{flags_of}
 use Rattle.format.specs.Bodies.{body_fits, on_head, with_flags}
@@ -54,7 +56,7 @@ length-own at bytes h =
     length-written at x bytes (omega arith)
 
 module _ {at : ℕ} {own : Answer (List ℕ)} where
-  pub own-fits : (plain : Answer (List ℕ)) (q : Edited) (n : ℕ) (old mid : List ℕ) → q ≡ Written n → Owned at plain own → Answered plain q old mid → at + 8 ≤ length mid
+  pub own-fits : (plain : Answer (List ℕ)) (q : Result Edited Refusal) (n : ℕ) (old mid : List ℕ) → q ≡ Ok (Written n) → Owned at plain own → Answered plain q old mid → at + 8 ≤ length mid
   unfolding edited_of lent
   own-fits (refused k) q n old mid is o w = let e = sym is ∙ w.result in let z : ◌≡◌ {A = ℕ} 0 1 = cc in absurd (omega arith)
   own-fits absent q n old mid is o w = let e = sym is ∙ w.result in let z : ◌≡◌ {A = ℕ} 0 1 = cc in absurd (omega arith)
@@ -65,9 +67,9 @@ module _ {at : ℕ} {own : Answer (List ℕ)} where
       omega arith
 
   -- written, then the flag
-  pub own-written : (plain : Answer (List ℕ)) (q : Edited) (n : ℕ) (old mid new : List ℕ) → q ≡ Written n → Owned at plain own → Answered plain q old mid
+  pub own-written : (plain : Answer (List ℕ)) (q : Result Edited Refusal) (n : ℕ) (old mid new : List ℕ) → q ≡ Ok (Written n) → Owned at plain own → Answered plain q old mid
       → new ≡ with_own_flag at mid
-      → Answered own (Written n) old new
+      → Answered own (Ok (Written n)) old new
   unfolding edited_of lent bind
   own-written (refused k) q n old mid new is o w e = let f = sym is ∙ w.result in let z : ◌≡◌ {A = ℕ} 0 1 = cc in absurd (omega arith)
   own-written absent q n old mid new is o w e = let f = sym is ∙ w.result in let z : ◌≡◌ {A = ℕ} 0 1 = cc in absurd (omega arith)
@@ -75,15 +77,15 @@ module _ {at : ℕ} {own : Answer (List ℕ)} where
   own-written (accepted bytes) q n old mid new is o w e =
       let h : at + 8 ≤ length bytes = o.long bytes refl in
       let l : length (with_own_flag at bytes) ≡ length bytes = length-own at bytes h in
-      subst (λ (a : Answer (List ℕ)). Answered a (Written n) old new) (sym o.same)
+      subst (λ (a : Answer (List ℕ)). Answered a (Ok (Written n)) old new) (sym o.same)
       (record {
-        result = sym is ∙ w.result ∙ ap Written (sym l);
+        result = sym is ∙ w.result ∙ ap (λ (k : ℕ). Ok (Written k)) (sym l);
         output = e ∙ ap (with_own_flag at) w.output ∙ own-append at bytes (drop (length bytes) old) h
             ∙ ap (λ (k : ℕ). with_own_flag at bytes ++ drop k old) (sym l);
       })
 
   -- nothing written
-  own-other : (plain : Answer (List ℕ)) (q r : Edited) (old new : List ℕ) → q ≡ r → ((n : ℕ) → r ≡ Written n → ⊥) → Owned at plain own → Answered plain q old new
+  pub own-other : (plain : Answer (List ℕ)) (q r : Result Edited Refusal) (old new : List ℕ) → q ≡ r → ((n : ℕ) → r ≡ Ok (Written n) → ⊥) → Owned at plain own → Answered plain q old new
       → Answered own r old new
   unfolding edited_of lent bind
   own-other (refused k) q r old new is h o w =
@@ -93,16 +95,6 @@ module _ {at : ℕ} {own : Answer (List ℕ)} where
   own-other remove q r old new is h o w =
       subst (λ (a : Answer (List ℕ)). Answered a r old new) (sym o.same) (record { result = sym is ∙ w.result; output = w.output })
   own-other (accepted bytes) q r old new is h o w = absurd (h (length bytes) (sym is ∙ w.result))
-
-  pub own-absent : (plain : Answer (List ℕ)) (q : Edited) (old new : List ℕ) → q ≡ NoMatch → Owned at plain own → Answered plain q old new → Answered own NoMatch old new
-  own-absent plain q old new is o w = own-other plain q NoMatch old new is (λ n e. let z : ◌≡◌ {A = ℕ} 0 1 = cc in absurd (omega arith)) o w
-
-  pub own-remove : (plain : Answer (List ℕ)) (q : Edited) (old new : List ℕ) → q ≡ Gone → Owned at plain own → Answered plain q old new → Answered own Gone old new
-  own-remove plain q old new is o w = own-other plain q Gone old new is (λ n e. let z : ◌≡◌ {A = ℕ} 0 1 = cc in absurd (omega arith)) o w
-
-  pub own-refused : (plain : Answer (List ℕ)) (q : Edited) (k : ℕ) (old new : List ℕ) → q ≡ Denied k → Owned at plain own → Answered plain q old new
-      → Answered own (Denied k) old new
-  own-refused plain q k old new is o w = own-other plain q (Denied k) old new is (λ n e. let z : ◌≡◌ {A = ℕ} 0 1 = cc in absurd (omega arith)) o w
 
 -- ---- in the record's body
 

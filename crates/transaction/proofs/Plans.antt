@@ -5,44 +5,43 @@ use Prim.Native.Nat.{ℕ, ◌≤◌}
 use native.Mathlib.Omega.{arith}
 use lib.ListN.{length}
 use borrow.Author.Tests.{le-leb}
+use Rattle.std.specs.Prelude.{Result, Ok, Err}
 use Rattle.format.specs.declared.Edited.{Edited}
+use Rattle.format.specs.declared.Refusal.{Refusal}
 use Rattle.format.specs.Questions.{Answer, ask, bind, Answered}
-use Rattle.backref.specs.declared.plan.Outcome.{Outcome}
-use Rattle.backref.specs.declared.plan.Outcome.TheVariants.{Edit, Absent, Remove, Refused}
+use Rattle.backref.specs.declared.plan.BodyEdit.{BodyEdit}
 use Rattle.backref.specs.declared.plan.Plan.{Plan}
-use Rattle.backref.specs.Plans.{edited, plan_outcome, plan_answer, EditIn, PlanIn}
-use Rattle.backref.proofs.Outcomes.{plan-is, inside-edit, length-edited}
+use Rattle.backref.specs.declared.plan.Plan.TheVariants.{Edit, Absent, Remove}
+use Rattle.backref.specs.Plans.{edited, plan_answer, EditIn, PlanIn}
+use Rattle.backref.proofs.Outcomes.{length-edited}
 use Rattle.record_edit.specs.declared.SecondEdit.{SecondEdit}
 use Rattle.record_edit.specs.declared.RecordAt.{RecordAt}
 use Rattle.record_edit.specs.Records.{data_of, edited_sheet, held_record, held_edit}
 use Rattle.transaction.specs.Drops.{held_plan}
 
-module _ (p : Plan) (body : List ℕ) (inside : PlanIn p body) (room count : ℕ) (sheet : List ℕ → List ℕ) where
-  under : EditIn p body → held_edit room count 65564 sheet (edited p body) ≡ held_record room count (length (edited p body)) (sheet (edited p body))
+module _ (body : List ℕ) (room count : ℕ) (sheet : List ℕ → List ℕ) where
+  under : (e : BodyEdit) → EditIn e body → held_edit room count 65564 sheet (edited e body) ≡ held_record room count (length (edited e body)) (sheet (edited e body))
   unfolding held_edit ask
-  under e =
-      let low = e.order in
-      let high = e.high in
-      let fits = e.fits in
-      let small = e.small in
-      let l = length-edited p body e in
-      let z : length (edited p body) ≤ 65564 = omega arith in
-      rw (le-leb (length (edited p body)) 65564 z)
+  under e h =
+      let low = h.order in
+      let high = h.high in
+      let fits = h.fits in
+      let small = h.small in
+      let l = length-edited e body h in
+      let z : length (edited e body) ≤ 65564 = omega arith in
+      rw (le-leb (length (edited e body)) 65564 z)
 
-  no-limit : bind (plan_answer p body) (held_edit room count 65564 sheet) ≡ bind (plan_answer p body) (λ d. held_record room count (length d) (sheet d))
-  unfolding bind plan_outcome
-  no-limit = go p.outcome refl
-    where
-      go : (o : Outcome) → p.outcome ≡ o
-          → bind (plan_answer p body) (held_edit room count 65564 sheet) ≡ bind (plan_answer p body) (λ d. held_record room count (length d) (sheet d))
-      go Edit e = rw (plan-is p body e) (under (inside-edit p body e inside))
-      go Absent e = rw (plan-is p body e)
-      go Remove e = rw (plan-is p body e)
-      go (Refused n) e = rw (plan-is p body e)
+  no-limit : (p : Result Plan Refusal) → PlanIn p body
+      → bind (plan_answer p body) (held_edit room count 65564 sheet) ≡ bind (plan_answer p body) (λ d. held_record room count (length d) (sheet d))
+  unfolding bind plan_answer PlanIn
+  no-limit (Ok (Edit e)) h = under e h
+  no-limit (Ok Absent) h = refl
+  no-limit (Ok Remove) h = refl
+  no-limit (Err x) h = refl
 
-pub put-held : (s : List ℕ) (target : RecordAt) (p : Plan) (b : SecondEdit) (room count : ℕ) (r : Edited) (old new : List ℕ)
+pub put-held : (s : List ℕ) (target : RecordAt) (p : Result Plan Refusal) (b : SecondEdit) (room count : ℕ) (r : Result Edited Refusal) (old new : List ℕ)
     → PlanIn p (data_of s target.start target.end)
     → Answered (bind (plan_answer p (data_of s target.start target.end)) (held_edit room count 65564 (edited_sheet s target b))) r old new
     → Answered (held_plan room count s target p b) r old new
 put-held s target p b room count r old new inside w =
-    subst (λ (a : Answer (List ℕ)). Answered a r old new) (no-limit p (data_of s target.start target.end) inside room count (edited_sheet s target b)) w
+    subst (λ (a : Answer (List ℕ)). Answered a r old new) (no-limit (data_of s target.start target.end) room count (edited_sheet s target b) p inside) w

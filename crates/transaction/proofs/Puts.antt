@@ -14,15 +14,17 @@ use Rattle.fields.proofs.Lists.{all-mid, all_rest, all-put}
 use Rattle.fields.proofs.Numbers.{length-le_bytes}
 use Rattle.fields.proofs.Parts.{length-written, spliced-written}
 use Rattle.format.specs.declared.Key.{Key}
+use Rattle.std.specs.Prelude.{Result, Ok}
 use Rattle.format.specs.declared.Edited.{Edited}
+use Rattle.format.specs.declared.Refusal.{Refusal}
 use Rattle.format.specs.Questions.{Answer, accepted, bind, needed, if_absent, Answered}
 use Rattle.format.specs.Items.{Item, rising, item_bytes, sheet_bytes, data_fits, held_sheet, with_bytes, put_back, without}
 use Rattle.format.specs.Apply.{replaced}
 use Rattle.format.proofs.Keys.{rising-drop, rising-swap, cut-at-key}
 use Rattle.format.proofs.Splices.{sheet-replace, sheet-remove, sheet-data}
 use Rattle.item_list.specs.Steps.{list_items}
-use Rattle.backref.specs.declared.plan.Outcome.TheVariants.{Absent}
 use Rattle.backref.specs.declared.plan.Plan.{Plan}
+use Rattle.backref.specs.declared.plan.Plan.TheVariants.{Absent}
 use Rattle.backref.specs.Plans.{plan_answer}
 use Rattle.record_edit.specs.declared.SecondEdit.{SecondEdit}
 use Rattle.record_edit.specs.declared.RecordAt.{RecordAt}
@@ -54,7 +56,7 @@ module _ {s : List ℕ} {c : Cut Item} {target : RecordAt} (st : Stands s c targ
         (length-append c.front (with_bytes c.hit d ∷ rest) ∙ sym (length-append c.front (c.hit ∷ rest)) ∙ second.many)
         (all_but (λ i. leb (length i.bytes) 65535) c.front (with_bytes c.hit d) rest second.fit)
 
-    pub put-answered : (p : Plan) (a : Answer (List ℕ)) (call : Answer (List Item)) (r : Edited) (old new : List ℕ)
+    pub put-answered : (p : Result Plan Refusal) (a : Answer (List ℕ)) (call : Answer (List Item)) (r : Result Edited Refusal) (old new : List ℕ)
         → call ≡ bind a (λ d. accepted (c.front ++ with_bytes c.hit d ∷ rest))
         → plan_answer p (data_of s target.start target.end) ≡ a
         → Answered (held_plan room m s target p b) r old new
@@ -77,8 +79,8 @@ module _ {s : List ℕ} {c : Cut Item} {target : RecordAt} (st : Stands s c targ
             (subst (λ (l : List Item). T (all (λ i. data_fits i.bytes) l)) st.same st.fit);
       }
 
-  pub inline-answered : (p : Plan) (a : Answer (List ℕ)) (other : Answer (List Item)) (room : ℕ) (r : Edited) (old new : List ℕ)
-      → (p.outcome ≡ Absent → ⊥)
+  pub inline-answered : (p : Result Plan Refusal) (a : Answer (List ℕ)) (other : Answer (List Item)) (room : ℕ) (r : Result Edited Refusal) (old new : List ℕ)
+      → (p ≡ Ok Absent → ⊥)
       → plan_answer p (data_of s target.start target.end) ≡ a
       → Answered (held_plan room target.item_count s target p (nothing (length s))) r old new
       → Answered (held_sheet room (if_absent (bind a (λ d. accepted (put_back c d))) other)) r old new

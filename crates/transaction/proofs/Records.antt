@@ -6,9 +6,10 @@ use Prim.Native.Nat.{ℕ}
 use lib.Dec.{leb}
 use lib.ListN.{length}
 use Rattle.fields.specs.Lists.{Cut}
-use Rattle.format.specs.declared.Told.TheVariants.{Value, Refused as Untold}
+use Rattle.std.specs.Prelude.{Result, Ok, Err}
 use Rattle.format.specs.declared.Edited.{Edited}
-use Rattle.format.specs.Questions.{Answer, refused, accepted, ask, bind, held, told_of, Answered}
+use Rattle.format.specs.declared.Refusal.{Refusal}
+use Rattle.format.specs.Questions.{Answer, refused, accepted, ask, bind, held, denied, told_of, Answered}
 use Rattle.format.specs.Items.{Item, held_sheet, put_back}
 use Rattle.format.specs.Apply.{record_number}
 use Rattle.backref.specs.declared.plan.Plan.{Plan}
@@ -22,17 +23,17 @@ use Rattle.transaction.proofs.Puts.{held-second, as_it_was}
 
 -- ---- record_of
 
-pub number-refused : (s : List ℕ) (extent k : ℕ) → asked_sheet s true ≡ refused k → Untold k ≡ told_of (record_number s extent)
+pub number-refused : (s : List ℕ) (extent : ℕ) (x : Refusal) → asked_sheet s true ≡ refused x.number → Err x ≡ told_of (record_number s extent)
 unfolding record_number told_of
-number-refused s extent k e = sym (ap told_of (on-refused s true k _ e))
+number-refused s extent x e = sym (ap told_of (on-refused s true x.number _ e))
 
-pub number-missing : {s : List ℕ} {extent : ℕ} → RecordMissing s extent true → Untold 5 ≡ told_of (record_number s extent)
+pub number-missing : {s : List ℕ} {extent : ℕ} → RecordMissing s extent true → denied 5 ≡ told_of (record_number s extent)
 unfolding record_number told_of
 number-missing l = sym (ap told_of (on-missing l (λ items c. accepted (length c.front))))
 
-pub number-told : {s : List ℕ} {extent index : ℕ} {target : RecordAt} → RecordFound s extent true index target → Value index ≡ told_of (record_number s extent)
+pub number-told : {s : List ℕ} {extent index : ℕ} {target : RecordAt} → RecordFound s extent true index target → Ok index ≡ told_of (record_number s extent)
 unfolding record_number told_of
-number-told h = ap Value h.index_is ∙ sym (ap told_of (on-found h (λ items c. accepted (length c.front))))
+number-told h = ap Ok h.index_is ∙ sym (ap told_of (on-found h (λ items c. accepted (length c.front))))
 
 -- ---- another body
 
@@ -51,7 +52,7 @@ module _ {s : List ℕ} {c : Cut Item} {target : RecordAt} (st : Stands s c targ
       go true = held-second st (as_it_was st) room d
       go false = refl
 
-  pub put-limited : (plan : Plan) (a : Answer (List ℕ)) (test : List ℕ → Bool) (call : Answer (List Item)) (r : Edited) (old new : List ℕ)
+  pub put-limited : (plan : Result Plan Refusal) (a : Answer (List ℕ)) (test : List ℕ → Bool) (call : Answer (List Item)) (r : Result Edited Refusal) (old new : List ℕ)
       → ((d : List ℕ) → a ≡ accepted d → test d ≡ leb (length d) limit)
       → call ≡ bind a (λ d. ask (test d) 17 (accepted (put_back c d)))
       → plan_answer plan (data_of s target.start target.end) ≡ a

@@ -19,9 +19,10 @@ use Rattle.format.specs.declared.BlockRef.{BlockRef}
 use Rattle.format.specs.declared.DataRef.{DataRef}
 use Rattle.format.specs.declared.SharedRef.{SharedRef}
 use Rattle.format.specs.declared.Key.{Key}
+use Rattle.std.specs.Prelude.{Result, Ok}
 use Rattle.format.specs.declared.Edited.{Edited}
-use Rattle.format.specs.declared.Edited.TheVariants.{Refused as Denied}
-use Rattle.format.specs.Questions.{Answer, refused, absent, remove, accepted, bind, needed, if_absent, held, Answered}
+use Rattle.format.specs.declared.Refusal.{Refusal}
+use Rattle.format.specs.Questions.{Answer, refused, absent, remove, accepted, bind, needed, if_absent, held, denied, Answered}
 use Rattle.format.specs.References.{known, row_in, total_of, rank_of, make_ref}
 use Rattle.format.specs.Bodies.{body_fits, on_head, one, lowered_by_part, on_total, lower_total, drop_inline, drop_inline_tree_ref, keyed_count, drop_keyed_data_ref}
 use Rattle.format.specs.Items.{Item, key_of, held_sheet, put_back, without}
@@ -38,8 +39,8 @@ use Rattle.item_list.specs.declared.Sought.TheVariants.{Present, Absent as Missi
 use Rattle.item_list.specs.Steps.{list_items, list_items_from}
 use Rattle.item_list.specs.Seeks.{seek_in}
 use Rattle.item_list.proofs.ItemWrites.{answered-no}
-use Rattle.backref.specs.declared.plan.Outcome.TheVariants.{Absent}
 use Rattle.backref.specs.declared.plan.Plan.{Plan}
+use Rattle.backref.specs.declared.plan.Plan.TheVariants.{Absent}
 use Rattle.backref.specs.Plans.{plan_answer, Planned}
 use Rattle.backref.specs.ByName.{shared_ref, drop_named}
 use Rattle.record_edit.specs.declared.RecordAt.{RecordAt}
@@ -56,7 +57,7 @@ use Rattle.transaction.proofs.Rewrites.{last-four}
 
 -- ---- at the item
 
-module _ (w : RefName) (amount : ℕ) (s : List ℕ) (target : RecordAt) (from to room : ℕ) (r : Edited) (old new : List ℕ) where
+module _ (w : RefName) (amount : ℕ) (s : List ℕ) (target : RecordAt) (from to room : ℕ) (r : Result Edited Refusal) (old new : List ℕ) where
   abbrev body : List ℕ
   body = data_of s target.start target.end
 
@@ -249,7 +250,7 @@ left_over (SharedData parent) amount item d f l e last is =
 
 -- ---- the call
 
-module _ {s : List ℕ} {c : Cut Item} {target : RecordAt} (st : Stands s c target) (w : RefName) (amount : ℕ) (p : Plan)
+module _ {s : List ℕ} {c : Cut Item} {target : RecordAt} (st : Stands s c target) (w : RefName) (amount : ℕ) (p : Result Plan Refusal)
     (planned : Planned p (data_of s target.start target.end) (drop_named target.key.kind (data_of s target.start target.end) w amount)) (room : ℕ) where
   hit-is : record { key = target.key; bytes = data_of s target.start target.end } ≡ c.hit
   hit-is = sym st.hit-is
@@ -260,7 +261,7 @@ module _ {s : List ℕ} {c : Cut Item} {target : RecordAt} (st : Stands s c targ
   abbrev other : Answer (List Item)
   other = bind (needed 5 (first_cut (has_key (own_key amount (list_items s) c w)) (list_items s))) (at_item amount (list_items s) c w)
 
-  pub drop-inline : (p.outcome ≡ Absent → ⊥) → (r : Edited) (old new : List ℕ)
+  pub drop-inline : (p ≡ Ok Absent → ⊥) → (r : Result Edited Refusal) (old new : List ℕ)
       → Answered (bind (plan_answer p (data_of s target.start target.end)) (held_edit room target.item_count 65564 (edited_sheet s target (nothing (length s))))) r old new
       → Answered (held_sheet room (drop_ref w amount (list_items s) c)) r old new
   drop-inline there r old new h =
@@ -268,7 +269,7 @@ module _ {s : List ℕ} {c : Cut Item} {target : RecordAt} (st : Stands s c targ
       (inline-answered st p (drop_named c.hit.key.kind c.hit.bytes w amount) other room r old new there says
       (put-held s target p (nothing (length s)) room target.item_count r old new planned.inside h))
 
-  module _ (out : p.outcome ≡ Absent) (kind rank : ℕ) (kind-is : kind ≡ kind_of w) (rank_is : rank ≡ rank_of (kind_of w) (fields_of w)) where
+  module _ (out : p ≡ Ok Absent) (kind rank : ℕ) (kind-is : kind ≡ kind_of w) (rank_is : rank ≡ rank_of (kind_of w) (fields_of w)) where
     abbrev item-key : Key
     item-key = key_of target.key.objectid kind rank
 
@@ -284,12 +285,12 @@ module _ {s : List ℕ} {c : Cut Item} {target : RecordAt} (st : Stands s c targ
     turned : (o : Option (Cut Item)) → first_cut (has_key item-key) (list_items s) ≡ o → drop_ref w amount (list_items s) c ≡ bind (needed 5 o) (at_item amount (list_items s) c w)
     turned o e =
         in-one-form amount (list_items s) c w
-        ∙ turns (drop_named c.hit.key.kind c.hit.bytes w amount) _ other (sym says ∙ is-absent p (data_of s target.start target.end) out)
+        ∙ turns (drop_named c.hit.key.kind c.hit.bytes w amount) _ other (sym says ∙ is-absent (data_of s target.start target.end) out)
         ∙ ap (λ (k : Key). bind (needed 5 (first_cut (has_key k) (list_items s))) (at_item amount (list_items s) c w)) (sym key-same)
         ∙ ap (λ (x : Option (Cut Item)). bind (needed 5 x) (at_item amount (list_items s) c w)) e
 
     pub drop-none : (at : ℕ) (old : List ℕ) → seek_in item-key target.end (list_items_from s target.end) ≡ Missing at
-        → Answered (held_sheet room (drop_ref w amount (list_items s) c)) (Denied 5) old old
+        → Answered (held_sheet room (drop_ref w amount (list_items s) c)) (denied 5) old old
     unfolding bind needed
     drop-none at old e = answered-no _ room 5 old (turned none (behind-none st item-key extent high at e))
 
@@ -334,7 +335,7 @@ module _ {s : List ℕ} {c : Cut Item} {target : RecordAt} (st : Stands s c targ
             ∙ four_bytes k.item.hit kind-184
             (all-mid good k.item.front k.item.hit k.item.back (subst (λ (l : List Item). T (all good l)) k.same f))
 
-    pub drop-item : (from to : ℕ) (r : Edited) (old new : List ℕ) → seek_in item-key target.end (list_items_from s target.end) ≡ Present from to
+    pub drop-item : (from to : ℕ) (r : Result Edited Refusal) (old new : List ℕ) → seek_in item-key target.end (list_items_from s target.end) ≡ Present from to
         → SharedInForm w (list_items s)
         → AtItem w amount s target from to room r old new
         → Answered (held_sheet room (drop_ref w amount (list_items s) c)) r old new

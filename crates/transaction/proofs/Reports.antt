@@ -4,9 +4,10 @@ use mathlib.Core.Option.{Option}
 use mathlib.Core.List.{List}
 use Prim.Native.Nat.{ℕ}
 use Rattle.fields.specs.Lists.{Cut}
+use Rattle.std.specs.Prelude.{Result}
 use Rattle.format.specs.declared.Dropped.{Dropped}
-use Rattle.format.specs.declared.Dropped.TheVariants.{Refused as Undropped}
-use Rattle.format.specs.Questions.{Answer, refused, accepted, needed, held, result_or, AnsweredDropped}
+use Rattle.format.specs.declared.Refusal.{Refusal}
+use Rattle.format.specs.Questions.{Answer, refused, accepted, needed, held, denied, result_or, AnsweredDropped}
 use Rattle.format.specs.Items.{Item, sheet_holds, held_sheet}
 use Rattle.format.proofs.Answers.{bind_ok, held-ok}
 use Rattle.format.proofs.Left.{answered-left}
@@ -21,11 +22,11 @@ use Rattle.transaction.specs.Drops.{on_key_left}
 
 module _ (room : ℕ) (a : Answer (List Item)) where
   -- a refusal shows no number
-  pub reports-no : (k n : ℕ) (old : List ℕ) → a ≡ refused k → AnsweredDropped (held_sheet room a) n (Undropped k) old old
+  pub reports-no : (k n : ℕ) (old : List ℕ) → a ≡ refused k → AnsweredDropped (held_sheet room a) n (denied k) old old
   unfolding dropped_from
   reports-no k n old e = wrote-dropped (answered-no a room k old e) refl
 
-  pub reports-held : {l m : ℕ} {r : Dropped} {old new : List ℕ} → ((items : List Item) → a ≡ accepted items → l ≡ m)
+  pub reports-held : {l m : ℕ} {r : Result Dropped Refusal} {old new : List ℕ} → ((items : List Item) → a ≡ accepted items → l ≡ m)
       → AnsweredDropped (held_sheet room a) l r old new → AnsweredDropped (held_sheet room a) m r old new
   unfolding held_sheet
   reports-held f w =
@@ -37,7 +38,7 @@ pub on-key-left : {s : List ℕ} {target : RecordAt} (h : StandsAt s target) (le
 unfolding on_key_left needed
 on-key-left h left = ap (λ (o : Option (Cut Item)). result_or 0 left (needed 5 o)) h.finds
 
-pub reports-key : {s : List ℕ} {target : RecordAt} (h : StandsAt s target) (next : Cut Item → Answer (List Item)) (left : Cut Item → ℕ) (room : ℕ) (r : Dropped)
+pub reports-key : {s : List ℕ} {target : RecordAt} (h : StandsAt s target) (next : Cut Item → Answer (List Item)) (left : Cut Item → ℕ) (room : ℕ) (r : Result Dropped Refusal)
     (old new : List ℕ)
     → AnsweredDropped (held_sheet room (next h.at_cut)) (left h.at_cut) r old new
     → AnsweredDropped (held_sheet room (on_key target.key (list_items s) next)) (on_key_left target.key (list_items s) left) r old new

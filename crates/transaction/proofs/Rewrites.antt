@@ -3,10 +3,12 @@ use mathlib.Core.Path.{◌≡◌, refl, sym, ap, ap₂, ◌∙◌}
 use mathlib.Core.List.{List, ◌∷◌, ◌++◌, append_assoc}
 use Prim.Native.Nat.{ℕ, ◌+◌, ◌-◌, ◌≤◌}
 use native.Mathlib.Omega.{arith}
-use lib.ListN.{length, take, drop, replicate, take-append-drop}
+use lib.ListN.{length, take, drop, take-append-drop}
 use lib.Seq.{take-add, take-take, drop_at, drop-drop, drop-append-le}
+use Rattle.std.specs.Int.{to_le_bytes, w32}
 use Rattle.fields.specs.Numbers.{le_bytes}
 use Rattle.fields.specs.Parts.{part, written}
+use Rattle.fields.proofs.Numbers.{to_le}
 use Rattle.fields.proofs.Parts.{length_part, length-written, part-add}
 use Rattle.format.specs.Items.{Item, sheet_bytes, with_bytes}
 use Rattle.format.proofs.Splices.{item_at, sheet-data, sheet-rewrite}
@@ -63,7 +65,6 @@ last-four s from to at a b l =
     let there : from + 21 + at ≡ to - 4 = omega arith in
     part-inside (from + 21) (to - (from + 21)) at 4 s (omega arith) (omega arith) ∙ ap (λ (k : ℕ). part k 4 s) there
 
--- a number of four bytes over four zeros
-pub four_bytes : (count : ℕ) → written 0 (le_bytes 4 count) (replicate 4 0) ≡ le_bytes 4 count
-unfolding le_bytes
-four_bytes count = refl
+-- a number of four bytes as the library writes it
+pub four_bytes : (count : ℕ) → to_le_bytes w32 count ≡ le_bytes 4 count
+four_bytes count = to_le w32 count

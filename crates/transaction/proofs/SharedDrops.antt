@@ -12,9 +12,10 @@ use Rattle.fields.specs.Numbers.{le_bytes, are_bytes}
 use Rattle.fields.proofs.Numbers.{length-le_bytes}
 use Rattle.fields.proofs.Parts.{length-written}
 use Rattle.format.specs.declared.SharedRef.{SharedRef}
+use Rattle.std.specs.Prelude.{Result}
 use Rattle.format.specs.declared.Edited.{Edited}
-use Rattle.format.specs.declared.Edited.TheVariants.{Refused as Denied}
-use Rattle.format.specs.Questions.{Answer, refused, accepted, ask, bind, if_absent, bytes_of, Answered}
+use Rattle.format.specs.declared.Refusal.{Refusal}
+use Rattle.format.specs.Questions.{Answer, refused, accepted, ask, bind, denied, if_absent, bytes_of, Answered}
 use Rattle.format.specs.References.{total_of}
 use Rattle.format.specs.Bodies.{body_fits, on_head, shared_kind, reduced_by, on_total, reduce_total, take_inline_shared}
 use Rattle.format.specs.Items.{Item, held_sheet, put_back}
@@ -36,13 +37,13 @@ use Rattle.transaction.proofs.Records.{put-limited}
 abbrev pub dropped : Item → SharedRef → ℕ → Bool → Answer (List ℕ)
 dropped i s count as_item = bind (shared_rest i s as_item) (λ rest. reduce_total rest count)
 
-module _ (i : Item) (s : SharedRef) (count : ℕ) (as_item : Bool) (r : Plan) where
+module _ (i : Item) (s : SharedRef) (count : ℕ) (as_item : Bool) (r : Result Plan Refusal) where
   pub drop-item : as_item ≡ true → Planned r i.bytes (reduce_total i.bytes count) → Planned r i.bytes (dropped i s count as_item)
   unfolding shared_rest bind
   drop-item e h = rw e h
 
   -- a missing reference is 5, and then the total falls
-  pub drop-inline : as_item ≡ false → T (are_bytes i.bytes) → (taken present : Plan)
+  pub drop-inline : as_item ≡ false → T (are_bytes i.bytes) → (taken present : Result Plan Refusal)
       → PlannedTaken taken i.bytes (take_inline_shared i.key.kind i.bytes s) → Needs taken present → Reduces present count r
       → Planned r i.bytes (dropped i s count as_item)
   unfolding shared_rest
@@ -51,7 +52,7 @@ module _ (i : Item) (s : SharedRef) (count : ℕ) (as_item : Bool) (r : Plan) wh
       let rest-is : plan_answer present body ≡ if_absent (bytes_of (take_inline_shared i.key.kind body s)) (refused 5) =
       n.says body ∙ ap (λ (x : Answer (List ℕ)). if_absent x (refused 5)) (taken-says i.key.kind body s taken p) in
       let done =
-      reduces-whole present d body (needs-whole taken present body n (taken-whole i.key.kind body s taken p bytes)) (n.inside body p.inside) in
+      reduces-whole count body present d (needs-whole taken present body n (taken-whole i.key.kind body s taken p bytes)) (n.inside body p.inside) in
       rw e (record { says = done.says ∙ ap (λ (x : Answer (List ℕ)). bind x (λ rest. reduce_total rest count)) rest-is; inside = done.inside })
 
 -- ---- the call
@@ -80,17 +81,17 @@ module _ (name : SharedRef) (count : ℕ) (as_item : Bool) (room : ℕ) where
   drop-next c = bind (shared_rest c.hit name as_item) (λ rest. bind (reduce_total rest count) (λ body. accepted (put_back c body)))
 
   pub shared-drop-refused : (s : List ℕ) (extent k : ℕ) (old : List ℕ) → asked_sheet s (shared_kind name.kind) ≡ refused k
-      → Answered (held_sheet room (apply_shared_drop_to s extent name count as_item)) (Denied k) old old
+      → Answered (held_sheet room (apply_shared_drop_to s extent name count as_item)) (denied k) old old
   unfolding apply_shared_drop_to
   shared-drop-refused s extent k old e = answered-no _ room k old (on-refused s (shared_kind name.kind) k (apply_shared_drop extent name count as_item) e)
 
   pub shared-drop-missing : {s : List ℕ} {extent : ℕ} → RecordMissing s extent (shared_kind name.kind) → (old : List ℕ)
-      → Answered (held_sheet room (apply_shared_drop_to s extent name count as_item)) (Denied 5) old old
+      → Answered (held_sheet room (apply_shared_drop_to s extent name count as_item)) (denied 5) old old
   unfolding apply_shared_drop_to apply_shared_drop
   shared-drop-missing l old = answered-no _ room 5 old (on-missing l (λ items. drop-next))
 
   pub shared-drop-answered : {s : List ℕ} {extent index : ℕ} {target : RecordAt} → T (are_bytes s) → RecordFound s extent (shared_kind name.kind) index target
-      → (plan : Plan) (r : Edited) (old new : List ℕ)
+      → (plan : Result Plan Refusal) (r : Result Edited Refusal) (old new : List ℕ)
       → Planned plan (data_of s target.start target.end) (dropped (record { key = target.key; bytes = data_of s target.start target.end }) name count as_item)
       → Answered (bind (plan_answer plan (data_of s target.start target.end)) (held_edit room target.item_count 65564 (edited_sheet s target (nothing (length s))))) r old new
       → Answered (held_sheet room (apply_shared_drop_to s extent name count as_item)) r old new

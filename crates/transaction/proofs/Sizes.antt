@@ -1,17 +1,16 @@
 -- Laws of the calls that read no references, one for each way out. Assumes nothing.
 use mathlib.Core.Path.{◌≡◌, refl, sym, ap, ◌∙◌, subst}
 use mathlib.Core.Bool.{true, false}
-use mathlib.Core.List.{List, [], ◌∷◌}
+use mathlib.Core.List.{List, []}
 use Prim.Native.Nat.{ℕ, ◌+◌, ◌-◌, ◌/◌, ◌≤◌, ◌<◌}
 use native.Mathlib.Omega.{arith}
 use lib.Dec.{T, eqb→eq}
 use borrow.Author.Tests.{ne_eqb, le-leb, lt-leb}
 use Rattle.fields.specs.Numbers.{le_bytes}
-use Rattle.fields.specs.Parts.{written}
+use Rattle.std.specs.Prelude.{Result, Ok}
 use Rattle.format.specs.declared.Edited.{Edited}
-use Rattle.format.specs.declared.Told.TheVariants.{Value, Refused as Untold}
-use Rattle.format.specs.declared.Filed.TheVariants.{Under, Refused as Unfiled}
-use Rattle.format.specs.Questions.{refused, accepted, ask, bind, held, told_of, filed_of, Answered}
+use Rattle.format.specs.declared.Refusal.{Refusal}
+use Rattle.format.specs.Questions.{refused, accepted, ask, bind, held, denied, told_of, Answered}
 use Rattle.format.specs.References.{payload_length, count_position, counted}
 use Rattle.format.specs.Bodies.{held_body, shared_kind, shared_add_key, shared_add_item, shared_add_inline_size}
 use Rattle.format.specs.Items.{nodesize_fits}
@@ -19,31 +18,19 @@ use Rattle.format.specs.Apply.{inline_limit, max_inline_extent_item}
 
 -- ---- the inline limit
 
-pub limit-none : (nodesize : ℕ) → nodesize < 501 → 0 ≡ inline_limit nodesize
-unfolding inline_limit
-limit-none nodesize h = omega arith
-
-pub limit_is : (nodesize : ℕ) → (nodesize - 101) / 16 - 25 ≡ inline_limit nodesize
-unfolding inline_limit
-limit_is nodesize = refl
-
-pub told-limit : (nodesize limit : ℕ) → nodesize_fits nodesize ≡ true → limit ≡ inline_limit nodesize → Value limit ≡ told_of (max_inline_extent_item nodesize)
+pub told-limit : (nodesize limit : ℕ) → nodesize_fits nodesize ≡ true → limit ≡ inline_limit nodesize → Ok limit ≡ told_of (max_inline_extent_item nodesize)
 unfolding told_of max_inline_extent_item ask
 told-limit nodesize limit h e = rw (h, e) refl
 
-pub told_none : (nodesize : ℕ) → nodesize_fits nodesize ≡ false → Untold 3 ≡ told_of (max_inline_extent_item nodesize)
+pub told_none : (nodesize : ℕ) → nodesize_fits nodesize ≡ false → denied 3 ≡ told_of (max_inline_extent_item nodesize)
 unfolding told_of max_inline_extent_item ask
 told_none nodesize h = rw h refl
 
 -- ---- a shared reference, by the row of its kind
 
 module _ (k : ℕ) where
-  pub data-kind : shared_kind k ≡ true → (k ≡ 182 → ⊥) → k ≡ 184
-  unfolding shared_kind
-  data-kind t h = eqb→eq k 184 (subst T (sym (rw (ne_eqb k 182 h) at t)) tt)
-
   module _ (other : shared_kind k ≡ false) where
-    pub size-other : Untold 3 ≡ told_of (shared_add_inline_size k)
+    pub size-other : denied 3 ≡ told_of (shared_add_inline_size k)
     unfolding told_of shared_add_inline_size ask
     size-other = rw other refl
 
@@ -51,18 +38,18 @@ module _ (k : ℕ) where
     unfolding held_body held bind shared_add_item ask
     item-other count room = rw other refl
 
-    pub key-other : (bytenr parent : ℕ) → Unfiled 3 ≡ filed_of (shared_add_key bytenr (record { kind = k; parent = parent }))
-    unfolding filed_of shared_add_key ask
+    pub key-other : (bytenr parent : ℕ) → denied 3 ≡ told_of (shared_add_key bytenr (record { kind = k; parent = parent }))
+    unfolding told_of shared_add_key ask
     key-other bytenr parent = rw other refl
 
   module _ (shared : shared_kind k ≡ true) where
-    pub size_is : (n : ℕ) → n ≡ payload_length k → Value (1 + n) ≡ told_of (shared_add_inline_size k)
+    pub size_is : (n : ℕ) → n ≡ payload_length k → Ok (1 + n) ≡ told_of (shared_add_inline_size k)
     unfolding told_of shared_add_inline_size ask
     size_is n e = rw (shared, e) refl
 
     pub key-is : (bytenr parent : ℕ)
-        → Under (record { objectid = bytenr; kind = k; offset = parent }) ≡ filed_of (shared_add_key bytenr (record { kind = k; parent = parent }))
-    unfolding filed_of shared_add_key ask
+        → Ok (record { objectid = bytenr; kind = k; offset = parent }) ≡ told_of (shared_add_key bytenr (record { kind = k; parent = parent }))
+    unfolding told_of shared_add_key ask
     key-is bytenr parent = rw shared refl
 
     module _ (count n : ℕ) (is : n ≡ count_position k) where
@@ -74,17 +61,13 @@ module _ (k : ℕ) where
       unfolding shared_add_item ask counted
       item-empty h = let none : count_position k < 1 = omega (arith, is) in simp (shared, lt-leb _ _ none)
 
-      whole-count : written 0 (le_bytes 4 count) (0 ∷ 0 ∷ 0 ∷ 0 ∷ []) ≡ le_bytes 4 count
-      unfolding le_bytes
-      whole-count = refl
-
       module _ (room : ℕ) where
-        pub item-data : {b old new : List ℕ} {r : Edited} → (n ≡ 0 → ⊥) → b ≡ written 0 (le_bytes 4 count) (0 ∷ 0 ∷ 0 ∷ 0 ∷ [])
+        pub item-data : {b old new : List ℕ} {r : Result Edited Refusal} → (n ≡ 0 → ⊥) → b ≡ le_bytes 4 count
             → Answered (held_body room (accepted b)) r old new → Answered (held_body room (shared_add_item k count)) r old new
         item-data {old = old} {new = new} {r = r} e q h =
-            subst (λ a. Answered (held_body room a) r old new) (ap accepted (q ∙ whole-count) ∙ sym (item-is e)) h
+            subst (λ a. Answered (held_body room a) r old new) (ap accepted q ∙ sym (item-is e)) h
 
-        pub item-block : {old new : List ℕ} {r : Edited} → n ≡ 0
+        pub item-block : {old new : List ℕ} {r : Result Edited Refusal} → n ≡ 0
             → Answered (held_body room (accepted [])) r old new → Answered (held_body room (shared_add_item k count)) r old new
         item-block {old = old} {new = new} {r = r} e h =
             subst (λ a. Answered (held_body room a) r old new) (sym (item-empty e)) h

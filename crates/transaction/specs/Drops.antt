@@ -1,11 +1,12 @@
 -- A reference dropped, by its name: out of the record's body, or else off its own item and the record's total; and the two edits
 -- of a drop, of the record's body and of an item behind the record. Assumes nothing.
-use Rattle.std.specs.Prelude.{◌≡◌, Bool, true, false, List, ℕ, ◌-◌, T, length, replicate}
+use Rattle.std.specs.Prelude.{◌≡◌, Bool, true, false, List, ℕ, ◌-◌, T, length, replicate, Result}
 use Rattle.std.specs.Int.Bits.{bit_or}
 use Rattle.fields.specs.Lists.{all, Cut, first_cut}
 use Rattle.fields.specs.Numbers.{le, le_bytes}
 use Rattle.fields.specs.Parts.{part, written}
 use Rattle.format.specs.declared.Key.{Key}
+use Rattle.format.specs.declared.Refusal.{Refusal}
 use Rattle.format.specs.declared.SharedRef.{SharedRef}
 use Rattle.format.specs.Questions.{Answer, refused, absent, remove, accepted, bind, needed, result_or}
 use Rattle.format.specs.References.{rank_of}
@@ -34,7 +35,7 @@ abbrev pub new_count : ℕ → ℕ → SecondEdit
 new_count to count = record { from = to - 4; to = to; new = le_bytes 4 count; size = 4 }
 
 -- question 21 of the list with the planned body and the second edit
-abbrev pub held_plan : ℕ → ℕ → List ℕ → RecordAt → Plan → SecondEdit → Answer (List ℕ)
+abbrev pub held_plan : ℕ → ℕ → List ℕ → RecordAt → Result Plan Refusal → SecondEdit → Answer (List ℕ)
 held_plan room count s target plan b =
     bind (plan_answer plan (data_of s target.start target.end)) (λ body.
     held_record room count (length body) (edited_sheet s target b body))

@@ -1,14 +1,12 @@
 -- `held_by` of format, over what a reading of references gives: where the reading stops, nothing is held. And over data references of
 -- one file that stand side by side in a body, by their numbers. Assumes nothing.
-use Rattle.std.specs.Prelude.{◌≡◌, ◌⊎◌, Bool, false, ◌&&◌, cond, List, [], ◌∷◌, ◌++◌, ℕ, zero, suc, ◌+◌, ◌-◌, ◌*◌, ◌≤◌, ◌<◌, T, eqb, leb, length, drop, get_or}
+use Rattle.std.specs.Prelude.{◌≡◌, ◌⊎◌, Bool, false, ◌&&◌, cond, List, [], ◌∷◌, ◌++◌, ℕ, zero, suc, ◌+◌, ◌-◌, ◌*◌, ◌≤◌, ◌<◌, T, eqb, leb, length, drop, get_or, Option, Some, None}
 use Rattle.fields.specs.Lists.{sum, all}
 use Rattle.format.specs.Questions.{Answer, accepted, result_or}
 use Rattle.format.specs.References.{Ref, ref_at}
 use Rattle.format.specs.Bodies.{named, times, offset_of}
 use Rattle.inline_refs.specs.Steps.{read_from}
 use Rattle.data_refs.specs.Triples.{triple_size}
-use Rattle.transaction.specs.declared.held_refs.FileRefs.{FileRefs}
-use Rattle.transaction.specs.declared.held_refs.FileRefs.TheVariants.{All, NotAll}
 
 unfoldable pub all_of : (Ref → Bool) → Answer (List Ref) → Bool
 all_of p read = result_or false (all p) read
@@ -57,9 +55,9 @@ pub record SideBySide (root ino : ℕ) (body : List ℕ) (from n : ℕ) : Type 0
   pub reads : read_from body from ≡ accepted (file_refs body from n)
   pub of_file : T (all (is_of_file root ino) (file_refs body from n))
 
-unfoldable pub FileRefsTold : ℕ → ℕ → List ℕ → ℕ → FileRefs → Type 0
-FileRefsTold root ino body from (All n) = SideBySide root ino body from n
-FileRefsTold root ino body from NotAll = all_of (is_of_file root ino) (read_from body from) ≡ false
+abbrev pub FileRefsTold : ℕ → ℕ → List ℕ → ℕ → Option ℕ → Type 0
+FileRefsTold root ino body from (Some n) = SideBySide root ino body from n
+FileRefsTold root ino body from None = all_of (is_of_file root ino) (read_from body from) ≡ false
 
 -- ---- lent offsets counted at them
 

@@ -1,5 +1,5 @@
 -- The two ways of apply_keyed_add: the body left as it is, or a planned edit. Assumes nothing.
-use Rattle.std.specs.Prelude.{Bool, true, false, cond, List, ℕ, eqb, ltb}
+use Rattle.std.specs.Prelude.{Bool, true, false, List, ℕ, eqb, max}
 use Rattle.format.specs.declared.Keyed.{Keyed}
 use Rattle.format.specs.declared.Keyed.TheVariants.{Block, Data}
 use Rattle.format.specs.Questions.{Answer}
@@ -19,10 +19,7 @@ keyed_plan i keyed count true = raise_total i.bytes count
 keyed_plan i (Block block) count false = add_inline_tree_ref i.key.kind i.bytes block
 keyed_plan i (Data d) count false = add_inline_data i.key.kind i.bytes d count
 
-unfoldable pub larger : ℕ → ℕ → ℕ
-larger a b = cond (ltb a b) b a
-
 -- what question 17 asks of a body that had so many bytes: "only if the body grew", or always
 unfoldable pub limit_for : ℕ → ℕ → Bool → ℕ
-limit_for nodesize size true = larger size (inline_limit nodesize)
+limit_for nodesize size true = max size (inline_limit nodesize)
 limit_for nodesize size false = inline_limit nodesize

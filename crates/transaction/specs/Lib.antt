@@ -1,3 +1,4 @@
 pub mod Held
 pub mod Drops
 pub mod Keyed
+pub mod Shared

@@ -5,30 +5,21 @@ ghost use Rattle.format.specs.Bodies.{shared_kind};
 ghost use Rattle.format.specs.Items.{nodesize_fits, held_sheet};
 ghost use Rattle.format.specs.Apply.{shared_body, apply_keyed_add_to, apply_shared_add_to};
 ghost use Rattle.backref.specs.Plans.{Planned};
-ghost use Rattle.transaction.specs.Keyed.{unread, keyed_plan, larger, limit_for};
+ghost use Rattle.transaction.specs.Keyed.{unread, keyed_plan, limit_for};
 
 use super::limit;
 use backref::{Plan, TotalChange};
-use format::{Edited, ITEM_HEAD, Key, Keyed, SharedRef};
-use inline_refs::{OwnRank, RefName};
-use record_edit::FoundRecord;
-
-fn larger_of(a: usize, b: usize) -> usize
-    ensures { result ≡ larger a b }
-{
-    if a < b {
-        return b;
-    }
-    a
-}
+use format::{Edited, ITEM_HEAD, Key, Keyed, Refusal, SharedRef};
+use inline_refs::RefName;
 
 // What question 17 asks of a body that had `size` bytes. Asked only if it grew, the body may stay as long as it was.
+#[tactic(auto, unfolding(crate::specs::Keyed::limit_for))]
 pub fn limit_for(nodesize: u32, size: usize, grown_only: bool) -> usize
     ensures { result ≡ limit_for nodesize size grown_only }
 {
     let limit = limit::inline_limit(nodesize);
     if grown_only {
-        return larger_of(size, limit);
+        return size.max(limit);
     }
     limit
 }
@@ -36,14 +27,18 @@ pub fn limit_for(nodesize: u32, size: usize, grown_only: bool) -> usize
 fn shared_fits(nodesize: u32, kind: u8) -> bool
     ensures { result ≡ (nodesize_fits nodesize && shared_kind kind) }
 {
-    if item_list::nodesize_fits(nodesize) {
-        return backref::shared_kind(kind);
-    }
-    false
+    item_list::nodesize_fits(nodesize) && backref::shared_kind(kind)
 }
 
 // The record's new body. With the item flag only the total moves.
-fn plan_shared(key: Key, body: &[u8], name: SharedRef, count: u32, as_item: bool) -> Plan
+#[tactic(auto, unfolding(format::specs::Apply::shared_body))]
+fn plan_shared(
+    key: Key,
+    body: &[u8],
+    name: SharedRef,
+    count: u32,
+    as_item: bool,
+) -> Result<Plan, Refusal>
     ensures { Planned result body.now (shared_body (record { key = key; bytes = body.now }) name count as_item) }
 {
     if as_item {
@@ -61,56 +56,45 @@ pub fn apply_shared_add(
     count: u32,
     as_item: bool,
     out: &mut [u8],
-) -> Edited
+) -> Result<Edited, Refusal>
     ensures { Answered (held_sheet (length out.old) (apply_shared_add_to nodesize sheet.now bytenr name count as_item)) result out.old out.new }
 {
-    let found = record_edit::find_record(sheet, bytenr, shared_fits(nodesize, name.kind));
-    match found {
-        FoundRecord::Refused(refusal) => return Edited::Refused(refusal),
-        FoundRecord::Missing => return Edited::Refused(5),
-        FoundRecord::At { target, .. } => {
-            let start = target.start;
-            let end = target.end;
-            let plan = plan_shared(
-                target.key,
-                &sheet[start + ITEM_HEAD..end],
-                name,
-                count,
-                as_item,
-            );
-            let limit = limit_for(nodesize, end - (start + ITEM_HEAD), false);
-            return record_edit::put_record(sheet, target, plan, limit, out);
-        }
-    }
+    let three = shared_fits(nodesize, name.kind);
+    let Some(found) = record_edit::find_record(sheet, bytenr, three)? else {
+        return Err(Refusal::MISSING);
+    };
+    let target = found.target;
+    let body = &sheet[target.start + ITEM_HEAD..target.end];
+    let plan = plan_shared(target.key, body, name, count, as_item);
+    let limit = limit_for(nodesize, body.len(), false);
+    record_edit::put_record(sheet, target, plan, limit, out)
 }
 
 // The body is left as it is, read or not.
+#[tactic(auto, unfolding(crate::specs::Keyed::unread))]
 fn is_unread(keyed: Keyed, count: u32, as_item: bool) -> bool
     ensures { result ≡ unread keyed count as_item }
 {
-    if as_item {
-        return false;
-    }
-    match keyed {
-        Keyed::Block(_) => false,
-        Keyed::Data(_) => count == 0,
-    }
+    !as_item && matches!(keyed, Keyed::Data(_)) && count == 0
 }
 
 // The record's new body. With the item flag only the total moves.
-fn plan_keyed(key: Key, body: &[u8], keyed: Keyed, count: u32, as_item: bool) -> Plan
+#[tactic(auto, unfolding(crate::specs::Keyed::keyed_plan, format::specs::Bodies::add_inline_tree_ref))]
+fn plan_keyed(
+    key: Key,
+    body: &[u8],
+    keyed: Keyed,
+    count: u32,
+    as_item: bool,
+) -> Result<Plan, Refusal>
     ensures { Planned result body.now (keyed_plan (record { key = key; bytes = body.now }) keyed count as_item) }
 {
     if as_item {
         return backref::plan_total(body, TotalChange::Raise(count as u64));
     }
     match keyed {
-        Keyed::Block(name) => {
-            backref::plan_add(key.kind, body, RefName::Block(name), OwnRank::Unknown, 1)
-        }
-        Keyed::Data(name) => {
-            backref::plan_add(key.kind, body, RefName::Data(name), OwnRank::Unknown, count)
-        }
+        Keyed::Block(name) => { backref::plan_add(key.kind, body, RefName::Block(name), None, 1) }
+        Keyed::Data(name) => { backref::plan_add(key.kind, body, RefName::Data(name), None, count) }
     }
 }
 
@@ -123,28 +107,19 @@ pub fn apply_keyed_add(
     count: u32,
     as_item: bool,
     out: &mut [u8],
-) -> Edited
+) -> Result<Edited, Refusal>
     ensures { Answered (held_sheet (length out.old) (apply_keyed_add_to nodesize sheet.now bytenr keyed count as_item)) result out.old out.new }
 {
-    let found = record_edit::find_record(sheet, bytenr, item_list::nodesize_fits(nodesize));
-    match found {
-        FoundRecord::Refused(refusal) => return Edited::Refused(refusal),
-        FoundRecord::Missing => return Edited::Refused(5),
-        FoundRecord::At { target, .. } => {
-            if is_unread(keyed, count, as_item) {
-                return item_list::remove_item(sheet, 0, 0, target.item_count, out);
-            }
-            let start = target.start;
-            let end = target.end;
-            let plan = plan_keyed(
-                target.key,
-                &sheet[start + ITEM_HEAD..end],
-                keyed,
-                count,
-                as_item,
-            );
-            let limit = limit_for(nodesize, end - (start + ITEM_HEAD), true);
-            return record_edit::put_record(sheet, target, plan, limit, out);
-        }
+    let three = item_list::nodesize_fits(nodesize);
+    let Some(found) = record_edit::find_record(sheet, bytenr, three)? else {
+        return Err(Refusal::MISSING);
+    };
+    let target = found.target;
+    if is_unread(keyed, count, as_item) {
+        return item_list::remove_item(sheet, 0, 0, target.item_count, out);
     }
+    let body = &sheet[target.start + ITEM_HEAD..target.end];
+    let plan = plan_keyed(target.key, body, keyed, count, as_item);
+    let limit = limit_for(nodesize, body.len(), true);
+    record_edit::put_record(sheet, target, plan, limit, out)
 }

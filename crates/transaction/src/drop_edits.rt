@@ -1,6 +1,5 @@
 // What a drop at an item writes: the record with a planned body, and behind it the item gone, or with another count.
-ghost use Rattle.std.specs.Prelude.{◌≡◌, ◌+◌, ◌-◌, ◌≤◌, length};
-ghost use Rattle.fields.specs.Numbers.{le_bytes};
+ghost use Rattle.std.specs.Prelude.{◌+◌, ◌-◌, ◌≤◌, length};
 ghost use Rattle.format.specs.Constants.{item_head, most_sheet};
 ghost use Rattle.format.specs.Questions.{Answered};
 ghost use Rattle.backref.specs.Plans.{PlanIn};
@@ -8,27 +7,18 @@ ghost use Rattle.record_edit.specs.Records.{data_of};
 ghost use Rattle.transaction.specs.Drops.{gone, new_count, held_plan};
 
 use backref::Plan;
-use format::Edited;
+use format::{Edited, Refusal};
 use record_edit::{RecordAt, SecondEdit};
-
-fn one_less(items: usize) -> usize
-    ensures { result ≡ items - 1 }
-{
-    if items == 0 {
-        return 0;
-    }
-    items - 1
-}
 
 // The record changes, and with it goes the item that stands from `from` up to `to`.
 pub fn put_without(
     sheet: &[u8],
     target: RecordAt,
-    plan: Plan,
+    plan: Result<Plan, Refusal>,
     from: usize,
     to: usize,
     out: &mut [u8],
-) -> Edited
+) -> Result<Edited, Refusal>
     requires plan_in { PlanIn plan (data_of sheet.now target.start target.end) }
     requires item_head_bound { (target.start + item_head ≤ target.end) × (target.end ≤ from) × (from ≤ to) × (to ≤ length sheet.now) × (length sheet.now ≤ most_sheet) }
     ensures { Answered (held_plan (length out.old) (target.item_count - 1) sheet.now target plan (gone from to)) result out.old out.new }
@@ -39,28 +29,19 @@ pub fn put_without(
         new: [0; 4],
         size: 0,
     };
-    let count = one_less(target.item_count);
+    let count = target.item_count.saturating_sub(1);
     record_edit::edit_record(sheet, target, plan, behind, crate::NO_LIMIT, count, out)
-}
-
-// A number of four bytes.
-fn count_bytes(count: u32) -> [u8; 4]
-    ensures { result ≡ le_bytes 4 count }
-{
-    let mut new = [0; 4];
-    fields::put_u32_le(&mut new, 0, count);
-    new
 }
 
 // The record changes, and with it the item that ends at `to` gets another count in its last four bytes.
 pub fn put_count(
     sheet: &[u8],
     target: RecordAt,
-    plan: Plan,
+    plan: Result<Plan, Refusal>,
     to: usize,
     count: u32,
     out: &mut [u8],
-) -> Edited
+) -> Result<Edited, Refusal>
     requires plan_in { PlanIn plan (data_of sheet.now target.start target.end) }
     requires item_head_bound { (target.start + item_head ≤ target.end) × (target.end + 4 ≤ to) × (to ≤ length sheet.now) × (length sheet.now ≤ most_sheet) }
     ensures { Answered (held_plan (length out.old) target.item_count sheet.now target plan (new_count to count)) result out.old out.new }
@@ -68,7 +49,7 @@ pub fn put_count(
     let behind = SecondEdit {
         from: to - 4,
         to,
-        new: count_bytes(count),
+        new: count.to_le_bytes(),
         size: 4,
     };
     let items = target.item_count;

@@ -8,9 +8,9 @@ ghost use Rattle.record_edit.specs.Records.{StandsAt, on_key};
 ghost use Rattle.transaction.specs.Drops.{with_own_flag};
 
 use super::drop_refs;
-use format::{BlockRef, Edited, FLAG_FULL_BACKREF, Key, METADATA_ITEM};
+use format::{BlockRef, Edited, FLAG_FULL_BACKREF, Key, METADATA_ITEM, Refusal};
 use inline_refs::RefName;
-use item_list::Listing;
+use item_list::ItemQuery;
 use record_edit::RecordAt;
 
 // The own-flag set in the flags that stand at `at`.
@@ -23,20 +23,20 @@ fn set_own(out: &mut [u8], at: usize)
 }
 
 // The drop with the own-flag: no byte moves for it, so it is set in the list that was written.
-fn drop_owned(sheet: &[u8], target: RecordAt, name: BlockRef, out: &mut [u8]) -> Edited
+fn drop_owned(
+    sheet: &[u8],
+    target: RecordAt,
+    name: BlockRef,
+    out: &mut [u8],
+) -> Result<Edited, Refusal>
     requires { StandsAt sheet.now target }
     ensures { Answered (held_sheet (length out.old) (on_key target.key (list_items sheet.now) (drop_tree_ref name true (list_items sheet.now)))) result out.old out.new }
 {
-    let edited = drop_refs::drop_ref(sheet, target, RefName::Block(name), 1, out);
-    match edited {
-        Edited::Absent => return Edited::Absent,
-        Edited::Remove => return Edited::Remove,
-        Edited::Refused(refusal) => return Edited::Refused(refusal),
-        Edited::Written(size) => {
-            set_own(out, target.start + 37);
-            return Edited::Written(size);
-        }
+    let edited = drop_refs::drop_ref(sheet, target, RefName::Block(name), 1, out)?;
+    if let Edited::Written(_) = edited {
+        set_own(out, target.start + 37);
     }
+    Ok(edited)
 }
 
 // A block reference, inline or else the item (bytenr, 176, tree), with one off the total.
@@ -47,7 +47,7 @@ pub fn drop_kept_tree_ref(
     name: BlockRef,
     own: bool,
     out: &mut [u8],
-) -> Edited
+) -> Result<Edited, Refusal>
     ensures { Answered (held_sheet (length out.old) (drop_kept_tree_ref_from sheet.now bytenr level name own)) result out.old out.new }
 {
     let key = Key {
@@ -55,29 +55,21 @@ pub fn drop_kept_tree_ref(
         kind: METADATA_ITEM,
         offset: level as u64,
     };
-    let listing = item_list::find(sheet, item_list::ItemQuery::AtOrPast(key));
-    match listing {
-        Listing::Refused(refusal) => return Edited::Refused(refusal),
-        Listing::Missing { .. } => return Edited::Refused(5),
-        Listing::Found {
-            count,
-            start,
-            end,
-            ..
-        } => {
-            if item_list::is_past(sheet, start, key) {
-                return Edited::Refused(5);
-            }
-            let target = RecordAt {
-                key,
-                start,
-                end,
-                item_count: count,
-            };
-            if own {
-                return drop_owned(sheet, target, name, out);
-            }
-            return drop_refs::drop_ref(sheet, target, RefName::Block(name), 1, out);
-        }
+    let listing = item_list::find(sheet, ItemQuery::AtOrPast(key))?;
+    let Some(place) = listing.place else {
+        return Err(Refusal::MISSING);
+    };
+    if item_list::is_past(sheet, place.start, key) {
+        return Err(Refusal::MISSING);
     }
+    let target = RecordAt {
+        key,
+        start: place.start,
+        end: place.end,
+        item_count: listing.count,
+    };
+    if own {
+        return drop_owned(sheet, target, name, out);
+    }
+    drop_refs::drop_ref(sheet, target, RefName::Block(name), 1, out)
 }

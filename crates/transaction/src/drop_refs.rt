@@ -13,20 +13,25 @@ ghost use Rattle.record_edit.specs.Records.{data_of, StandsAt, on_key};
 ghost use Rattle.transaction.specs.Drops.{held_at, drop_ref, SharedInForm, lowered_total, item_drop, item_left, CountFits};
 
 use super::drop_edits;
-use backref::{Outcome, TotalChange};
-use format::{DataRef, Edited, ITEM_HEAD, Key};
+use backref::{Plan, TotalChange};
+use format::{DataRef, Edited, ITEM_HEAD, Key, Refusal};
 use inline_refs::RefName;
 use item_list::Sought;
 use record_edit::RecordAt;
 
 // One off the record's total; the block reference's item goes.
-fn drop_block_item(sheet: &[u8], target: RecordAt, from: usize, to: usize, out: &mut [u8]) -> Edited
+fn drop_block_item(
+    sheet: &[u8],
+    target: RecordAt,
+    from: usize,
+    to: usize,
+    out: &mut [u8],
+) -> Result<Edited, Refusal>
     requires { (target.start + item_head ≤ target.end) × (target.end ≤ from) × (from + item_head ≤ to) × (to ≤ length sheet.now) × (length sheet.now ≤ most_sheet) }
     ensures { Answered (bind (lower_total (data_of sheet.now target.start target.end)) (held_at (length out.old) sheet.now target from to 0 remove)) result out.old out.new }
 {
-    let start = target.start;
-    let end = target.end;
-    let lowered = backref::plan_total(&sheet[start + ITEM_HEAD..end], TotalChange::LowerByOne);
+    let body = &sheet[target.start + ITEM_HEAD..target.end];
+    let lowered = backref::plan_total(body, TotalChange::LowerByOne);
     drop_edits::put_without(sheet, target, lowered, from, to, out)
 }
 
@@ -39,13 +44,12 @@ fn drop_part(
     standing: u32,
     amount: u32,
     out: &mut [u8],
-) -> Edited
+) -> Result<Edited, Refusal>
     requires { (target.start + item_head ≤ target.end) × (target.end ≤ from) × (from + item_head ≤ to) × (to ≤ length sheet.now) × (length sheet.now ≤ most_sheet) }
     ensures { Answered (bind (on_total (data_of sheet.now target.start target.end) (lowered_by_part amount standing)) (held_at (length out.old) sheet.now target from to (standing - amount) (less_item standing amount))) result out.old out.new }
 {
-    let start = target.start;
-    let end = target.end;
-    let reduced = backref::plan_total_part(&sheet[start + ITEM_HEAD..end], amount, standing);
+    let body = &sheet[target.start + ITEM_HEAD..target.end];
+    let reduced = backref::plan_total_part(body, amount, standing);
     if amount < standing {
         return drop_edits::put_count(sheet, target, reduced, to, standing - amount, out);
     }
@@ -60,24 +64,17 @@ fn drop_count(
     to: usize,
     name: DataRef,
     out: &mut [u8],
-) -> Edited
+) -> Result<Edited, Refusal>
     requires { (target.start + item_head ≤ target.end) × (target.end ≤ from) × (from + item_head ≤ to) × (to ≤ length sheet.now) × (length sheet.now ≤ most_sheet) }
     ensures { Answered (bind (lower_total (data_of sheet.now target.start target.end)) (held_at (length out.old) sheet.now target from to (le (part (to - 4) 4 sheet.now) - 1) (drop_keyed_data_ref (data_of sheet.now from to) name))) result out.old out.new }
 {
-    let start = target.start;
-    let end = target.end;
-    let rest = backref::plan_total(&sheet[start + ITEM_HEAD..end], TotalChange::LowerByOne);
-    let total = rest.outcome;
-    let Outcome::Edit = total else {
-        return record_edit::put_record(sheet, target, rest, crate::NO_LIMIT, out);
-    };
-    let item = backref::plan_drop_keyed(&sheet[from + ITEM_HEAD..to], name);
-    let outcome = item.outcome;
-    match outcome {
-        Outcome::Refused(refusal) => Edited::Refused(refusal),
-        Outcome::Absent => Edited::Absent,
-        Outcome::Remove => drop_edits::put_without(sheet, target, rest, from, to, out),
-        Outcome::Edit => {
+    let body = &sheet[target.start + ITEM_HEAD..target.end];
+    let rest = backref::plan_total(body, TotalChange::LowerByOne);
+    rest?;
+    match backref::plan_drop_keyed(&sheet[from + ITEM_HEAD..to], name)? {
+        Plan::Absent => Ok(Edited::Absent),
+        Plan::Remove => drop_edits::put_without(sheet, target, rest, from, to, out),
+        Plan::Edit(_) => {
             let count = fields::get_u32_le(sheet, to - 4);
             drop_edits::put_count(sheet, target, rest, to, count - 1, out)
         }
@@ -93,7 +90,7 @@ fn drop_at_item(
     name: RefName,
     amount: u32,
     out: &mut [u8],
-) -> Edited
+) -> Result<Edited, Refusal>
     requires count_fits { CountFits name (data_of sheet.now from to) }
     requires item_head_bound { (target.start + item_head ≤ target.end) × (target.end ≤ from) × (from + item_head ≤ to) × (to ≤ length sheet.now) × (length sheet.now ≤ most_sheet) }
     ensures { Answered (bind (lowered_total name amount (data_of sheet.now from to) (data_of sheet.now target.start target.end)) (held_at (length out.old) sheet.now target from to (item_left name amount (le (part (to - 4) 4 sheet.now))) (item_drop name amount (data_of sheet.now from to)))) result out.old out.new }
@@ -116,36 +113,25 @@ pub fn drop_ref(
     name: RefName,
     amount: u32,
     out: &mut [u8],
-) -> Edited
+) -> Result<Edited, Refusal>
     requires stands_at { StandsAt sheet.now target }
     requires one_off { OneOff name amount }
     requires shared_in_form { SharedInForm name (list_items sheet.now) }
     ensures { Answered (held_sheet (length out.old) (on_key target.key (list_items sheet.now) (drop_ref name amount (list_items sheet.now)))) result out.old out.new }
 {
-    let start = target.start;
-    let end = target.end;
-    let plan = backref::plan_drop(
-        target.key.kind,
-        &sheet[start + ITEM_HEAD..end],
-        name,
-        amount,
-    );
-    let edited = record_edit::put_record(sheet, target, plan, crate::NO_LIMIT, out);
+    let body = &sheet[target.start + ITEM_HEAD..target.end];
+    let plan = backref::plan_drop(target.key.kind, body, name, amount);
+    let edited = record_edit::put_record(sheet, target, plan, crate::NO_LIMIT, out)?;
     let Edited::Absent = edited else {
-        return edited;
+        return Ok(edited);
     };
     let item = Key {
         objectid: target.key.objectid,
         kind: inline_refs::kind_of(name),
         offset: inline_refs::rank_of(name).rank,
     };
-    let position = item_list::seek(sheet, end, item);
-    let Sought::Present {
-        start: from,
-        end: to,
-    } = position
-    else {
-        return Edited::Refused(5);
+    let Sought::Present { start, end } = item_list::seek(sheet, target.end, item) else {
+        return Err(Refusal::MISSING);
     };
-    drop_at_item(sheet, target, from, to, name, amount, out)
+    drop_at_item(sheet, target, start, end, name, amount, out)
 }

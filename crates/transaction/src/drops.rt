@@ -7,11 +7,16 @@ ghost use Rattle.format.specs.Apply.{shared_rest, apply_shared_drop_to};
 ghost use Rattle.backref.specs.Plans.{Planned};
 
 use backref::{Plan, TotalChange};
-use format::{Edited, ITEM_HEAD, Key, SharedRef};
-use record_edit::FoundRecord;
+use format::{Edited, ITEM_HEAD, Key, Refusal, SharedRef};
 
 // The record's new body. A missing reference is refusal 5; with the item flag only the total moves.
-fn plan_drop_shared(key: Key, body: &[u8], name: SharedRef, count: u32, as_item: bool) -> Plan
+fn plan_drop_shared(
+    key: Key,
+    body: &[u8],
+    name: SharedRef,
+    count: u32,
+    as_item: bool,
+) -> Result<Plan, Refusal>
     ensures { Planned result body.now (bind (shared_rest (record { key = key; bytes = body.now }) name as_item) (λ rest. reduce_total rest count)) }
 {
     if as_item {
@@ -30,24 +35,15 @@ pub fn apply_shared_drop(
     count: u32,
     as_item: bool,
     out: &mut [u8],
-) -> Edited
+) -> Result<Edited, Refusal>
     ensures { Answered (held_sheet (length out.old) (apply_shared_drop_to sheet.now bytenr name count as_item)) result out.old out.new }
 {
-    let found = record_edit::find_record(sheet, bytenr, backref::shared_kind(name.kind));
-    match found {
-        FoundRecord::Refused(refusal) => return Edited::Refused(refusal),
-        FoundRecord::Missing => return Edited::Refused(5),
-        FoundRecord::At { target, .. } => {
-            let start = target.start;
-            let end = target.end;
-            let plan = plan_drop_shared(
-                target.key,
-                &sheet[start + ITEM_HEAD..end],
-                name,
-                count,
-                as_item,
-            );
-            return record_edit::put_record(sheet, target, plan, crate::NO_LIMIT, out);
-        }
-    }
+    let three = backref::shared_kind(name.kind);
+    let Some(found) = record_edit::find_record(sheet, bytenr, three)? else {
+        return Err(Refusal::MISSING);
+    };
+    let target = found.target;
+    let body = &sheet[target.start + ITEM_HEAD..target.end];
+    let plan = plan_drop_shared(target.key, body, name, count, as_item);
+    record_edit::put_record(sheet, target, plan, crate::NO_LIMIT, out)
 }

@@ -1,42 +1,42 @@
 // What a shared reference takes: inline, or as an item of its own. The row of its kind says how long it is and whether it counts.
-ghost use Rattle.std.specs.Prelude.{◌≡◌, true, ◌≤◌, length};
-ghost use Rattle.format.specs.Questions.{Answered, told_of, filed_of};
-ghost use Rattle.format.specs.References.{payload_length, count_position};
-ghost use Rattle.format.specs.Bodies.{held_body, shared_kind, shared_add_key, shared_add_item, shared_add_inline_size};
+ghost use Rattle.std.specs.Prelude.{◌≡◌, length};
+ghost use Rattle.format.specs.Questions.{Answered, told_of};
+ghost use Rattle.format.specs.Bodies.{held_body, shared_add_key, shared_add_item, shared_add_inline_size};
+ghost use Rattle.transaction.specs.Shared.{SharedRow};
 
-use format::{Edited, Filed, Key, SHARED_BLOCK_REF, SHARED_DATA_REF, SharedRef, Told};
+use format::{Edited, Key, Refusal, SHARED_BLOCK_REF, SHARED_DATA_REF, SharedRef};
 use inline_refs::Lengths;
 
-// The row of a shared kind. Each arm names its kind, since the compiler then looks it up, and the call does not.
-fn row_of(kind: u8) -> Lengths
-    requires { shared_kind kind ≡ true }
-    ensures { (result.payload ≡ payload_length kind) × (result.count ≡ count_position kind) × (result.payload ≤ 255) }
+// The row of a shared kind, and question 3 of another. Each arm names its kind, since the compiler then looks it up, and the call
+// does not.
+#[tactic(auto, unfolding(format::specs::Bodies::shared_kind))]
+fn row_of(kind: u8) -> Result<Lengths, Refusal>
+    ensures { SharedRow kind result }
 {
-    if kind == SHARED_BLOCK_REF {
-        return inline_refs::lengths_of(SHARED_BLOCK_REF);
+    match kind {
+        SHARED_BLOCK_REF => Ok(inline_refs::lengths_of(SHARED_BLOCK_REF)),
+        SHARED_DATA_REF => Ok(inline_refs::lengths_of(SHARED_DATA_REF)),
+        _ => Err(Refusal::RANGE),
     }
-    inline_refs::lengths_of(SHARED_DATA_REF)
 }
 
 // With its kind, and its count where it has one.
-pub fn shared_add_inline_size(kind: u8) -> Told
+pub fn shared_add_inline_size(kind: u8) -> Result<u64, Refusal>
     ensures { result ≡ told_of (shared_add_inline_size kind) }
 {
-    if !backref::shared_kind(kind) {
-        return Told::Refused(3);
-    }
-    let row = row_of(kind);
-    Told::Value((1 + row.payload) as u64)
+    let row = row_of(kind)?;
+    Ok((1 + row.payload) as u64)
 }
 
 // The key that the item is filed under.
-pub fn shared_add_key(bytenr: u64, name: SharedRef) -> Filed
-    ensures { result ≡ filed_of (shared_add_key bytenr name) }
+#[tactic(auto, unfolding(format::specs::Bodies::shared_add_key, format::specs::Questions::told_of, format::specs::Questions::ask))]
+pub fn shared_add_key(bytenr: u64, name: SharedRef) -> Result<Key, Refusal>
+    ensures { result ≡ told_of (shared_add_key bytenr name) }
 {
     if !backref::shared_kind(name.kind) {
-        return Filed::Refused(3);
+        return Err(Refusal::RANGE);
     }
-    Filed::Under(Key {
+    Ok(Key {
         objectid: bytenr,
         kind: name.kind,
         offset: name.parent,
@@ -44,17 +44,12 @@ pub fn shared_add_key(bytenr: u64, name: SharedRef) -> Filed
 }
 
 // The item's data: the count of shared data, nothing for a shared block.
-pub fn shared_add_item(kind: u8, count: u32, out: &mut [u8]) -> Edited
+pub fn shared_add_item(kind: u8, count: u32, out: &mut [u8]) -> Result<Edited, Refusal>
     ensures { Answered (held_body (length out.old) (shared_add_item kind count)) result out.old out.new }
 {
-    if !backref::shared_kind(kind) {
-        return Edited::Refused(3);
-    }
-    let row = row_of(kind);
-    let mut b = [0u8; 4];
+    let row = row_of(kind)?;
     if row.count == 0 {
-        return extent_write::put_body(&b[..0], out);
+        return extent_write::put_body(&[], out);
     }
-    fields::put_u32_le(&mut b, 0, count);
-    extent_write::put_body(&b, out)
+    extent_write::put_body(&count.to_le_bytes(), out)
 }

@@ -1,12 +1,14 @@
-use mathlib.Core.Path.{ap}
+use mathlib.Core.Path.{ap, ◌∙◌}
 use mathlib.Core.List.{List}
 use Prim.Native.Nat.{ℕ, ◌-◌}
 use lib.ListN.{length}
 use Rattle.transaction.specs.Drops.{held_plan}
 use Rattle.transaction.proofs.Plans.{put-held}
+use Rattle.transaction.proofs.Rewrites.{four_bytes}
 use Rattle.transaction.proofs.drop_edits.put_count.Goals as goal
 
 pub returns : goal.returns
 returns c =
-    let e = ap (λ (l : List ℕ). held_plan (length c.args.out.now) c.args.target.item_count c.args.sheet.now c.args.target c.args.plan (record { from = c.args.to - 4; to = c.args.to; new = l; size = 4 })) c.count_bytes.ensures in
-    rw (← e) (put-held c.args.sheet.now c.args.target c.args.plan (record { from = c.args.to - 4; to = c.args.to; new = c.count_bytes.result; size = 4 }) (length c.args.out.now) c.args.target.item_count _ c.args.out.now _ c.requires.plan_in c.edit_record.ensures)
+    let a = c.args in
+    let e = ap (λ (l : List ℕ). held_plan (length a.out.now) a.target.item_count a.sheet.now a.target a.plan (record { from = a.to - 4; to = a.to; new = l; size = 4 })) (c.to_le_bytes.ensures ∙ four_bytes a.count) in
+    rw (← e) (put-held a.sheet.now a.target a.plan (record { from = a.to - 4; to = a.to; new = c.to_le_bytes.result; size = 4 }) (length a.out.now) a.target.item_count _ a.out.now _ c.requires.plan_in c.edit_record.ensures)

@@ -7,5 +7,6 @@ use Rattle.transaction.proofs.drop_edits.put_without.Goals as goal
 
 pub returns : goal.returns
 returns c =
-    let e = ap (λ (k : ℕ). held_plan (length c.args.out.now) k c.args.sheet.now c.args.target c.args.plan (gone c.args.from c.args.to)) c.one_less-count.ensures in
-    rw (← e) (put-held c.args.sheet.now c.args.target c.args.plan (gone c.args.from c.args.to) (length c.args.out.now) c.one_less-count.result _ c.args.out.now _ c.requires.plan_in c.edit_record.ensures)
+    let a = c.args in
+    let e = ap (λ (k : ℕ). held_plan (length a.out.now) k a.sheet.now a.target a.plan (gone a.from a.to)) c.saturating_sub-count.ensures in
+    rw (← e) (put-held a.sheet.now a.target a.plan (gone a.from a.to) (length a.out.now) c.saturating_sub-count.result _ a.out.now _ c.requires.plan_in c.edit_record.ensures)

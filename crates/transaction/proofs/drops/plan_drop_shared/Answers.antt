@@ -7,6 +7,5 @@ returns-then-as_item c = drop-item _ _ _ _ _ c.if-as_item.true c.plan_total.ensu
 
 pub returns : goal.returns
 returns c =
-    let b = c.args.body.now in
-    drop-inline _ _ _ _ _ c.if-as_item.false (are_bytes-in b (λ i. (c.shared_slice_known-1.given i).fits)) _ _
+    drop-inline _ _ _ _ _ c.if-as_item.false (are_bytes-in c.args.body.now (λ i. (c.type_inv.body i).fits)) _ _
     c.plan_take_shared-taken.ensures c.plan_needed-present.ensures c.plan_reduced.ensures

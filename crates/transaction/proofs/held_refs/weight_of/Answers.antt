@@ -8,15 +8,6 @@ use Rattle.data_refs.proofs.Differing.{times}
 use Rattle.transaction.specs.Held.{file_ref}
 use Rattle.transaction.proofs.held_refs.weight_of.Goals as goal
 
-pub overflow_mul-start : goal.overflow_mul-start
-overflow_mul-start c = omega (arith, times c.args.k c.data_size.ensures)
-
-pub overflow_add-start : goal.overflow_add-start
-overflow_add-start c = omega (arith, times c.args.k c.data_size.ensures)
-
-pub overflow_add-start-2 : goal.overflow_add-start-2
-overflow_add-start-2 c = omega (arith, times c.args.k c.data_size.ensures)
-
 pub weight_at-requires : goal.weight_at-requires
 unfolding known payload_length row_in
 weight_at-requires c =
