@@ -35,15 +35,6 @@ both-no a b h = rw h
 
 -- ---- apply_shared_add
 
-module _ (i : Item) (name : SharedRef) (count : ℕ) (plan : Result Plan Refusal) (as_item : Bool) where
-  pub shared-item : as_item ≡ true → Planned plan i.bytes (raise_total i.bytes count) → Planned plan i.bytes (shared_body i name count as_item)
-  unfolding shared_body
-  shared-item e h = rw e h
-
-  pub shared-inline : as_item ≡ false → Planned plan i.bytes (add_inline_shared i.key.kind i.bytes name count) → Planned plan i.bytes (shared_body i name count as_item)
-  unfolding shared_body
-  shared-inline e h = rw e h
-
 abbrev shared-next : ℕ → SharedRef → ℕ → Bool → Cut Item → Answer (List Item)
 shared-next nodesize name count as_item c =
     bind (shared_body c.hit name count as_item) (λ body. ask (leb (length body) (inline_limit nodesize)) 17 (accepted (put_back c body)))

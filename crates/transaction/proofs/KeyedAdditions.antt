@@ -60,21 +60,6 @@ body-read i (Block block) count false e = refl
 body-read i (Data d) zero false e = let z : ◌≡◌ {A = ℕ} 0 1 = cc in absurd (omega arith)
 body-read i (Data d) (suc count) false e = refl
 
-module _ (i : Item) (keyed : Keyed) (count : ℕ) (plan : Result Plan Refusal) (as_item : Bool) where
-  pub keyed-item : as_item ≡ true → Planned plan i.bytes (raise_total i.bytes count) → Planned plan i.bytes (keyed_plan i keyed count as_item)
-  unfolding keyed_plan
-  keyed-item e h = rw e h
-
-  pub keyed-block : (block : BlockRef) → as_item ≡ false → keyed ≡ Block block → Planned plan i.bytes (add_inline_tree_ref i.key.kind i.bytes block)
-      → Planned plan i.bytes (keyed_plan i keyed count as_item)
-  unfolding keyed_plan
-  keyed-block block e k h = rw (e, k) h
-
-  pub keyed-data : (d : DataRef) → as_item ≡ false → keyed ≡ Data d → Planned plan i.bytes (add_inline_data i.key.kind i.bytes d count)
-      → Planned plan i.bytes (keyed_plan i keyed count as_item)
-  unfolding keyed_plan
-  keyed-data d e k h = rw (e, k) h
-
 -- ---- the call
 
 module _ (nodesize room : ℕ) (keyed : Keyed) (count : ℕ) (as_item : Bool) where

@@ -1,5 +1,4 @@
 pub mod Sizes
-pub mod Triples
 pub mod FileRefs
 pub mod Counts
 pub mod Only

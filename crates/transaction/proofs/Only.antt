@@ -99,15 +99,7 @@ reads-body d start o =
     (ap (λ (x : Answer (List Ref)). bind x (λ refs. accepted (record { total = total_of d; fixed = drop 8 (take (start_of 168 d) d); refs = refs }))) e)
 
 module _ (d : List ℕ) (root ino : ℕ) (offsets : List ℕ) where
-  pub only-long : 65535 < length d → denied 3 ≡ told_of (held_only_by d root ino offsets)
-  unfolding told_of held_only_by ask body_fits
-  only-long h = simp (lt-leb _ _ h)
-
   module _ (fits : length d ≤ 65535) where
-    pub only-many : 4096 < length offsets → denied 3 ≡ told_of (held_only_by d root ino offsets)
-    unfolding told_of held_only_by ask body_fits
-    only-many h = simp (le-leb _ _ fits, lt-leb _ _ h)
-
     module _ (few : length offsets ≤ 4096) where
       only-is : (b : Bool) → b ≡ held_by root ino offsets (flags_of d) (read_body 168 d) → Ok b ≡ told_of (held_only_by d root ino offsets)
       unfolding told_of held_only_by ask body_fits

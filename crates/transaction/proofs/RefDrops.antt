@@ -68,29 +68,6 @@ module _ (w : RefName) (amount : ℕ) (s : List ℕ) (target : RecordAt) (from t
   abbrev AtItem : Type 0
   AtItem = Drops (lowered_total w amount (data_of s from to) body) (item_left w amount (le (part (to - 4) 4 s))) (item_drop w amount (data_of s from to))
 
-  pub at_block : (name : BlockRef) → w ≡ Block name → Drops (lower_total body) 0 remove → AtItem
-  unfolding lowered_total item_left item_drop
-  at_block name e h = rw e h
-
-  pub at-data : (name : DataRef) → w ≡ Data name → Drops (lower_total body) (le (part (to - 4) 4 s) - 1) (drop_keyed_data_ref (data_of s from to) name) → AtItem
-  unfolding lowered_total item_left item_drop
-  at-data name e h = rw e h
-
-  pub at-shared-block : (parent : ℕ) → w ≡ SharedBlock parent → Drops (on_total body (lowered_by_part amount 1)) (1 - amount) (less_item 1 amount) → AtItem
-  unfolding lowered_total item_left item_drop
-  at-shared-block parent e h = rw e h
-
-  pub at-shared-data : (parent standing : ℕ) → w ≡ SharedData parent → CountFits w (data_of s from to) → from + 21 ≤ to → to ≤ length s
-      → standing ≡ le (part (to - 4) 4 s)
-      → Drops (on_total body (lowered_by_part amount standing)) (standing - amount) (less_item standing amount) → AtItem
-  unfolding lowered_total item_left item_drop
-  at-shared-data parent standing e f ordered within is h =
-      let last : ℕ = le (part (to - 4) 4 s) in
-      let same : last ≡ le (data_of s from to) =
-      sym (shared-is s from to ordered within (subst (λ (x : RefName). CountFits x (data_of s from to)) e f)) in
-      rw e (subst (λ (n : ℕ). Drops (on_total body (lowered_by_part amount n)) (last - amount) (less_item n amount)) same
-      (subst (λ (n : ℕ). Drops (on_total body (lowered_by_part amount n)) (n - amount) (less_item n amount)) is h))
-
 -- ---- the definition in one form
 
 pub kind-high : (w : RefName) → 170 ≤ kind_of w

@@ -38,10 +38,6 @@ abbrev pub dropped : Item → SharedRef → ℕ → Bool → Answer (List ℕ)
 dropped i s count as_item = bind (shared_rest i s as_item) (λ rest. reduce_total rest count)
 
 module _ (i : Item) (s : SharedRef) (count : ℕ) (as_item : Bool) (r : Result Plan Refusal) where
-  pub drop-item : as_item ≡ true → Planned r i.bytes (reduce_total i.bytes count) → Planned r i.bytes (dropped i s count as_item)
-  unfolding shared_rest bind
-  drop-item e h = rw e h
-
   -- a missing reference is 5, and then the total falls
   pub drop-inline : as_item ≡ false → T (are_bytes i.bytes) → (taken present : Result Plan Refusal)
       → PlannedTaken taken i.bytes (take_inline_shared i.key.kind i.bytes s) → Needs taken present → Reduces present count r

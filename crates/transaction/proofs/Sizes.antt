@@ -1,4 +1,4 @@
--- Laws of the calls that read no references, one for each way out. Assumes nothing.
+-- Laws of the calls on a shared kind, one for each way out. Assumes nothing.
 use mathlib.Core.Path.{◌≡◌, refl, sym, ap, ◌∙◌, subst}
 use mathlib.Core.Bool.{true, false}
 use mathlib.Core.List.{List, []}
@@ -16,42 +16,15 @@ use Rattle.format.specs.Bodies.{held_body, shared_kind, shared_add_key, shared_a
 use Rattle.format.specs.Items.{nodesize_fits}
 use Rattle.format.specs.Apply.{inline_limit, max_inline_extent_item}
 
--- ---- the inline limit
-
-pub told-limit : (nodesize limit : ℕ) → nodesize_fits nodesize ≡ true → limit ≡ inline_limit nodesize → Ok limit ≡ told_of (max_inline_extent_item nodesize)
-unfolding told_of max_inline_extent_item ask
-told-limit nodesize limit h e = rw (h, e) refl
-
-pub told_none : (nodesize : ℕ) → nodesize_fits nodesize ≡ false → denied 3 ≡ told_of (max_inline_extent_item nodesize)
-unfolding told_of max_inline_extent_item ask
-told_none nodesize h = rw h refl
-
 -- ---- a shared reference, by the row of its kind
 
 module _ (k : ℕ) where
   module _ (other : shared_kind k ≡ false) where
-    pub size-other : denied 3 ≡ told_of (shared_add_inline_size k)
-    unfolding told_of shared_add_inline_size ask
-    size-other = rw other refl
-
     pub item-other : (count room : ℕ) → held_body room (shared_add_item k count) ≡ refused 3
     unfolding held_body held bind shared_add_item ask
     item-other count room = rw other refl
 
-    pub key-other : (bytenr parent : ℕ) → denied 3 ≡ told_of (shared_add_key bytenr (record { kind = k; parent = parent }))
-    unfolding told_of shared_add_key ask
-    key-other bytenr parent = rw other refl
-
   module _ (shared : shared_kind k ≡ true) where
-    pub size_is : (n : ℕ) → n ≡ payload_length k → Ok (1 + n) ≡ told_of (shared_add_inline_size k)
-    unfolding told_of shared_add_inline_size ask
-    size_is n e = rw (shared, e) refl
-
-    pub key-is : (bytenr parent : ℕ)
-        → Ok (record { objectid = bytenr; kind = k; offset = parent }) ≡ told_of (shared_add_key bytenr (record { kind = k; parent = parent }))
-    unfolding told_of shared_add_key ask
-    key-is bytenr parent = rw shared refl
-
     module _ (count n : ℕ) (is : n ≡ count_position k) where
       item-is : (n ≡ 0 → ⊥) → shared_add_item k count ≡ accepted (le_bytes 4 count)
       unfolding shared_add_item ask counted

@@ -82,6 +82,7 @@ fn drop_count(
 }
 
 // The drop at the reference's own item, which stands from `from` up to `to`.
+#[tactic(auto, unfolding(crate::specs::Drops::lowered_total, crate::specs::Drops::item_left, crate::specs::Drops::item_drop))]
 fn drop_at_item(
     sheet: &[u8],
     target: RecordAt,

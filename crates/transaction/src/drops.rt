@@ -10,6 +10,7 @@ use backref::{Plan, TotalChange};
 use format::{Edited, ITEM_HEAD, Key, Refusal, SharedRef};
 
 // The record's new body. A missing reference is refusal 5; with the item flag only the total moves.
+#[tactic(auto, unfolding(format::specs::Apply::shared_rest, format::specs::Questions::bind))]
 fn plan_drop_shared(
     key: Key,
     body: &[u8],

@@ -27,6 +27,7 @@ fn held_from(body: &[u8], start: usize, root: u64, ino: u64, offsets: &[u64]) ->
     }
 }
 
+#[tactic(auto, unfolding(format::specs::Bodies::held_only_by, format::specs::Bodies::body_fits, format::specs::Questions::told_of, format::specs::Questions::ask))]
 pub fn held_only_by(body: &[u8], root: u64, ino: u64, offsets: &[u64]) -> Result<bool, Refusal>
     ensures { result ≡ told_of (held_only_by body.now root ino offsets.now) }
 {

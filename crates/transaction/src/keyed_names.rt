@@ -5,6 +5,7 @@ ghost use Rattle.format.specs.Bodies.{keyed_data_ref_names};
 
 use format::{DataRef, EXTENT_DATA_REF, MOST_DATA, Refusal};
 
+#[tactic(auto, unfolding(format::specs::Bodies::keyed_data_ref_names, format::specs::Bodies::body_fits, format::specs::References::count_position, format::specs::References::row_in, format::specs::Questions::told_of, format::specs::Questions::ask))]
 pub fn keyed_data_ref_names(item: &[u8], name: DataRef) -> Result<bool, Refusal>
     ensures { result ≡ told_of (keyed_data_ref_names item.now name) }
 {

@@ -21,6 +21,7 @@ fn row_of(kind: u8) -> Result<Lengths, Refusal>
 }
 
 // With its kind, and its count where it has one.
+#[tactic(auto, unfolding(format::specs::Bodies::shared_add_inline_size, format::specs::Questions::told_of, format::specs::Questions::ask))]
 pub fn shared_add_inline_size(kind: u8) -> Result<u64, Refusal>
     ensures { result ≡ told_of (shared_add_inline_size kind) }
 {

@@ -1,9 +1,6 @@
 use Rattle.fields.proofs.Numbers.{are_bytes-in}
-use Rattle.transaction.proofs.SharedDrops.{drop-item, drop-inline}
+use Rattle.transaction.proofs.SharedDrops.{drop-inline}
 use Rattle.transaction.proofs.drops.plan_drop_shared.Goals as goal
-
-pub returns-then-as_item : goal.returns-then-as_item
-returns-then-as_item c = drop-item _ _ _ _ _ c.if-as_item.true c.plan_total.ensures.planned
 
 pub returns : goal.returns
 returns c =

@@ -1,15 +1,7 @@
 use mathlib.Core.Path.{sym, ◌∙◌}
 use Rattle.inline_refs.proofs.Notes.{opens}
-use Rattle.transaction.proofs.Only.{only-long, only-many, only-shut, only-held}
+use Rattle.transaction.proofs.Only.{only-shut, only-held}
 use Rattle.transaction.proofs.held.held_only_by.Goals as goal
-use Rattle.transaction.proofs.held.held_only_by.Goals.{then-body-gt-MOST_DATA-via-then-body-gt-MOST_DATA, then-body-gt-MOST_DATA-via-else-body-gt-MOST_DATA+then-offsets-gt-MOST_OFFSETS}
-
-pub returns-then-body-gt-MOST_DATA : goal.returns-then-body-gt-MOST_DATA
-returns-then-body-gt-MOST_DATA c =
-    elim c.then-body-gt-MOST_DATA.branch [
-      | then-body-gt-MOST_DATA-via-then-body-gt-MOST_DATA w ↦ only-long _ _ _ _ w.if-body-gt-MOST_DATA.true
-      | then-body-gt-MOST_DATA-via-else-body-gt-MOST_DATA+then-offsets-gt-MOST_OFFSETS w ↦ only-many _ _ _ _ w.if-body-gt-MOST_DATA.false w.if-offsets-gt-MOST_OFFSETS.true
-    ]
 
 pub returns-in_default : goal.returns-in_default
 returns-in_default c =
