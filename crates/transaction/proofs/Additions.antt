@@ -2,7 +2,7 @@
 use mathlib.Core.Path.{◌≡◌, sym, ap, ◌∙◌}
 use mathlib.Core.Bool.{Bool, true, false, ◌&&◌}
 use mathlib.Core.List.{List}
-use Prim.Native.Nat.{ℕ, ◌+◌, ◌-◌}
+use Prim.Native.Nat.{ℕ}
 use lib.Dec.{leb, T}
 use lib.ListN.{length}
 use Rattle.fields.specs.Lists.{Cut}
@@ -11,7 +11,7 @@ use Rattle.std.specs.Prelude.{Result}
 use Rattle.format.specs.declared.Edited.{Edited}
 use Rattle.format.specs.declared.Refusal.{Refusal}
 use Rattle.format.specs.Questions.{Answer, accepted, ask, bind, denied, Answered, refused}
-use Rattle.format.specs.Bodies.{shared_kind, raise_total, add_inline_shared}
+use Rattle.format.specs.Bodies.{shared_kind}
 use Rattle.format.specs.Items.{Item, nodesize_fits, held_sheet, put_back}
 use Rattle.format.specs.Apply.{inline_limit, shared_body, apply_shared_add, apply_shared_add_to}
 use Rattle.item_list.proofs.ItemWrites.{answered-no}

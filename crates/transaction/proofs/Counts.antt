@@ -3,7 +3,7 @@ use mathlib.Core.Path.{◌≡◌, refl, sym, ap, ◌∙◌, subst}
 use mathlib.Core.Logic.{◌⊎◌, inl, inr}
 use mathlib.Core.Bool.{Bool, true, false, cond}
 use mathlib.Core.List.{List, [], ◌∷◌, ◌++◌}
-use Prim.Native.Nat.{ℕ, zero, suc, ◌+◌, ◌-◌, ◌*◌, ◌≤◌, ◌<◌}
+use Prim.Native.Nat.{ℕ, zero, suc, ◌+◌, ◌-◌, ◌≤◌, ◌<◌}
 use native.Mathlib.Nat.{zero-add}
 use native.Mathlib.Numerals.{add-one}
 use native.Mathlib.Omega.{arith}
@@ -13,12 +13,11 @@ use lib.Seq.{drop-cons, get_or-set_same, get_or-set_other}
 use mir.Facts.{and_yes, yes_and}
 use borrow.Author.Tests.{eq-eqb, ne_eqb, eqb-true, eqb-false}
 use Rattle.fields.specs.Lists.{sum, all, same}
-use Rattle.fields.specs.Numbers.{words}
 use Rattle.fields.proofs.Lists.{by-test, T-eq, and-true, eqb_same, lt-or, sum-append, all_left, all-mid, all_both, same-yes, same_refl}
 use Rattle.format.specs.References.{row_in, count_position, counted, field_count, Ref, ref_at}
 use Rattle.format.specs.Bodies.{named, times, offset_of}
 use Rattle.inline_refs.specs.Steps.{read_from}
-use Rattle.data_refs.specs.Triples.{triple_size, triple_of, Distinct, Repeats}
+use Rattle.data_refs.specs.Triples.{triple_of, Distinct, Repeats}
 use Rattle.data_refs.specs.Chains.{Cleared}
 use Rattle.data_refs.proofs.Walks.{cleared-none}
 use Rattle.transaction.specs.Held.{is_of_file, is_ours, adds_at, is_once, is_counted, agrees, file_ref, file_refs, SideBySide, EqualUpTo, StandsAmong, Tallied}
@@ -348,28 +347,26 @@ module _ (root ino : ℕ) (body : List ℕ) (from n : ℕ) (side : SideBySide ro
 
 -- ---- one reference
 
-pub first-offset : (body : List ℕ) (from : ℕ) (t : List ℕ) → t ≡ words 3 (drop (from + 1) body) → offset_of (file_ref body from 0) ≡ get_or t 2 0
-unfolding triple_of
-first-offset body from t e =
-    let z : from + triple_size * 0 + 1 ≡ from + 1 = omega arith in
-    offset-last body from 0 ∙ ap (λ (m : ℕ). get_or (words 3 (drop m body)) 2 0) z ∙ sym (ap (λ (l : List ℕ). get_or l 2 0) e)
+pub first-offset : (body : List ℕ) (from : ℕ) (t : List ℕ) → t ≡ triple_of body from 0 → offset_of (file_ref body from 0) ≡ get_or t 2 0
+first-offset body from t e = offset-last body from 0 ∙ sym (ap (λ (l : List ℕ). get_or l 2 0) e)
 
-pub one-distinct : (body : List ℕ) (from : ℕ) → Distinct body from 1
-one-distinct body from = record { differ = λ i j h l. absurd (omega arith) }
+module _ (body : List ℕ) (from n : ℕ) (one : n ≡ 1) where
+  pub one-distinct : Distinct body from n
+  one-distinct = record { differ = λ i j h l. absurd (omega (arith, one)) }
 
-module _ (root ino : ℕ) (body : List ℕ) (from : ℕ) (side : SideBySide root ino body from 1) (offsets : List ℕ) (offset end : ℕ)
-    (here : offset_of (file_ref body from 0) ≡ offset) (equal : EqualUpTo offsets 0 offset end) where
-  pub one-nowhere : end < length offsets → false ≡ agrees root ino offsets (read_from body from)
-  one-nowhere h =
-      held-nowhere root ino body from 1 side offsets (get_or offsets end 0) (times-at offsets end h)
-      (λ k l e. let z : 0 ≡ k = omega arith in equal.other h (sym e ∙ ap (λ (m : ℕ). offset_of (file_ref body from m)) (sym z) ∙ here))
+  module _ (root ino : ℕ) (side : SideBySide root ino body from n) (offsets : List ℕ) (offset end : ℕ)
+      (here : offset_of (file_ref body from 0) ≡ offset) (equal : EqualUpTo offsets 0 offset end) where
+    pub one-nowhere : end < length offsets → false ≡ agrees root ino offsets (read_from body from)
+    one-nowhere h =
+        held-nowhere root ino body from n side offsets (get_or offsets end 0) (times-at offsets end h)
+        (λ k l e. let z : 0 ≡ k = omega (arith, one) in equal.other h (sym e ∙ ap (λ (m : ℕ). offset_of (file_ref body from m)) (sym z) ∙ here))
 
-  pub one-tallied : length offsets ≤ end → Tallied body from 1 offsets (end ∷ []) []
-  one-tallied h =
-      let zeros : List ℕ = replicate 1 0 in
-      let inside : 0 < 1 = omega arith in
-      let room : 1 ≤ length zeros = omega arith in
-      let none = tallied-none root ino body from 1 side offsets zeros (cleared-none 1) in
-      let all = tallied-more root ino body from 1 side offsets zeros offsets none (one-distinct body from) room offset 0 (end - 0) inside here (drop end offsets) equal.equal in
-      let e : 0 + (end - 0) ≡ end = omega arith in
-      rw (e, drop_of_length-le offsets h) at all
+    pub one-tallied : length offsets ≤ end → Tallied body from n offsets (end ∷ []) []
+    one-tallied h =
+        let zeros : List ℕ = replicate 1 0 in
+        let inside : 0 < n = omega (arith, one) in
+        let room : n ≤ length zeros = omega (arith, one) in
+        let none = tallied-none root ino body from n side offsets zeros (cleared-none 1) in
+        let all = tallied-more root ino body from n side offsets zeros offsets none one-distinct room offset 0 (end - 0) inside here (drop end offsets) equal.equal in
+        let e : 0 + (end - 0) ≡ end = omega arith in
+        rw (e, drop_of_length-le offsets h) at all

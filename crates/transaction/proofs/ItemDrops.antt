@@ -23,14 +23,13 @@ use Rattle.format.specs.References.{total_of}
 use Rattle.format.specs.Ledger.{less_item}
 use Rattle.format.proofs.Answers.{ask-ok, bind_ok, accepted-inj, refused-not, absent-not, remove-not}
 use Rattle.format.proofs.Decisions.{decides-ask, decides-bind}
-use Rattle.format.proofs.Outputs.{answered-refused}
 use Rattle.backref.specs.declared.plan.BodyEdit.{BodyEdit}
 use Rattle.backref.specs.declared.plan.Plan.{Plan}
 use Rattle.backref.specs.declared.plan.Plan.TheVariants.{Edit, Absent, Remove}
 use Rattle.backref.specs.Plans.{edited, plan_answer, Planned}
 use Rattle.backref.proofs.Outcomes.{Edits}
 use Rattle.record_edit.specs.declared.RecordAt.{RecordAt}
-use Rattle.record_edit.specs.Records.{data_of, nothing, edited_sheet, held_edit}
+use Rattle.record_edit.specs.Records.{data_of}
 use Rattle.transaction.specs.Drops.{gone, new_count, held_plan, held_at}
 use Rattle.transaction.proofs.Rewrites.{last-four}
 

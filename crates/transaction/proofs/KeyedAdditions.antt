@@ -3,21 +3,18 @@ use mathlib.Core.Path.{◌≡◌, refl, sym, ap, ◌∙◌}
 use mathlib.Core.Logic.{◌⊎◌, inl, inr}
 use mathlib.Core.Bool.{Bool, true, false, ◌||◌}
 use mathlib.Core.List.{List}
-use Prim.Native.Nat.{ℕ, zero, suc, ◌+◌, ◌-◌, ◌≤◌, ◌<◌}
+use Prim.Native.Nat.{ℕ, zero, suc, ◌≤◌, ◌<◌}
 use native.Mathlib.Omega.{arith}
-use lib.Dec.{leb, eqb, T}
+use lib.Dec.{leb, T}
 use lib.ListN.{length}
 use borrow.Author.Tests.{eqb-true, le-leb, lt-leb}
 use Rattle.fields.proofs.Lists.{lt-or}
 use Rattle.format.specs.declared.Keyed.{Keyed}
 use Rattle.format.specs.declared.Keyed.TheVariants.{Block, Data}
-use Rattle.format.specs.declared.BlockRef.{BlockRef}
-use Rattle.format.specs.declared.DataRef.{DataRef}
 use Rattle.std.specs.Prelude.{Result, max}
 use Rattle.format.specs.declared.Edited.{Edited}
 use Rattle.format.specs.declared.Refusal.{Refusal}
 use Rattle.format.specs.Questions.{Answer, accepted, ask, bind, denied, Answered, refused}
-use Rattle.format.specs.Bodies.{raise_total, add_inline_tree_ref, add_inline_data}
 use Rattle.format.specs.Items.{Item, nodesize_fits, held_sheet, put_back}
 use Rattle.format.specs.Apply.{inline_limit, keyed_body, apply_keyed_add, apply_keyed_add_to}
 use Rattle.item_list.specs.Steps.{list_items}

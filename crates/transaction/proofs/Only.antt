@@ -2,18 +2,18 @@
 use mathlib.Core.Path.{◌≡◌, refl, sym, ap, ◌∙◌, subst}
 use mathlib.Core.Bool.{Bool, false, ◌&&◌, and_assoc}
 use mathlib.Core.List.{List, [], ◌∷◌}
-use Prim.Native.Nat.{ℕ, ◌≤◌, ◌<◌}
+use Prim.Native.Nat.{ℕ, ◌≤◌}
 use native.Mathlib.Nat.{le_refl}
 use native.Mathlib.Omega.{arith}
 use lib.Dec.{eqb}
 use lib.ListN.{length, take, drop, length-drop}
-use borrow.Author.Tests.{eq-eqb, ne_eqb, le-leb, lt-leb}
+use borrow.Author.Tests.{eq-eqb, ne_eqb, le-leb}
 use Rattle.std.specs.Prelude.{Ok}
 use Rattle.fields.specs.Lists.{all}
 use Rattle.fields.specs.Numbers.{le}
 use Rattle.fields.specs.Parts.{part}
 use Rattle.fields.proofs.Lists.{by-test, and-false}
-use Rattle.format.specs.Questions.{Answer, refused, absent, remove, accepted, ask, bind, denied, told_of}
+use Rattle.format.specs.Questions.{Answer, refused, absent, remove, accepted, ask, bind, told_of}
 use Rattle.format.specs.References.{Ref, Body, total_of, flags_of, start_of, read_refs, read_body}
 use Rattle.format.specs.Bodies.{body_fits, on_body, held_by, held_only_by}
 use Rattle.format.proofs.Answers.{refused-not}

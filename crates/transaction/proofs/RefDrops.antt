@@ -24,7 +24,7 @@ use Rattle.format.specs.declared.Edited.{Edited}
 use Rattle.format.specs.declared.Refusal.{Refusal}
 use Rattle.format.specs.Questions.{Answer, refused, absent, remove, accepted, bind, needed, if_absent, held, denied, Answered}
 use Rattle.format.specs.References.{known, row_in, total_of, rank_of, make_ref}
-use Rattle.format.specs.Bodies.{body_fits, on_head, one, lowered_by_part, on_total, lower_total, drop_inline, drop_inline_tree_ref, keyed_count, drop_keyed_data_ref}
+use Rattle.format.specs.Bodies.{body_fits, on_head, one, lowered_by_part, on_total, lower_total, drop_inline, drop_inline_tree_ref, keyed_count}
 use Rattle.format.specs.Items.{Item, key_of, held_sheet, put_back, without}
 use Rattle.format.specs.Sheets.{has_key, deleted}
 use Rattle.format.specs.Apply.{is_record, replaced, flagged, drop_tree_ref}
@@ -51,7 +51,7 @@ use Rattle.record_edit.proofs.Stands.{Stands}
 use Rattle.transaction.proofs.Turns.{is-absent, turns}
 use Rattle.transaction.proofs.BehindRecord.{BehindAt, behind-at, behind-none}
 use Rattle.transaction.proofs.Puts.{inline-answered, held-second, item-bytes, without-it, replaced-without, counted-it, replaced-counted}
-use Rattle.transaction.proofs.ItemDrops.{keyed-out, shared-is}
+use Rattle.transaction.proofs.ItemDrops.{keyed-out}
 use Rattle.transaction.proofs.Plans.{put-held}
 use Rattle.transaction.proofs.Rewrites.{last-four}
 

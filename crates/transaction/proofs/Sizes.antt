@@ -2,19 +2,16 @@
 use mathlib.Core.Path.{◌≡◌, refl, sym, ap, ◌∙◌, subst}
 use mathlib.Core.Bool.{true, false}
 use mathlib.Core.List.{List, []}
-use Prim.Native.Nat.{ℕ, ◌+◌, ◌-◌, ◌/◌, ◌≤◌, ◌<◌}
+use Prim.Native.Nat.{ℕ, ◌≤◌, ◌<◌}
 use native.Mathlib.Omega.{arith}
-use lib.Dec.{T, eqb→eq}
-use borrow.Author.Tests.{ne_eqb, le-leb, lt-leb}
+use borrow.Author.Tests.{le-leb, lt-leb}
 use Rattle.fields.specs.Numbers.{le_bytes}
-use Rattle.std.specs.Prelude.{Result, Ok}
+use Rattle.std.specs.Prelude.{Result}
 use Rattle.format.specs.declared.Edited.{Edited}
 use Rattle.format.specs.declared.Refusal.{Refusal}
-use Rattle.format.specs.Questions.{refused, accepted, ask, bind, held, denied, told_of, Answered}
-use Rattle.format.specs.References.{payload_length, count_position, counted}
-use Rattle.format.specs.Bodies.{held_body, shared_kind, shared_add_key, shared_add_item, shared_add_inline_size}
-use Rattle.format.specs.Items.{nodesize_fits}
-use Rattle.format.specs.Apply.{inline_limit, max_inline_extent_item}
+use Rattle.format.specs.Questions.{refused, accepted, ask, bind, held, Answered}
+use Rattle.format.specs.References.{count_position, counted}
+use Rattle.format.specs.Bodies.{held_body, shared_kind, shared_add_item}
 
 -- ---- a shared reference, by the row of its kind
 

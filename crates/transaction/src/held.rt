@@ -7,7 +7,9 @@ ghost use Rattle.format.specs.Bodies.{held_only_by};
 ghost use Rattle.inline_refs.specs.Steps.{read_from};
 ghost use Rattle.transaction.specs.Held.{held_in};
 
-use crate::{held_counts, held_refs};
+use crate::held_counts;
+use crate::held_refs::{self, FileRefs};
+use data_refs::Triples;
 use format::{EXTENT_ITEM, MOST_DATA, MOST_OFFSETS, Refusal};
 use inline_refs::Kinds;
 
@@ -22,7 +24,16 @@ fn held_from(body: &[u8], start: usize, root: u64, ino: u64, offsets: &[u64]) ->
     }
     let kinds = Kinds::new();
     match held_refs::file_refs(&kinds, body, start, root, ino) {
-        Some(n) => held_counts::held_refs(body, start, n, root, ino, offsets),
+        Some(n) => held_counts::held_refs(FileRefs {
+            refs: Triples {
+                body,
+                from: start,
+                n,
+            },
+            root,
+            ino,
+            offsets,
+        }),
         None => false,
     }
 }

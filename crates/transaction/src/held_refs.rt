@@ -1,10 +1,10 @@
 // A body's references, as data references of one file that stand side by side.
-ghost use Rattle.std.specs.Prelude.{◌≡◌, ◌+◌, ◌*◌, ◌≤◌, T, length, drop};
+ghost use Rattle.std.specs.Prelude.{◌≡◌, ◌+◌, ◌≤◌, ◌<◌, T, length, drop};
 ghost use Rattle.format.specs.Constants.{most_data};
 ghost use Rattle.format.specs.References.{known, payload_length, ref_at};
-ghost use Rattle.data_refs.specs.Triples.{triple_size};
-ghost use Rattle.transaction.specs.Held.{is_of_file, file_ref, FileRefsTold};
+ghost use Rattle.transaction.specs.Held.{is_of_file, file_ref, FileRefsTold, SideBySide};
 
+use data_refs::Triples;
 use format::EXTENT_DATA_REF;
 use inline_refs::{Cursor, Kinds};
 
@@ -35,12 +35,23 @@ pub fn file_refs(kinds: &Kinds, body: &[u8], start: usize, root: u64, ino: u64) 
     Some(n)
 }
 
-// The weight of number k of those that stand side by side from `from` on.
-pub fn weight_of(body: &[u8], from: usize, k: usize) -> u32
-    requires { (from + triple_size * k + triple_size ≤ length body.now) × (length body.now ≤ most_data) }
-    ensures { result ≡ (file_ref body.now from k).weight }
+// A file's references, which stand side by side in a body where nothing else is read, and the offsets that they are to be held at.
+#[derive(Clone, Copy)]
+pub struct FileRefs<'r, 'a> {
+    pub refs: Triples<'r>,
+    pub root: u64,
+    pub ino: u64,
+    pub offsets: &'a [u64],
+    ghost short: { (length refs.body.now ≤ most_data) × (length offsets.now ≤ 4096) },
+    ghost side_by_side: { SideBySide root ino refs.body.now refs.from refs.n },
+}
+
+// The weight of number k of data references.
+pub fn weight_of(refs: Triples, k: usize) -> u32
+    requires { k < refs.n }
+    ensures { result ≡ (file_ref refs.entry.body.now refs.entry.from k).weight }
 {
     let count = inline_refs::lengths_of(EXTENT_DATA_REF).count;
-    let start = from + data_refs::data_size() * k + 1;
-    inline_refs::weight_at(body, EXTENT_DATA_REF, start, count)
+    let start = refs.from + data_refs::data_size() * k + 1;
+    inline_refs::weight_at(refs.body, EXTENT_DATA_REF, start, count)
 }

@@ -5,21 +5,25 @@ use Rattle.transaction.proofs.held_counts.held_by_counts.Goals as goal
 
 pub returns-in_default : goal.returns-in_default
 returns-in_default c =
-    let side = c.requires.side_by_side.0 in
-    held-nowhere _ _ _ _ _ side _ _ (times-at c.args.offsets.now _ c.loop-i-test.true) (λ k h. none-there _ _ _ _ _ side k _ h (c.in_default.ensures k h))
+    let side = c.args.file.side_by_side in
+    let same = c.requires.same_refs in
+    let none = rw (same.0, same.1, same.2) at c.in_default.ensures in
+    held-nowhere _ _ _ _ _ side _ _ (times-at c.args.file.offsets.now _ c.loop-i-test.true) (λ k h. none-there _ _ _ _ _ side k _ h (none k h))
 
 pub overflow_add-counts : goal.overflow_add-counts
 overflow_add-counts c =
-    let few = tallied-few _ _ _ _ _ c.requires.side_by_side.0 _ _ _ c.loop-i.invariant.2 _ c.in-Some.ensures.0 in
-    omega (arith, few, c.requires.body_len_bound.1)
+    let same = c.requires.same_refs in
+    let found = rw (same.0, same.1, same.2) at c.in-Some.ensures in
+    let few = tallied-few _ _ _ _ _ c.args.file.side_by_side _ _ _ c.loop-i.invariant.2 _ found.0 in
+    omega (arith, few, c.args.file.short.1)
 
 pub loop-i-preserved : goal.loop-i-preserved
 loop-i-preserved c =
     let loop = c.loop-i in
-    let side = c.requires.side_by_side in
     let equal = c.equal_end-end.ensures in
-    let found = c.in-Some.ensures in (
+    let same = c.requires.same_refs in
+    let found = rw (same.0, same.1, same.2) at c.in-Some.ensures in (
       equal.inside,
       simp length-set loop.invariant.1,
-      tallied-more _ _ _ _ _ side.0 _ _ _ loop.invariant.2 side.1 (omega arith) _ _ _ found.0 (same-offset _ _ _ _ found.1) _ equal.equal,
+      tallied-more _ _ _ _ _ c.args.file.side_by_side _ _ _ loop.invariant.2 c.requires.distinct (omega arith) _ _ _ found.0 (same-offset _ _ _ _ found.1) _ equal.equal,
     )

@@ -6,7 +6,8 @@ use Rattle.transaction.proofs.held_counts.held_by_counts.Given as goal
 
 abbrev pub invariant-loop-i : goal.invariant-loop-i
 invariant-loop-i l =
-    (l.i ≤ length l.offsets) × (length l.counts ≡ length l.initial.counts) × Tallied l.chains.refs.body.now l.chains.refs.from l.chains.refs.n l.offsets l.counts (drop l.i l.offsets)
+    let refs = l.file.refs in
+    (l.i ≤ length l.file.offsets.now) × (length l.counts ≡ length l.initial.counts) × Tallied refs.body.now refs.from refs.n l.file.offsets.now l.counts (drop l.i l.file.offsets.now)
 
 abbrev pub decreases-loop-i : goal.decreases-loop-i
-decreases-loop-i l = length l.offsets - l.i
+decreases-loop-i l = length l.file.offsets.now - l.i

@@ -1,4 +1,4 @@
-use mathlib.Core.Path.{refl, sym, ap, subst, ◌∙◌}
+use mathlib.Core.Path.{refl, sym, subst, ◌∙◌}
 use native.Mathlib.Omega.{arith}
 use Rattle.inline_refs.proofs.Steps.{stepped, ended, stopped, ends-within}
 use Rattle.inline_refs.proofs.Tests.{payload-178}

@@ -17,5 +17,5 @@ pub returns : goal.returns
 unfolding file_ref
 returns c =
     let a = c.args in
-    let z : a.from + c.data_size.result * a.k + 1 ≡ a.from + triple_size * a.k + 1 = omega (arith, times a.k c.data_size.ensures) in
-    c.weight_at.ensures ∙ ap (λ (p : ℕ). (ref_at 178 (drop p a.body.now)).weight) z
+    let z : a.refs.from + c.data_size.result * a.k + 1 ≡ a.refs.from + triple_size * a.k + 1 = omega (arith, times a.k c.data_size.ensures) in
+    c.weight_at.ensures ∙ ap (λ (p : ℕ). (ref_at 178 (drop p a.refs.body.now)).weight) z
