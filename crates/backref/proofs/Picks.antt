@@ -10,7 +10,7 @@ use Rattle.fields.specs.Numbers.{le}
 use Rattle.fields.specs.Parts.{part}
 use Rattle.fields.proofs.Numbers.{words-at}
 use Rattle.format.specs.declared.InlineRef.{InlineRef}
-use Rattle.format.specs.Questions.{Answer, refused, absent, remove, accepted, bind, needed, code_of, lent_number, lent_part, told_of, denied}
+use Rattle.format.specs.Questions.{Answer, refused, absent, remove, accepted, bind, needed, code_of, told_of, denied}
 use Rattle.format.specs.References.{payload_length, field_count, Ref, ref_at, start_of}
 use Rattle.format.specs.Bodies.{positions, ref_numbered, inline_ref, inline_payload}
 use Rattle.format.proofs.Answers.{accepted-inj, refused-not}
@@ -123,12 +123,11 @@ abbrev payload_in : List ℕ → Answer InlineRef → Answer (List ℕ)
 payload_in s x = bind x (λ r. accepted (part r.start r.len s))
 
 module _ (s : List ℕ) where
-  nothing-in : (x : Answer InlineRef) (m : ℕ) → denied m ≡ told_of x
-      → ([] ≡ lent_part (payload_in s x)) × (m ≡ code_of (payload_in s x)) × (0 ≡ start_in x)
-  unfolding told_of bind lent_part code_of lent_number
-  nothing-in (refused n) m e = (refl, unpicked-inj e, refl)
-  nothing-in absent m e = (refl, unpicked-inj e, refl)
-  nothing-in remove m e = (refl, unpicked-inj e, refl)
+  nothing-in : (x : Answer InlineRef) (m : ℕ) → denied m ≡ told_of x → m ≡ code_of (payload_in s x)
+  unfolding told_of bind code_of
+  nothing-in (refused n) m e = unpicked-inj e
+  nothing-in absent m e = unpicked-inj e
+  nothing-in remove m e = unpicked-inj e
   nothing-in (accepted r) m e = reference-not e
 
   is-in : (x : Answer InlineRef) (r : InlineRef) → Ok r ≡ told_of x → x ≡ accepted r
@@ -138,22 +137,14 @@ module _ (s : List ℕ) where
   is-in remove r e = reference-not (sym e)
   is-in (accepted r') r e = let z : r ≡ r' = cc in ap accepted (sym z)
 
-  module _ (type index : ℕ) (p : Result InlineRef Refusal) (is : p ≡ told_of (inline_ref type s index)) where
-    pub no_payload : (x : Refusal) → p ≡ Err x
-        → ([] ≡ lent_part (inline_payload type s index)) × (x.number ≡ code_of (inline_payload type s index)) × (0 ≡ start_in (inline_ref type s index))
+  module _ (type index : ℕ) where
+    pub no_payload : (x : Refusal) → Err x ≡ told_of (inline_ref type s index) → x.number ≡ code_of (inline_payload type s index)
     unfolding inline_payload
-    no_payload x e = nothing-in (inline_ref type s index) x.number (sym e ∙ is)
+    no_payload x e = nothing-in (inline_ref type s index) x.number e
 
-    pub a-payload : (r : InlineRef) (end : ℕ) → p ≡ Ok r → end ≡ r.start + r.len
-        → (part r.start (end - r.start) s ≡ lent_part (inline_payload type s index)) × (0 ≡ code_of (inline_payload type s index)) × (r.start ≡ start_in (inline_ref type s index))
-    unfolding inline_payload bind lent_part code_of lent_number
-    a-payload r end e q =
-        let x = is-in (inline_ref type s index) r (sym e ∙ is) in
-        let n : end - r.start ≡ r.len = omega arith in (
-          ap (λ (m : ℕ). part r.start m s) n ∙ sym (ap (λ (y : Answer InlineRef). lent_part (payload_in s y)) x),
-          sym (ap (λ (y : Answer InlineRef). code_of (payload_in s y)) x),
-          sym (ap start_in x),
-        )
-
-pub inside_is : (p : Result InlineRef Refusal) (r : InlineRef) (size : ℕ) → p ≡ Ok r → Inside p size → r.start + r.len ≤ size
-inside_is p r size e h = subst (λ (x : Result InlineRef Refusal). Inside x size) e h
+    pub a-payload : (r : InlineRef) → Ok r ≡ told_of (inline_ref type s index)
+        → (inline_payload type s index ≡ accepted (part r.start r.len s)) × (r.start ≡ start_in (inline_ref type s index))
+    unfolding inline_payload bind
+    a-payload r e =
+        let x = is-in (inline_ref type s index) r e in
+        (ap (payload_in s) x, sym (ap start_in x))

@@ -1,7 +1,7 @@
 // A reference of a body by its number, from 0. Questions 6 to 8 are put to the whole body, so the references are counted first.
-ghost use Rattle.std.specs.Prelude.{◌≡◌, ◌+◌, ◌≤◌, length};
+ghost use Rattle.std.specs.Prelude.{◌≡◌, ◌+◌, ◌≤◌, length, MatchResult};
 ghost use Rattle.format.specs.Constants.{most_data};
-ghost use Rattle.format.specs.Questions.{code_of, lent_part, told_of};
+ghost use Rattle.format.specs.Questions.{accepted, code_of, told_of};
 ghost use Rattle.format.specs.Bodies.{inline_ref, inline_payload};
 ghost use Rattle.inline_refs.specs.Steps.{read_from};
 ghost use Rattle.inline_refs.specs.Scans.{ref_count_of};
@@ -48,21 +48,10 @@ pub fn inline_ref(item_type: u8, body: &[u8], index: u64) -> Result<InlineRef, R
     pick(&kinds, body, start, count, index)
 }
 
-// Its payload, as a part of the body; `refused` gets the refusal, or 0.
-pub fn inline_payload<'a>(item_type: u8, body: &'a [u8], index: u64, refused: &mut u32) -> &'a [u8]
-    ensures { (result.now ≡ lent_part (inline_payload item_type body.now index)) × (refused.new ≡ code_of (inline_payload item_type body.now index)) × (result.ref_ptr.0 ≡ body.entry.ref_ptr.0) × (result.ref_ptr.1 ≡ start_in (inline_ref item_type body.now index) + body.entry.ref_ptr.1) }
+// Its payload, as a part of the body: these bytes, at their position in the caller's slice.
+pub fn inline_payload<'a>(item_type: u8, body: &'a [u8], index: u64) -> Result<&'a [u8], Refusal>
+    ensures { MatchResult result (λ bytes. (inline_payload item_type body.now index ≡ accepted bytes.now) × (bytes.ref_ptr.0 ≡ body.entry.ref_ptr.0) × (bytes.ref_ptr.1 ≡ start_in (inline_ref item_type body.now index) + body.entry.ref_ptr.1)) (λ refusal. refusal.number ≡ code_of (inline_payload item_type body.now index)) }
 {
-    let picked = inline_ref(item_type, body, index);
-    match picked {
-        Err(refusal) => {
-            *refused = refusal.number;
-            return &body[0..0];
-        }
-        Ok(reference) => {
-            *refused = 0;
-            let start = reference.start;
-            let end = start + reference.len;
-            return &body[start..end];
-        }
-    }
+    let reference = inline_ref(item_type, body, index)?;
+    Ok(&body[reference.start..reference.start + reference.len])
 }

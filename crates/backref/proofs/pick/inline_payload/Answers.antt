@@ -1,27 +1,20 @@
-use mathlib.Core.Path.{refl, ap}
-use Prim.Native.Nat.{ℕ, ◌+◌}
+use mathlib.Core.Path.{◌≡◌, refl, sym, ap, ◌∙◌}
+use Prim.Native.Nat.{ℕ, ◌+◌, ◌-◌}
 use native.Mathlib.Omega.{arith}
-use Rattle.backref.proofs.Picks.{no_payload, a-payload, inside_is}
+use Rattle.fields.specs.Parts.{part}
+use Rattle.format.specs.Questions.{accepted}
+use Rattle.format.proofs.Answers.{handed_on}
+use Rattle.backref.proofs.Picks.{no_payload, a-payload}
 use Rattle.backref.proofs.pick.inline_payload.Goals as goal
 
-pub returns-in-Err : goal.returns-in-Err
-returns-in-Err c =
+pub returns-in_err-reference : goal.returns-in_err-reference
+returns-in_err-reference c =
+    rw (handed_on c.from_residual.ensures.1) (no_payload c.args.body.now c.args.item_type c.args.index _ (sym c.in_err-reference.was ∙ c.inline_ref.ensures.0))
+
+pub returns : goal.returns
+returns c =
     let a = c.args in
-    let h = no_payload a.body.now a.item_type a.index _ c.inline_ref-picked.ensures.0 _ c.in-Err.is in
-    (h.0, h.1, refl, ap (λ (n : ℕ). n + a.body.ref_ptr.1) h.2)
-
-pub overflow_add-end : goal.overflow_add-end
-overflow_add-end c =
-    let h = inside_is _ _ _ c.in-Ok.is c.inline_ref-picked.ensures.1 in
-    omega (arith, h)
-
-pub slice_bounds-result-end-in-Ok : goal.slice_bounds-result-end-in-Ok
-slice_bounds-result-end-in-Ok c =
-    let h = inside_is _ _ _ c.in-Ok.is c.inline_ref-picked.ensures.1 in
-    omega (arith, h)
-
-pub returns-in-Ok : goal.returns-in-Ok
-returns-in-Ok c =
-    let a = c.args in
-    let h = a-payload a.body.now a.item_type a.index _ c.inline_ref-picked.ensures.0 _ _ c.in-Ok.is refl in
-    (h.0, h.1, refl, ap (λ (n : ℕ). n + a.body.ref_ptr.1) h.2)
+    let r = c.in_ok-reference.reference in
+    let h = a-payload a.body.now a.item_type a.index _ (sym c.in_ok-reference.was ∙ c.inline_ref.ensures.0) in
+    let n : r.len ≡ r.start + r.len - r.start = omega arith in
+    (h.0 ∙ ap (λ (m : ℕ). accepted (part r.start m a.body.now)) n, refl, ap (λ (m : ℕ). m + a.body.ref_ptr.1) h.1)
