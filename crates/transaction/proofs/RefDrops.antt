@@ -284,17 +284,17 @@ module _ {s : List ℕ} {c : Cut Item} {target : RecordAt} (st : Stands s c targ
           → held_sheet room (bind (dropped_at k.item a) (λ others. replaced c.hit.key body others))
           ≡ held_at room s target from to (item_left w amount (le (part (to - 4) 4 s))) a body
       unfolding dropped_at held_at bind held_sheet held
-      held-at f (refused m) e body l = refl
-      held-at f absent e body l = refl
-      held-at f remove e body l = ap (held_sheet room) (replaced-without st k body) ∙ held-second st (without-it st k) room body
-      held-at f (accepted d) e body l =
+      held-at f (refused m) e rest l = refl
+      held-at f absent e rest l = refl
+      held-at f remove e rest l = ap (held_sheet room) (replaced-without st k rest) ∙ held-second st (without-it st k) room rest
+      held-at f (accepted d) e rest l =
           let i : Cut Item = k.item in
           let last : ℕ = le (part (to - 4) 4 s) in
           let h = left_over w amount i.hit.bytes c.hit.bytes f l e last last-is in
           let count : ℕ = item_left w amount last in
-          ap (λ (l : List ℕ). held_sheet room (replaced c.hit.key body (put_back i l))) h.written_is
-          ∙ ap (held_sheet room) (replaced-counted st k h.at (sym h.long) count body)
-          ∙ held-second st (counted-it st k h.at (sym h.long) count) room body
+          ap (λ (l : List ℕ). held_sheet room (replaced c.hit.key rest (put_back i l))) h.written_is
+          ∙ ap (held_sheet room) (replaced-counted st k h.at (sym h.long) count rest)
+          ∙ held-second st (counted-it st k h.at (sym h.long) count) room rest
 
     -- the item of shared data is its count
     pub count_fits : (from to : ℕ) → seek_in item-key target.end (list_items_from s target.end) ≡ Present from to → SharedInForm w (list_items s) → CountFits w (data_of s from to)

@@ -3,7 +3,6 @@
 #![tactic(auto)]
 
 mod adds;
-mod drop_edits;
 mod drop_kept;
 mod drop_refs;
 mod drops;
@@ -12,6 +11,7 @@ mod held_counts;
 mod held_refs;
 mod keyed_names;
 mod limit;
+mod own_item;
 mod record_index;
 mod shared_adds;
 

@@ -60,18 +60,19 @@ returns-in_default-seek c =
     (key-answered at.requires.stands_at (drop_ref a.name a.amount (list_items a.sheet.now)) _ _ _ _
     (drop-none (stood at c.type_inv.sheet) a.name a.amount _ plan _ put.0 _ _ c.kind_of.ensures c.rank_of.ensures _ _ (sym c.seek.ensures ∙ c.in_default-seek.is)))
 
-pub drop_at_item-requires : goal.drop_at_item-requires
-drop_at_item-requires c =
-    let at = (goal.at.drop_at_item-requires c).Start in
+pub invariant_of-own : goal.invariant_of-own
+invariant_of-own c =
+    let d = stood (goal.at.invariant_of-own c).Start c.type_inv.sheet in
+    let f = position-behind d _ _ _ (sym c.seek.ensures ∙ c.in-Present.is) in
+    record { apart = (d.ordered, f.0, f.1, f.2, d.small) }
+
+pub drop_ref-requires : goal.drop_ref-requires
+drop_ref-requires c =
+    let at = (goal.at.drop_ref-requires c).Start in
     let a = at.args in
     let put = put-absent _ _ _ _ _ _ _ _ _ c.put_record.ensures (c.in_ok-edited.was ∙ ap Ok c.in-Absent.is) in
-    let d = stood at c.type_inv.sheet in
-    let e = sym c.seek.ensures ∙ c.in-Present.is in
-    let f = position-behind d _ _ _ e in
-    record {
-      count_fits = count_fits d a.name a.amount _ c.plan_drop-plan.ensures (length a.out.now) put.0 _ _ c.kind_of.ensures c.rank_of.ensures _ _ e at.requires.shared_in_form;
-      item_head_bound = (d.ordered, f.0, f.1, f.2, d.small);
-    }
+    count_fits (stood at c.type_inv.sheet) a.name a.amount _ c.plan_drop-plan.ensures (length a.out.now) put.0 _ _ c.kind_of.ensures c.rank_of.ensures _ _
+    (sym c.seek.ensures ∙ c.in-Present.is) at.requires.shared_in_form
 
 pub returns : goal.returns
 returns c =
@@ -82,4 +83,4 @@ returns c =
     lent_again (λ room. held_sheet room (on_key a.target.key (list_items a.sheet.now) (drop_ref a.name a.amount (list_items a.sheet.now)))) _ a.out.now _ _ put.1
     (key-answered at.requires.stands_at (drop_ref a.name a.amount (list_items a.sheet.now)) _ _ _ _
     (drop-item (stood at c.type_inv.sheet) a.name a.amount _ plan _ put.0 _ _ c.kind_of.ensures c.rank_of.ensures _ _ _ _ _
-    (sym c.seek.ensures ∙ c.in-Present.is) at.requires.shared_in_form c.drop_at_item.ensures))
+    (sym c.seek.ensures ∙ c.in-Present.is) at.requires.shared_in_form c.drop_ref.ensures))
