@@ -40,60 +40,71 @@ fn append_record(
     append_edit(body, edit, out, inside)
 }
 
-// All from the end of the record, with the second edit. Where the record alone changes, what follows it is one piece.
-fn append_rest(sheet: &[u8], end: usize, second: SecondEdit, out: &mut [u8], at: usize)
-    requires second_in { SecondIn second end sheet.now }
-    requires sheet_in_bounds { (at + rest_length second end (length sheet.now) ≤ length out.old) × (length sheet.now ≤ most_sheet) }
-    ensures { out.new ≡ written at (rest_bytes second end sheet.now) out.old }
-{
-    let one = item_list::append(sheet, end, second.from, out, at);
-    if second.size == 0 && second.from == sheet.len() {
-        return;
-    }
-    let two = item_list::append(&second.new, 0, second.size, out, one);
-    item_list::append(sheet, second.to, sheet.len(), out, two);
-}
-
-fn write_record(sheet: &[u8], target: RecordAt, edit: BodyEdit, second: SecondEdit, out: &mut [u8])
-    requires edit_in { EditIn edit (data_of sheet.now target.start target.end) }
-    requires second_in { SecondIn second target.end sheet.now }
-    requires item_head_bound { (target.start + item_head ≤ target.end) × (edit_length edit (target.end - (target.start + item_head)) ≤ most_data) × (sheet_length target edit second (length sheet.now) ≤ length out.old) × (length sheet.now ≤ most_sheet) }
-    ensures { out.new ≡ written 0 (edited_sheet sheet.now target second (edited edit (data_of sheet.now target.start target.end))) out.old }
-{
-    let body = &sheet[target.start + ITEM_HEAD..target.end];
-    let at = append_record(sheet, target.start, body, target.key, edit, out);
-    append_rest(sheet, target.end, second, out, at);
-}
-
-// Questions 17 and 21, then the writing.
-fn write_held(
-    sheet: &[u8],
+// A list, where a record stands in it, and the second edit behind that record.
+#[derive(Clone, Copy)]
+struct Rewrite<'a> {
+    sheet: &'a [u8],
     target: RecordAt,
-    edit: BodyEdit,
     second: SecondEdit,
-    limit: usize,
-    count: usize,
-    out: &mut [u8],
-) -> Result<Edited, Refusal>
-    requires edit_in { EditIn edit (data_of sheet.now target.start target.end) }
-    requires second_in { SecondIn second target.end sheet.now }
-    requires item_head_bound { (target.start + item_head ≤ target.end) × (length sheet.now ≤ most_sheet) }
-    ensures { Answered (held_edit (length out.old) count limit (edited_sheet sheet.now target second) (edited edit (data_of sheet.now target.start target.end))) result out.old out.new }
-{
-    let size = backref::edit_length(edit, target.end - (target.start + ITEM_HEAD));
-    if limit < size {
-        return Err(Refusal::INLINE_LIMIT);
+    ghost behind: { SecondIn second target.end sheet.now },
+    ghost whole: { (target.start + item_head ≤ target.end) × (length sheet.now ≤ most_sheet) },
+}
+
+impl<'a> Rewrite<'a> {
+    // All from the end of the record, with the second edit. Where the record alone changes, what follows it is one piece.
+    fn append_rest(self, out: &mut [u8], at: usize)
+        requires { at + rest_length self.second self.target.end (length self.sheet.now) ≤ length out.old }
+        ensures { out.new ≡ written at (rest_bytes self.entry.second self.entry.target.end self.entry.sheet.now) out.old }
+    {
+        let sheet = self.sheet;
+        let second = self.second;
+        let one = item_list::append(sheet, self.target.end, second.from, out, at);
+        if second.size == 0 && second.from == sheet.len() {
+            return;
+        }
+        let two = item_list::append(&second.new, 0, second.size, out, one);
+        item_list::append(sheet, second.to, sheet.len(), out, two);
     }
-    if MOST_DATA < size {
-        return Err(Refusal::NO_ROOM);
+
+    fn write_record(self, edit: BodyEdit, out: &mut [u8])
+        requires edit_in { EditIn edit (data_of self.sheet.now self.target.start self.target.end) }
+        requires in_bounds { (edit_length edit (self.target.end - (self.target.start + item_head)) ≤ most_data) × (sheet_length self.target edit self.second (length self.sheet.now) ≤ length out.old) }
+        ensures { out.new ≡ written 0 (edited_sheet self.entry.sheet.now self.entry.target self.entry.second (edited edit (data_of self.entry.sheet.now self.entry.target.start self.entry.target.end))) out.old }
+    {
+        let target = self.target;
+        let body = &self.sheet[target.start + ITEM_HEAD..target.end];
+        let at = append_record(self.sheet, target.start, body, target.key, edit, out);
+        self.append_rest(out, at);
     }
-    let rest = second.from - target.end + second.size + (sheet.len() - second.to);
-    let long = target.start + ITEM_HEAD + size + rest;
-    if !item_list::room_for(out.len(), long, count) {
-        return Err(Refusal::NO_ROOM);
+
+    // Questions 17 and 21, then the writing.
+    fn write_held(
+        self,
+        edit: BodyEdit,
+        limit: usize,
+        count: usize,
+        out: &mut [u8],
+    ) -> Result<Edited, Refusal>
+        requires { EditIn edit (data_of self.sheet.now self.target.start self.target.end) }
+        ensures { Answered (held_edit (length out.old) count limit (edited_sheet self.entry.sheet.now self.entry.target self.entry.second) (edited edit (data_of self.entry.sheet.now self.entry.target.start self.entry.target.end))) result out.old out.new }
+    {
+        let target = self.target;
+        let second = self.second;
+        let size = backref::edit_length(edit, target.end - (target.start + ITEM_HEAD));
+        if limit < size {
+            return Err(Refusal::INLINE_LIMIT);
+        }
+        if MOST_DATA < size {
+            return Err(Refusal::NO_ROOM);
+        }
+        let rest = second.from - target.end + second.size + (self.sheet.len() - second.to);
+        let long = target.start + ITEM_HEAD + size + rest;
+        if !item_list::room_for(out.len(), long, count) {
+            return Err(Refusal::NO_ROOM);
+        }
+        self.write_record(edit, out);
+        Ok(Edited::Written(long))
     }
-    write_record(sheet, target, edit, second, out);
-    Ok(Edited::Written(long))
 }
 
 // The list with a planned body in its record and the second edit behind it, into `out`. `limit` is asked by question 17, and
@@ -113,7 +124,14 @@ pub fn edit_record(
     ensures { Answered (bind (plan_answer plan (data_of sheet.now target.start target.end)) (held_edit (length out.old) count limit (edited_sheet sheet.now target second))) result out.old out.new }
 {
     match plan? {
-        Plan::Edit(edit) => write_held(sheet, target, edit, second, limit, count, out),
+        Plan::Edit(edit) => {
+            let rewrite = Rewrite {
+                sheet,
+                target,
+                second,
+            };
+            rewrite.write_held(edit, limit, count, out)
+        }
         Plan::Absent => Ok(Edited::Absent),
         Plan::Remove => Ok(Edited::Remove),
     }

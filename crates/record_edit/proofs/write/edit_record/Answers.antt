@@ -5,8 +5,8 @@ use Rattle.format.proofs.Answers.{handed_on}
 use Rattle.record_edit.proofs.Writes.{did-edit, did_nothing, did-remove, did-refuse}
 use Rattle.record_edit.proofs.write.edit_record.Goals as goal
 
-pub write_held-requires-clause-edit_in : goal.write_held-requires-clause-edit_in
-write_held-requires-clause-edit_in c = inside-edit _ (c.in_ok-edit.was ∙ ap Ok c.in-Edit.is) c.requires.plan_in
+pub write_held-requires : goal.write_held-requires
+write_held-requires c = inside-edit _ (c.in_ok-edit.was ∙ ap Ok c.in-Edit.is) c.requires.plan_in
 
 pub returns-in_err-edit : goal.returns-in_err-edit
 returns-in_err-edit c = did-refuse _ _ _ (handed_on c.from_residual.ensures.1) c.in_err-edit.was
