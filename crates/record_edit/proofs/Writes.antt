@@ -255,27 +255,3 @@ module _ (s : List ℕ) (r : RecordAt) (p : BodyEdit) (b : SecondEdit) (h : Seco
             all-written now t w =
                 subst (λ (n : ℕ). Answered (held_edit room count limit (edited_sheet s r b) new) (Ok (Written n)) old now) (length-sheet ∙ sym all-long)
                 (answered-written {body = edited_sheet s r b new} (asked ∙ rw (← all-long, t)) w)
-
--- ---- by the plan
-
-module _ (body : List ℕ) (next : List ℕ → Answer (List ℕ)) {p : Result Plan Refusal} where
-  pub did-edit : {e : BodyEdit} {r : Result Edited Refusal} {old now : List ℕ} → p ≡ Ok (Edit e) → Answered (next (edited e body)) r old now
-      → Answered (bind (plan_answer p body) next) r old now
-  unfolding plan_answer bind
-  did-edit {r = r} {old} {now} k h = subst (λ (q : Result Plan Refusal). Answered (bind (plan_answer q body) next) r old now) (sym k) h
-
-  module _ (old : List ℕ) where
-    pub did_nothing : p ≡ Ok Absent → Answered (bind (plan_answer p body) next) (Ok NoMatch) old old
-    unfolding plan_answer bind lent edited_of
-    did_nothing k =
-        subst (λ (q : Result Plan Refusal). Answered (bind (plan_answer q body) next) (Ok NoMatch) old old) (sym k) (record { result = refl; output = refl })
-
-    pub did-remove : p ≡ Ok Remove → Answered (bind (plan_answer p body) next) (Ok Gone) old old
-    unfolding plan_answer bind lent edited_of
-    did-remove k =
-        subst (λ (q : Result Plan Refusal). Answered (bind (plan_answer q body) next) (Ok Gone) old old) (sym k) (record { result = refl; output = refl })
-
-    pub did-refuse : {x : Refusal} {r : Result Edited Refusal} → r ≡ Err x → p ≡ Err x → Answered (bind (plan_answer p body) next) r old old
-    unfolding plan_answer bind lent edited_of
-    did-refuse {r = r} e k =
-        subst (λ (q : Result Plan Refusal). Answered (bind (plan_answer q body) next) r old old) (sym k) (record { result = e; output = refl })

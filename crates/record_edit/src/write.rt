@@ -109,6 +109,7 @@ impl<'a> Rewrite<'a> {
 
 // The list with a planned body in its record and the second edit behind it, into `out`. `limit` is asked by question 17, and
 // `count` is the number of items that this makes.
+#[tactic(auto, unfolding(backref::specs::Plans::plan_answer, backref::specs::Plans::PlanIn, format::specs::Questions::bind, format::specs::Questions::lent, format::specs::Questions::edited_of))]
 pub fn edit_record(
     sheet: &[u8],
     target: RecordAt,

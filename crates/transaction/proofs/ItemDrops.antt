@@ -181,34 +181,3 @@ one-gone s from to name q a b h e =
     let c = count-is s from to a b k.0 in
     let one = k.1 in
     omega arith
-
--- ---- an item of another reference: the total is lowered, then the item goes or counts what is left
-
-module _ (s : List ℕ) (target : RecordAt) (from to room : ℕ) (p : Result Plan Refusal) (r : Result Edited Refusal) (old new : List ℕ) where
-  pub block_goes : Planned p (data_of s target.start target.end) (lower_total (data_of s target.start target.end))
-      → Answered (held_plan room (target.item_count - 1) s target p (gone from to)) r old new
-      → Answered (bind (lower_total (data_of s target.start target.end)) (held_at room s target from to 0 remove)) r old new
-  unfolding held_at
-  block_goes total w =
-      subst (λ (a : Answer (List ℕ)). Answered a r old new) (ap (λ (a : Answer (List ℕ)). bind a (held_at room s target from to 0 remove)) total.says) w
-
-  module _ (amount standing : ℕ)
-      (total : Planned p (data_of s target.start target.end) (on_total (data_of s target.start target.end) (lowered_by_part amount standing))) where
-    abbrev answered : Type 0
-    answered =
-        Answered (bind (on_total (data_of s target.start target.end) (lowered_by_part amount standing))
-        (held_at room s target from to (standing - amount) (less_item standing amount))) r old new
-
-    by-rest : (rest : Answer (List ℕ)) → less_item standing amount ≡ rest
-        → Answered (bind (plan_answer p (data_of s target.start target.end)) (held_at room s target from to (standing - amount) rest)) r old new → answered
-    by-rest rest e w =
-        subst (λ (a : Answer (List ℕ)). Answered a r old new)
-        (ap₂ (λ (a b : Answer (List ℕ)). bind a (held_at room s target from to (standing - amount) b)) total.says (sym e)) w
-
-    pub part-goes : standing ≤ amount → Answered (held_plan room (target.item_count - 1) s target p (gone from to)) r old new → answered
-    unfolding held_at less_item
-    part-goes h w = by-rest remove (simp (le-ltb _ _ h)) w
-
-    pub part-counts : amount < standing → Answered (held_plan room target.item_count s target p (new_count to (standing - amount))) r old new → answered
-    unfolding held_at less_item
-    part-counts h w = by-rest (accepted (le_bytes 4 (standing - amount))) (simp (lt-ltb _ _ h)) w

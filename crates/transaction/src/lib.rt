@@ -25,5 +25,5 @@ pub use limit::max_inline_extent_item;
 pub use record_index::record_of;
 pub use shared_adds::{shared_add_inline_size, shared_add_item, shared_add_key};
 
-// Question 17 is not asked: a planned body has at most 65,564 bytes.
+// Question 17 is not asked: a planned body has at most 65,564 bytes. No `Option`: this limit needs no case of its own.
 const NO_LIMIT: usize = 65564;

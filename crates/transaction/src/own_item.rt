@@ -77,6 +77,7 @@ impl<'a> OwnItem<'a> {
     }
 
     // One off the record's total; the block reference's item goes.
+    #[tactic(auto, unfolding(crate::specs::Drops::held_at))]
     fn drop_block(self, out: &mut [u8]) -> Result<Edited, Refusal>
         ensures { Answered (bind (lower_total (data_of self.entry.sheet.now self.entry.target.start self.entry.target.end)) (held_at (length out.old) self.entry.sheet.now self.entry.target self.entry.from self.entry.to 0 remove)) result out.old out.new }
     {
@@ -86,6 +87,7 @@ impl<'a> OwnItem<'a> {
     }
 
     // The amount off the record's total, then off the shared reference's item, which counts `standing`: with its last count it goes.
+    #[tactic(auto, unfolding(crate::specs::Drops::held_at, format::specs::Ledger::less_item))]
     fn drop_part(self, standing: u32, amount: u32, out: &mut [u8]) -> Result<Edited, Refusal>
         ensures { Answered (bind (on_total (data_of self.entry.sheet.now self.entry.target.start self.entry.target.end) (lowered_by_part amount standing)) (held_at (length out.old) self.entry.sheet.now self.entry.target self.entry.from self.entry.to (standing - amount) (less_item standing amount))) result out.old out.new }
     {
