@@ -2,13 +2,13 @@
 use mathlib.Core.Path.{◌≡◌, refl, sym, ap, ap₂, ◌∙◌, subst}
 use mathlib.Core.Bool.{Bool, true, false, ◌&&◌, cond}
 use mathlib.Core.List.{List}
-use Prim.Native.Nat.{ℕ, ◌+◌, ◌-◌, ◌≤◌, ◌<◌}
+use Prim.Native.Nat.{ℕ, ◌+◌, ◌-◌, ◌≤◌}
 use native.Mathlib.Omega.{arith}
 use lib.Dec.{T, leb, eqb, eqb→eq, leb→le}
 use lib.ListN.{length}
 use lib.Seq.{take_all}
 use mir.Facts.{and_yes}
-use borrow.Author.Tests.{lt-ltb, le-ltb, eqb-true}
+use borrow.Author.Tests.{eqb-true}
 use Rattle.fields.specs.Lists.{same}
 use Rattle.fields.specs.Numbers.{le, le_bytes, words}
 use Rattle.fields.specs.Parts.{part, written}
@@ -18,9 +18,8 @@ use Rattle.format.specs.declared.Edited.{Edited}
 use Rattle.format.specs.declared.Refusal.{Refusal}
 use Rattle.format.specs.declared.Edited.TheVariants.{Absent as NoMatch}
 use Rattle.format.specs.Questions.{Answer, absent, refused, remove, accepted, ask, bind, lent, edited_of, decides, Answered}
-use Rattle.format.specs.Bodies.{triple, body_fits, on_head, lowered_by_one, lowered_by_part, on_total, lower_total, keyed_count, drop_keyed_data_ref}
+use Rattle.format.specs.Bodies.{triple, body_fits, on_head, lowered_by_one, on_total, lower_total, keyed_count, drop_keyed_data_ref}
 use Rattle.format.specs.References.{total_of}
-use Rattle.format.specs.Ledger.{less_item}
 use Rattle.format.proofs.Answers.{ask-ok, bind_ok, accepted-inj, refused-not, absent-not, remove-not}
 use Rattle.format.proofs.Decisions.{decides-ask, decides-bind}
 use Rattle.backref.specs.declared.plan.BodyEdit.{BodyEdit}
@@ -30,7 +29,7 @@ use Rattle.backref.specs.Plans.{edited, plan_answer, Planned}
 use Rattle.backref.proofs.Outcomes.{Edits}
 use Rattle.record_edit.specs.declared.RecordAt.{RecordAt}
 use Rattle.record_edit.specs.Records.{data_of}
-use Rattle.transaction.specs.Drops.{gone, new_count, held_plan, held_at}
+use Rattle.transaction.specs.Drops.{held_at}
 use Rattle.transaction.proofs.Rewrites.{last-four}
 
 -- ---- the item's own drop
@@ -148,19 +147,6 @@ module _ (s : List ℕ) (target : RecordAt) (p : Result Plan Refusal)
         subst (λ (a : Answer (List ℕ)). Answered a (Ok NoMatch) old old)
         (ap (λ (a : Answer (List ℕ)). bind a (at_item absent)) (sym (accepts e).1) ∙ by-plan f)
         (record { result = refl; output = refl })
-
-    pub item-goes : (r : Result Edited Refusal) (old new : List ℕ) → q ≡ Ok Remove → Answered (held_plan room (target.item_count - 1) s target p (gone from to)) r old new
-        → Answered answer r old new
-    unfolding plan_answer held_at
-    item-goes r old new f w = subst (λ (a : Answer (List ℕ)). Answered a r old new) (by-plan f) w
-
-    pub item-counts : (count : ℕ) (r : Result Edited Refusal) (old new : List ℕ) {e : BodyEdit} → q ≡ Ok (Edit e) → count ≡ le (part (to - 4) 4 s)
-        → Answered (held_plan room target.item_count s target p (new_count to (count - 1))) r old new
-        → Answered answer r old new
-    unfolding plan_answer held_at
-    item-counts count r old new f e w =
-        subst (λ (a : Answer (List ℕ)). Answered a r old new)
-        (ap (λ (n : ℕ). held_plan room target.item_count s target p (new_count to (n - 1))) e ∙ by-plan f) w
 
 -- what stands there counts at least one
 pub one-counted : (s : List ℕ) (from to count : ℕ) (name : DataRef) (q : Result Plan Refusal) {edit : BodyEdit} → from + 21 ≤ to → to ≤ length s

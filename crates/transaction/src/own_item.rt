@@ -100,6 +100,7 @@ impl<'a> OwnItem<'a> {
     }
 
     // One off the record's total, then one count off the data reference's item: at count 1 the item goes.
+    #[tactic(auto, unfolding(crate::specs::Drops::held_at, backref::specs::Plans::plan_answer, format::specs::Questions::bind))]
     fn drop_count(self, name: DataRef, out: &mut [u8]) -> Result<Edited, Refusal>
         ensures { Answered (bind (lower_total (data_of self.entry.sheet.now self.entry.target.start self.entry.target.end)) (held_at (length out.old) self.entry.sheet.now self.entry.target self.entry.from self.entry.to (le (part (self.entry.to - 4) 4 self.entry.sheet.now) - 1) (drop_keyed_data_ref (data_of self.entry.sheet.now self.entry.from self.entry.to) name))) result out.old out.new }
     {

@@ -2,7 +2,7 @@ use mathlib.Core.Path.{ap, ◌∙◌}
 use lib.ListN.{length}
 use Rattle.std.specs.Prelude.{Ok}
 use Rattle.format.proofs.Answers.{handed_on}
-use Rattle.transaction.proofs.ItemDrops.{total-refused, item_refused, item-absent, item-goes, item-counts, one-counted}
+use Rattle.transaction.proofs.ItemDrops.{total-refused, item_refused, item-absent, one-counted}
 use Rattle.transaction.proofs.own_item.OwnItem.drop_count.Goals as goal
 
 pub returns-in_err-rest : goal.returns-in_err-rest
@@ -23,13 +23,3 @@ pub returns-in-Absent : goal.returns-in-Absent
 returns-in-Absent c =
     item-absent c.args.self.sheet.now c.args.self.target _ c.plan_total-rest.ensures.planned c.args.self.from c.args.self.to c.args.name (length c.args.out.now) _
     c.plan_drop_keyed.ensures.planned c.args.out.now c.in_ok-rest.was (c.in_ok-plan_drop_keyed.was ∙ ap Ok c.in-Absent.is)
-
-pub returns-in-Remove : goal.returns-in-Remove
-returns-in-Remove c =
-    item-goes c.args.self.sheet.now c.args.self.target _ c.plan_total-rest.ensures.planned c.args.self.from c.args.self.to c.args.name (length c.args.out.now) _
-    c.plan_drop_keyed.ensures.planned _ c.args.out.now _ (c.in_ok-plan_drop_keyed.was ∙ ap Ok c.in-Remove.is) c.put_without.ensures
-
-pub returns-in-Edit : goal.returns-in-Edit
-returns-in-Edit c =
-    item-counts c.args.self.sheet.now c.args.self.target _ c.plan_total-rest.ensures.planned c.args.self.from c.args.self.to c.args.name (length c.args.out.now) _
-    c.plan_drop_keyed.ensures.planned _ _ c.args.out.now _ (c.in_ok-plan_drop_keyed.was ∙ ap Ok c.in-Edit.is) c.get_u32_le-count.ensures c.put_count.ensures
