@@ -14,7 +14,7 @@ use Rattle.fields.specs.Numbers.{be_bytes}
 use Rattle.fields.specs.Parts.{part, written, spliced}
 use Rattle.fields.proofs.Lists.{T-eq}
 use Rattle.fields.proofs.Numbers.{length-be_bytes}
-use Rattle.fields.proofs.Parts.{part-all, part-rest, written-pair, written_next, written-front, length-spliced}
+use Rattle.fields.proofs.Parts.{part-rest, written-pair, written_next, written-front, length-spliced}
 use Rattle.format.specs.declared.Key.{Key}
 use Rattle.format.specs.declared.Edited.{Edited}
 use Rattle.format.specs.declared.Edited.TheVariants.{Written}
@@ -71,33 +71,27 @@ written-more a b out one two n e h e₁ e₂ =
     e₂ ∙ ap (written n b) e₁ ∙ written_next a b out n (sym e) h'
 
 module _ (s : List ℕ) (p q : ℕ) (fits : p ≤ length s) where
-  front-is : part 0 (p - 0) s ≡ take p s
-  front-is = let e : p - 0 ≡ p = omega arith in ap (λ (n : ℕ). take n s) e
-
   pub item-writes : (i : Item) (out o₁ o₂ o₃ o₄ : List ℕ) (r₁ r₂ r₃ : ℕ)
       → p + (21 + length i.bytes) + (length s - q) ≤ length out
-      → (r₁ ≡ 0 + (p - 0)) × (o₁ ≡ written 0 (part 0 (p - 0) s) out)
+      → (r₁ ≡ 0 + length (take p s)) × (o₁ ≡ written 0 (take p s) out)
       → (r₂ ≡ r₁ + 21) × (o₂ ≡ written r₁ (head_bytes i.key (length i.bytes)) o₁)
-      → (r₃ ≡ r₂ + (length i.bytes - 0)) × (o₃ ≡ written r₂ (part 0 (length i.bytes - 0) i.bytes) o₂)
+      → (r₃ ≡ r₂ + length i.bytes) × (o₃ ≡ written r₂ i.bytes o₂)
       → o₄ ≡ written r₃ (part q (length s - q) s) o₃
       → o₄ ≡ written 0 (spliced p q (item_bytes i) s) out
   item-writes i out o₁ o₂ o₃ o₄ r₁ r₂ r₃ room e₁ e₂ e₃ e₄ =
       let h : List ℕ = head_bytes i.key (length i.bytes) in
       let d : List ℕ = i.bytes in
       let l₁ : length (take p s) ≡ p = length-take-le p s fits in
-      let l₂ : length (take p s ++ h) ≡ p + 21 = length-append (take p s) h ∙ omega (arith, l₁, length-head i.key (length d)) in
-      let l₃ : length ((take p s ++ h) ++ d) ≡ p + 21 + length d = length-append (take p s ++ h) d ∙ omega (arith, l₂) in
+      let n₁ : r₁ ≡ length (take p s) = omega (arith, e₁.0) in
       let lh : length h ≡ 21 = length-head i.key (length d) in
-      let whole : part 0 (length d - 0) d ≡ d = part-all (length d - 0) d (omega arith) in
-      let w₁ : o₁ ≡ written 0 (take p s) out = e₁.1 ∙ ap (λ (l : List ℕ). written 0 l out) front-is in
-      let n₁ : r₁ ≡ length (take p s) = omega (arith, e₁.0, l₁) in
+      let l₂ : length (take p s ++ h) ≡ p + 21 = length-append (take p s) h ∙ omega (arith, l₁, lh) in
+      let l₃ : length ((take p s ++ h) ++ d) ≡ p + 21 + length d = length-append (take p s ++ h) d ∙ omega (arith, l₂) in
       let h₂ : length (take p s) + length h ≤ length out = omega (arith, l₁, lh, room) in
-      let w₂ : o₂ ≡ written 0 (take p s ++ h) out = written-more (take p s) h out o₁ o₂ r₁ n₁ h₂ w₁ e₂.1 in
-      let n₂ : r₂ ≡ length (take p s ++ h) = omega (arith, e₁.0, e₂.0, l₂) in
+      let w₂ : o₂ ≡ written 0 (take p s ++ h) out = written-more (take p s) h out o₁ o₂ r₁ n₁ h₂ e₁.1 e₂.1 in
+      let n₂ : r₂ ≡ length (take p s ++ h) = omega (arith, e₁.0, e₂.0, l₁, l₂) in
       let h₃ : length (take p s ++ h) + length d ≤ length out = omega (arith, l₂, room) in
-      let w₃ : o₃ ≡ written 0 ((take p s ++ h) ++ d) out =
-      written-more (take p s ++ h) d out o₂ o₃ r₂ n₂ h₃ w₂ (e₃.1 ∙ ap (λ (l : List ℕ). written r₂ l o₂) whole) in
-      let n₃ : r₃ ≡ length ((take p s ++ h) ++ d) = omega (arith, e₁.0, e₂.0, e₃.0, l₃) in
+      let w₃ : o₃ ≡ written 0 ((take p s ++ h) ++ d) out = written-more (take p s ++ h) d out o₂ o₃ r₂ n₂ h₃ w₂ e₃.1 in
+      let n₃ : r₃ ≡ length ((take p s ++ h) ++ d) = omega (arith, n₂, e₃.0, l₂, l₃) in
       let h₄ : length ((take p s ++ h) ++ d) + length (drop q s) ≤ length out = omega (arith, l₃, room, length-drop q s) in
       let w₄ : o₄ ≡ written 0 (((take p s ++ h) ++ d) ++ drop q s) out =
       written-more ((take p s ++ h) ++ d) (drop q s) out o₃ o₄ r₃ n₃ h₄ w₃ (e₄ ∙ ap (λ (l : List ℕ). written r₃ l o₃) (part-rest q s)) in
@@ -106,15 +100,14 @@ module _ (s : List ℕ) (p q : ℕ) (fits : p ≤ length s) where
       (append_assoc (take p s) h d ∙ ap (λ (l : List ℕ). take p s ++ l) (sym (item-head i)))
 
   pub rest-writes : (out o₁ o₂ : List ℕ) (r₁ : ℕ) → p + (length s - q) ≤ length out
-      → (r₁ ≡ 0 + (p - 0)) × (o₁ ≡ written 0 (part 0 (p - 0) s) out)
+      → (r₁ ≡ 0 + length (take p s)) × (o₁ ≡ written 0 (take p s) out)
       → o₂ ≡ written r₁ (part q (length s - q) s) o₁
       → o₂ ≡ written 0 (spliced p q [] s) out
   rest-writes out o₁ o₂ r₁ room e₁ e₂ =
       let l₁ : length (take p s) ≡ p = length-take-le p s fits in
-      let n₁ : r₁ ≡ length (take p s) = omega (arith, e₁.0, l₁) in
+      let n₁ : r₁ ≡ length (take p s) = omega (arith, e₁.0) in
       let h₂ : length (take p s) + length (drop q s) ≤ length out = omega (arith, l₁, room, length-drop q s) in
-      written-more (take p s) (drop q s) out o₁ o₂ r₁ n₁ h₂ (e₁.1 ∙ ap (λ (l : List ℕ). written 0 l out) front-is)
-      (e₂ ∙ ap (λ (l : List ℕ). written r₁ l o₁) (part-rest q s))
+      written-more (take p s) (drop q s) out o₁ o₂ r₁ n₁ h₂ e₁.1 (e₂ ∙ ap (λ (l : List ℕ). written r₁ l o₁) (part-rest q s))
       ∙ ap (λ (l : List ℕ). written 0 (l ++ drop q s) out) (sym (append-nil (take p s)))
 
   pub item-long : (i : Item) → length (spliced p q (item_bytes i) s) ≡ p + (21 + length i.bytes) + (length s - q)

@@ -13,7 +13,7 @@ pub use checking::{check, nodesize_fits};
 pub use finding::{find, follows};
 use format::Key;
 pub use search::seek;
-pub use splicing::{append, append_head, put_item, remove_item, room_for};
+pub use splicing::{Splice, append, append_head, room_for};
 pub use stepping::{is_past, key_at, size_after, size_at};
 
 // Which item is wanted.

@@ -18,6 +18,7 @@ pub fn append(src: &[u8], from: usize, to: usize, out: &mut [u8], at: usize) -> 
     fields::append(&src[from..to], out, at)
 }
 
+// One byte, as `be_bytes` says it. Not `put_u8` where it is called: there no answer knows that the field of a key is a byte.
 fn put_kind(out: &mut [u8], at: usize, kind: u8)
     requires { at + 1 ≤ length out.old }
     ensures { out.new ≡ written at (be_bytes 1 kind) out.old }
@@ -45,55 +46,50 @@ pub fn room_for(room: usize, size: usize, count: usize) -> bool
     size <= room && size <= MOST_SHEET && count <= MOST_ITEMS
 }
 
-// The bytes of `sheet` with an item in place of those from `start` up to `end`.
-fn write_item(sheet: &[u8], start: usize, end: usize, key: Key, body: &[u8], out: &mut [u8])
-    requires { (start ≤ end) × (end ≤ length sheet.now) × (length sheet.now ≤ most_sheet) × (length body.now ≤ most_data) × (start + (item_head + length body.now) + (length sheet.now - end) ≤ length out.old) }
-    ensures { out.new ≡ written 0 (spliced start end (item_bytes (record { key = key; bytes = body.now })) sheet.now) out.old }
-{
-    let n = body.len();
-    let head = append(sheet, 0, start, out, 0);
-    let inside = append_head(key, n, out, head);
-    let rest = append(body, 0, n, out, inside);
-    append(sheet, end, sheet.len(), out, rest);
+// What of a list gives way: its bytes from `start` up to `end`.
+#[derive(Clone, Copy)]
+pub struct Splice<'a> {
+    pub sheet: &'a [u8],
+    pub start: usize,
+    pub end: usize,
+    ghost inside: { (start ≤ end) × (end ≤ length sheet.now) × (length sheet.now ≤ most_sheet) },
 }
 
-// An item in place of the bytes from `start` up to `end`, into `out`. `count` is the number of items that this makes.
-pub fn put_item(
-    sheet: &[u8],
-    start: usize,
-    end: usize,
-    count: usize,
-    key: Key,
-    body: &[u8],
-    out: &mut [u8],
-) -> Result<Edited, Refusal>
-    requires { (start ≤ end) × (end ≤ length sheet.now) × (length sheet.now ≤ most_sheet) × (length body.now ≤ most_data) }
-    ensures { Answered (held_bytes (length out.old) count (spliced start end (item_bytes (record { key = key; bytes = body.now })) sheet.now)) result out.old out.new }
-{
-    let size = start + (ITEM_HEAD + body.len()) + (sheet.len() - end);
-    if room_for(out.len(), size, count) {
-        write_item(sheet, start, end, key, body, out);
-        return Ok(Edited::Written(size));
+impl Splice<'_> {
+    // The bytes of the list with an item there.
+    fn write(self, key: Key, body: &[u8], out: &mut [u8])
+        requires { (length body.now ≤ most_data) × (self.start + (item_head + length body.now) + (length self.sheet.now - self.end) ≤ length out.old) }
+        ensures { out.new ≡ written 0 (spliced self.entry.start self.entry.end (item_bytes (record { key = key; bytes = body.now })) self.entry.sheet.now) out.old }
+    {
+        let head = fields::append(&self.sheet[..self.start], out, 0);
+        let inside = append_head(key, body.len(), out, head);
+        let rest = fields::append(body, out, inside);
+        fields::append(&self.sheet[self.end..], out, rest);
     }
-    Err(Refusal::NO_ROOM)
-}
 
-// The bytes of `sheet` without those from `start` up to `end`, into `out`. `count` is the number of items that are left.
-pub fn remove_item(
-    sheet: &[u8],
-    start: usize,
-    end: usize,
-    count: usize,
-    out: &mut [u8],
-) -> Result<Edited, Refusal>
-    requires { (start ≤ end) × (end ≤ length sheet.now) × (length sheet.now ≤ most_sheet) }
-    ensures { Answered (held_bytes (length out.old) count (spliced start end [] sheet.now)) result out.old out.new }
-{
-    let size = start + (sheet.len() - end);
-    if room_for(out.len(), size, count) {
-        let rest = append(sheet, 0, start, out, 0);
-        append(sheet, end, sheet.len(), out, rest);
-        return Ok(Edited::Written(size));
+    // An item goes there, and the list into `out`. `count` is the number of items that this makes.
+    pub fn put(self, count: usize, key: Key, body: &[u8], out: &mut [u8]) -> Result<Edited, Refusal>
+        requires { length body.now ≤ most_data }
+        ensures { Answered (held_bytes (length out.old) count (spliced self.entry.start self.entry.end (item_bytes (record { key = key; bytes = body.now })) self.entry.sheet.now)) result out.old out.new }
+    {
+        let size = self.start + (ITEM_HEAD + body.len()) + (self.sheet.len() - self.end);
+        if !room_for(out.len(), size, count) {
+            return Err(Refusal::NO_ROOM);
+        }
+        self.write(key, body, out);
+        Ok(Edited::Written(size))
     }
-    Err(Refusal::NO_ROOM)
+
+    // Nothing goes there, and the list into `out`. `count` is the number of items that are left.
+    pub fn remove(self, count: usize, out: &mut [u8]) -> Result<Edited, Refusal>
+        ensures { Answered (held_bytes (length out.old) count (spliced self.entry.start self.entry.end [] self.entry.sheet.now)) result out.old out.new }
+    {
+        let size = self.start + (self.sheet.len() - self.end);
+        if !room_for(out.len(), size, count) {
+            return Err(Refusal::NO_ROOM);
+        }
+        let rest = fields::append(&self.sheet[..self.start], out, 0);
+        fields::append(&self.sheet[self.end..], out, rest);
+        Ok(Edited::Written(size))
+    }
 }

@@ -8,7 +8,7 @@ ghost use Rattle.leaf_edit.specs.Insertions.{insert_at_of, sizes_fit, put_new};
 
 use super::InsertAt;
 use format::{Edited, Key, MOST_DATA, Refusal};
-use item_list::ItemQuery;
+use item_list::{ItemQuery, Splice};
 
 // The list without the item of a key.
 pub fn delete(sheet: &[u8], key: Key, out: &mut [u8]) -> Result<Edited, Refusal>
@@ -19,7 +19,12 @@ pub fn delete(sheet: &[u8], key: Key, out: &mut [u8]) -> Result<Edited, Refusal>
     if item_list::is_past(sheet, place.start, key) {
         return Err(Refusal::MISSING);
     }
-    item_list::remove_item(sheet, place.start, place.end, listing.count - 1, out)
+    let item = Splice {
+        sheet,
+        start: place.start,
+        end: place.end,
+    };
+    item.remove(listing.count - 1, out)
 }
 
 // Questions 1, 2, 3 and 9: `three` says whether question 3 is answered with yes.
@@ -82,15 +87,12 @@ fn put_new(
             return Err(Refusal::NO_FIT);
         }
     }
-    item_list::put_item(
+    let between = Splice {
         sheet,
-        target.at,
-        target.at,
-        target.count + 1,
-        key,
-        body,
-        out,
-    )
+        start: target.at,
+        end: target.at,
+    };
+    between.put(target.count + 1, key, body, out)
 }
 
 // The list with one more item, however large.

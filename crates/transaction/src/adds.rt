@@ -11,6 +11,7 @@ use super::limit;
 use backref::{Plan, TotalChange};
 use format::{Edited, ITEM_HEAD, Key, Keyed, Refusal, SharedRef};
 use inline_refs::RefName;
+use item_list::Splice;
 
 // What question 17 asks of a body that had `size` bytes. Asked only if it grew, the body may stay as long as it was.
 #[tactic(auto, unfolding(crate::specs::Keyed::limit_for))]
@@ -116,7 +117,12 @@ pub fn apply_keyed_add(
     };
     let target = found.target;
     if is_unread(keyed, count, as_item) {
-        return item_list::remove_item(sheet, 0, 0, target.item_count, out);
+        let nothing = Splice {
+            sheet,
+            start: 0,
+            end: 0,
+        };
+        return nothing.remove(target.item_count, out);
     }
     let body = &sheet[target.start + ITEM_HEAD..target.end];
     let plan = plan_keyed(target.key, body, keyed, count, as_item);

@@ -44,11 +44,11 @@ goes c =
 pub overflow_sub-listing : goal.overflow_sub-listing
 overflow_sub-listing c = let d = goes (goal.at.overflow_sub-listing c).Else-is_past in let l = d.some-items in omega arith
 
-pub remove_item-requires : goal.remove_item-requires
-remove_item-requires c = let k = (goal.at.remove_item-requires c).Else-is_past in let d = goes k in (d.ordered, d.within, (found k).list.small)
+pub invariant_of-item : goal.invariant_of-item
+invariant_of-item c = let k = (goal.at.invariant_of-item c).Else-is_past in let d = goes k in record { inside = (d.ordered, d.within, (found k).list.small) }
 
 pub returns : goal.returns
 returns c =
     let a = c.args in
     let d = goes (goal.at.returns c).Else-is_past in
-    answered-by (delete a.sheet.now a.key) (length a.out.now) _ d.items _ _ a.out.now _ d.result d.bytes-are d.count d.fit c.remove_item.ensures
+    answered-by (delete a.sheet.now a.key) (length a.out.now) _ d.items _ _ a.out.now _ d.result d.bytes-are d.count d.fit c.remove.ensures

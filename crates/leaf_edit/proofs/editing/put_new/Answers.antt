@@ -55,12 +55,18 @@ overflow_add-target c =
     let l = i.few in
     omega arith
 
-pub put_item-requires : goal.put_item-requires
-put_item-requires c =
+pub invariant_of-between : goal.invariant_of-between
+invariant_of-between c =
+    let a = c.args in
+    let i = placed a.sheet.now (record { key = a.key; bytes = a.body.now }) a.nodesize c.sizes_fit.ensures c.insert_at.ensures c.type_inv.sheet c.in_ok-target.was in
+    record { inside = (omega arith, i.within, i.small) }
+
+pub put-requires : goal.put-requires
+put-requires c =
     let a = c.args in
     let new : Item = record { key = a.key; bytes = a.body.now } in
     let i = placed a.sheet.now new a.nodesize c.sizes_fit.ensures c.insert_at.ensures c.type_inv.sheet c.in_ok-target.was in
-    (omega arith, i.within, i.small, put-short a.sheet.now new _ _ a.nodesize i)
+    put-short a.sheet.now new _ _ a.nodesize i
 
 -- question 18 is answered with yes, or not asked
 pub returns : goal.returns
@@ -71,4 +77,4 @@ returns c =
     let done : put_new a.nodesize a.sheet.now new ≡ accepted i.items =
     elim c.match-nodesize.branch [ in-Some+else-nodesize-space w ↦ put-within a.sheet.now new _ _ a.nodesize _ i w.in-Some.is w.if-nodesize-space.false | in_default w ↦ put-unbounded a.sheet.now new _ _ a.nodesize i w.in_default.is ] in
     answered-by (put_new a.nodesize a.sheet.now new) (length a.out.now) _ i.items _ _ a.out.now _ done i.bytes-are i.count
-    (i.fit (put-fits a.sheet.now new _ _ a.nodesize i)) c.put_item.ensures
+    (i.fit (put-fits a.sheet.now new _ _ a.nodesize i)) c.put.ensures

@@ -44,15 +44,15 @@ slice_bounds-body-end c = (stood (goal.at.slice_bounds-body-end c).In-Some).with
 pub put_record-requires-clause-item_head_bound : goal.put_record-requires-clause-item_head_bound
 put_record-requires-clause-item_head_bound c = let d = stood (goal.at.put_record-requires-clause-item_head_bound c).In-Some in (d.ordered, d.within, d.small)
 
-pub remove_item-requires : goal.remove_item-requires
-remove_item-requires c = let d = stood (goal.at.remove_item-requires c).In-Some in (omega arith, omega arith, d.small)
+pub invariant_of-nothing : goal.invariant_of-nothing
+invariant_of-nothing c = let d = stood (goal.at.invariant_of-nothing c).In-Some in record { inside = (omega arith, omega arith, d.small) }
 
 pub returns-then-is_unread : goal.returns-then-is_unread
 returns-then-is_unread c =
     let a = c.args in
     let p = (goal.at.returns-then-is_unread c).In-Some in
     keyed-add-kept a.nodesize (length a.out.now) a.keyed a.count a.as_item (bytes p) (found p) _ a.out.now _
-    (sym c.is_unread.ensures ∙ c.if-is_unread.true) c.remove_item.ensures
+    (sym c.is_unread.ensures ∙ c.if-is_unread.true) c.remove.ensures
 
 pub returns : goal.returns
 returns c =
