@@ -1,7 +1,6 @@
 // The writer of an edit: question 21, then one splice of the bytes from left to right. The pieces are apart, so that a body which
 // is itself a splice can be written between head and suffix.
 ghost use Rattle.std.specs.Prelude.{◌≡◌, [], ◌+◌, ◌-◌, ◌≤◌, length};
-ghost use Rattle.fields.specs.Numbers.{be_bytes};
 ghost use Rattle.fields.specs.Parts.{part, written, spliced};
 ghost use Rattle.format.specs.Constants.{item_head, most_data, most_sheet};
 ghost use Rattle.format.specs.Questions.{Answered};
@@ -11,19 +10,12 @@ ghost use Rattle.item_list.specs.ItemWrites.{head_bytes, room_for, held_bytes};
 use format::{Edited, ITEM_HEAD, Key, MOST_ITEMS, MOST_SHEET, Refusal};
 
 // The bytes of `src` from `from` up to `to` go to `out` at `at`. Returns the position past them.
+// Kept beside `fields::append`: with a part as argument a caller shows three bounds and the part's length, here one clause.
 pub fn append(src: &[u8], from: usize, to: usize, out: &mut [u8], at: usize) -> usize
     requires { (from ≤ to) × (to ≤ length src.now) × (to - from ≤ most_sheet) × (at + (to - from) ≤ length out.old) }
     ensures { (result ≡ at + (to - from)) × (out.new ≡ written at (part from (to - from) src.now) out.old) }
 {
     fields::append(&src[from..to], out, at)
-}
-
-// One byte, as `be_bytes` says it. Not `put_u8` where it is called: there no answer knows that the field of a key is a byte.
-fn put_kind(out: &mut [u8], at: usize, kind: u8)
-    requires { at + 1 ≤ length out.old }
-    ensures { out.new ≡ written at (be_bytes 1 kind) out.old }
-{
-    fields::put_u8(out, at, kind);
 }
 
 // The first 21 bytes of an item with `size` bytes of data go to `out` at `at`. Returns the position past them.
@@ -33,7 +25,7 @@ pub fn append_head(key: Key, size: usize, out: &mut [u8], at: usize) -> usize
 {
     fields::put_u32_be(out, at, (17 + size) as u32);
     fields::put_u64_be(out, at + 4, key.objectid);
-    put_kind(out, at + 12, key.kind);
+    fields::put_u8(out, at + 12, key.kind);
     fields::put_u64_be(out, at + 13, key.offset);
     at + ITEM_HEAD
 }
