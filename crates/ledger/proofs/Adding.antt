@@ -11,8 +11,10 @@ use borrow.Author.Tests.{ne_eqb}
 use Rattle.format.specs.declared.Keyed.{Keyed}
 use Rattle.format.specs.declared.Keyed.TheVariants.{Block as KeyedBlock, Data as KeyedData}
 use Rattle.format.specs.declared.SharedRef.{SharedRef}
+use Rattle.std.specs.Prelude.{Result}
 use Rattle.format.specs.declared.Edited.{Edited}
-use Rattle.format.specs.Questions.{Answer, refused, absent, remove, accepted, ask, bind, also, Answered}
+use Rattle.format.specs.declared.Refusal.{Refusal}
+use Rattle.format.specs.Questions.{Answer, refused, absent, remove, accepted, ask, bind, also, denied, Answered}
 use Rattle.format.specs.Bodies.{add_inline_tree_ref}
 use Rattle.format.specs.Items.{Item, held_sheet, put_back}
 use Rattle.format.specs.Apply.{inline_limit, keyed_body, apply_keyed_add, shared_body, apply_shared_add}
@@ -23,10 +25,8 @@ use Rattle.inline_refs.specs.declared.ref_name.RefName.TheVariants.{Block, Data,
 use Rattle.inline_refs.specs.Scans.{kind_of, fields_of}
 use Rattle.item_list.specs.Steps.{list_items}
 use Rattle.backref.specs.declared.plan.Plan.{Plan}
-use Rattle.backref.specs.declared.plan.Outcome.TheVariants.{Refused}
-use Rattle.backref.specs.Plans.{plan_answer, Planned}
+use Rattle.backref.specs.Plans.{plan_answer, PlanIn, Planned}
 use Rattle.backref.specs.ByName.{add_inline}
-use Rattle.backref.proofs.Outcomes.{plan-refused}
 use Rattle.record_edit.specs.Records.{data_of, held_edit, nothing, edited_sheet, StandsFor}
 use Rattle.transaction.specs.Keyed.{limit_for}
 use Rattle.transaction.proofs.KeyedAdditions.{either}
@@ -40,14 +40,14 @@ use Rattle.transaction.proofs.Records.{put-limited}
 
 -- ---- the body
 
-module _ (i : Item) (w : RefName) (amount : ℕ) (plan : Plan) (b : Bool) (u : b ≡ left_unread w amount) where
-  pub body-unread : b ≡ true → plan.outcome ≡ Refused 10 → Planned plan i.bytes (added_body i w amount)
-  unfolding added_body
-  body-unread t h = plan-refused plan i.bytes (added_body i w amount) 10 h (rw (← u, t) refl)
+module _ (i : Item) (w : RefName) (amount : ℕ) (b : Bool) (u : b ≡ left_unread w amount) where
+  pub body-unread : b ≡ true → Planned (denied 10) i.bytes (added_body i w amount)
+  unfolding added_body plan_answer PlanIn
+  body-unread t = record { says = rw (← u, t) refl; inside = tt }
 
-  pub body-read : b ≡ false → Planned plan i.bytes (add_inline i.key.kind i.bytes w amount) → Planned plan i.bytes (added_body i w amount)
+  pub body-read : (plan : Result Plan Refusal) → b ≡ false → Planned plan i.bytes (add_inline i.key.kind i.bytes w amount) → Planned plan i.bytes (added_body i w amount)
   unfolding added_body
-  body-read f h = rw (← u, f) h
+  body-read plan f h = rw (← u, f) h
 
 -- ---- the record
 
@@ -129,7 +129,7 @@ module _ {s : List ℕ} {extent : ℕ} {target : RecordAt} (there : StandsFor s 
   add_is nodesize (SharedData parent) amount h = shared-is nodesize amount (name_in extent (SharedData parent)) (record { kind = 184; parent = parent })
 
   pub add-answered : T (are_bytes s) → (nodesize : ℕ) (w : RefName) (amount room : ℕ) → (kind_of w ≡ 176 → amount ≡ 1)
-      → (limit : ℕ) (grown : Bool) (plan asked : Plan) (r : Edited) (old new : List ℕ)
+      → (limit : ℕ) (grown : Bool) (plan asked : Result Plan Refusal) (r : Result Edited Refusal) (old new : List ℕ)
       → grown ≡ grown_only w
       → limit ≡ limit_for nodesize (target.end - (target.start + 21)) grown
       → Planned plan (data_of s target.start target.end) (added_body (record { key = target.key; bytes = data_of s target.start target.end }) w amount)

@@ -2,46 +2,38 @@
 use mathlib.Core.Path.{◌≡◌, refl, ◌∙◌}
 use mathlib.Core.Bool.{Bool, true, false}
 use mathlib.Core.List.{List}
-use Prim.Native.Nat.{ℕ, ◌≤◌, ◌<◌}
+use Prim.Native.Nat.{ℕ}
 use lib.Dec.{leb}
-use borrow.Author.Tests.{le-leb, lt-leb}
+use Rattle.std.specs.Prelude.{Result, Ok, Err}
+use Rattle.format.specs.declared.Refusal.{Refusal}
 use Rattle.format.specs.Questions.{Answer, refused, absent, remove, accepted, bind, also}
-use Rattle.backref.specs.declared.plan.Outcome.{Outcome}
-use Rattle.backref.specs.declared.plan.Outcome.TheVariants.{Edit, Absent, Remove, Refused}
 use Rattle.backref.specs.declared.plan.Plan.{Plan}
-use Rattle.backref.specs.Plans.{plan_outcome, plan_answer, PlanIn}
+use Rattle.backref.specs.declared.plan.Plan.TheVariants.{Edit, Absent, Remove}
+use Rattle.backref.specs.Plans.{plan_answer, PlanIn}
 use Rattle.ledger.specs.Posting.{first_no, AlsoAsked, AskedAdd}
 
 -- ---- of a plan
 
-pub first-other : (outcome : Outcome) (other refusal : ℕ) → outcome ≡ Refused other → other ≤ refusal → other ≡ first_no outcome refusal
-unfolding first_no
-first-other outcome other refusal e h = rw (e, le-leb other refusal h)
+answer-no : (p : Result Plan Refusal) (refusal : ℕ) (body : List ℕ) → refused (first_no p refusal) ≡ also false refusal (plan_answer p body)
+unfolding first_no plan_answer also
+answer-no (Ok (Edit edit)) refusal body = refl
+answer-no (Ok Absent) refusal body = refl
+answer-no (Ok Remove) refusal body = refl
+answer-no (Err other) refusal body = refl
 
-pub first-refusal : (outcome : Outcome) (other refusal : ℕ) → outcome ≡ Refused other → refusal < other → refusal ≡ first_no outcome refusal
-unfolding first_no
-first-refusal outcome other refusal e h = rw (e, lt-leb other refusal h)
-
-answer-no : (outcome : Outcome) (p : Plan) (refusal : ℕ) (body : List ℕ) → refused (first_no outcome refusal) ≡ also false refusal (plan_outcome outcome p body)
-unfolding first_no plan_outcome also
-answer-no Edit p refusal body = refl
-answer-no Absent p refusal body = refl
-answer-no Remove p refusal body = refl
-answer-no (Refused other) p refusal body = refl
-
-module _ (p : Plan) (yes : Bool) (refusal : ℕ) where
+module _ (p : Result Plan Refusal) (yes : Bool) (refusal : ℕ) where
   pub asked-yes : yes ≡ true → AlsoAsked p yes refusal p
   unfolding also
   asked-yes e = record { says = λ body. rw e refl; inside = λ body t. t }
 
-  pub asked-no : yes ≡ false → (r : Plan) (first : ℕ) → first ≡ first_no p.outcome refusal → r.outcome ≡ Refused first → AlsoAsked p yes refusal r
-  unfolding plan_answer plan_outcome PlanIn
-  asked-no e r first f o = record {
-    says = λ body. rw (e, o, f) (answer-no p.outcome p refusal body);
-    inside = λ body t. rw o tt;
+  pub asked-no : yes ≡ false → (first : Refusal) → first.number ≡ first_no p refusal → AlsoAsked p yes refusal (Err first)
+  unfolding plan_answer PlanIn
+  asked-no e first f = record {
+    says = λ body. rw (e, f) (answer-no p refusal body);
+    inside = λ body t. tt;
   }
 
-pub asked-add : (p q r : Plan) (none own : Bool) (amount : ℕ) → none ≡ own → AlsoAsked p (leb 1 amount) 10 q → AlsoAsked q none 9 r → AskedAdd p own amount r
+pub asked-add : (p q r : Result Plan Refusal) (none own : Bool) (amount : ℕ) → none ≡ own → AlsoAsked p (leb 1 amount) 10 q → AlsoAsked q none 9 r → AskedAdd p own amount r
 asked-add p q r none own amount e a b = record {
   says = λ body. b.says body ∙ (λ j. also (e j) 9 (a.says body j));
   inside = λ body t. b.inside body (a.inside body t);

@@ -4,7 +4,9 @@ use mathlib.Core.List.{List}
 use Prim.Native.Nat.{ℕ}
 use lib.Dec.{T}
 use Rattle.fields.specs.Lists.{all, Cut}
+use Rattle.std.specs.Prelude.{Result}
 use Rattle.format.specs.declared.Edited.{Edited}
+use Rattle.format.specs.declared.Refusal.{Refusal}
 use Rattle.format.specs.Questions.{Answer, Answered}
 use Rattle.format.specs.Items.{Item, held_sheet}
 use Rattle.format.specs.Apply.{on_record}
@@ -26,7 +28,7 @@ in-form (SharedBlock parent) items t = tt
 in-form (SharedData parent) items t = t
 
 module _ {s : List ℕ} {extent : ℕ} {target : RecordAt} (h : StandsFor s extent target) where
-  pub drop-answered : (call : Cut Item → Answer (List Item)) (room : ℕ) (r : Edited) (old new : List ℕ)
+  pub drop-answered : (call : Cut Item → Answer (List Item)) (room : ℕ) (r : Result Edited Refusal) (old new : List ℕ)
       → Answered (held_sheet room (on_key target.key (list_items s) call)) r old new → Answered (held_sheet room (on_record extent (list_items s) call)) r old new
   drop-answered call room r old new w =
       subst (λ (a : Answer (List Item)). Answered (held_sheet room a) r old new)

@@ -5,6 +5,7 @@ use mathlib.Core.Option.{Option, none}
 use mathlib.Core.List.{List}
 use Prim.Native.Nat.{ℕ}
 use native.Mathlib.Omega.{arith}
+use Rattle.std.specs.Prelude.{Option as Maybe, Some, None, Result, Ok, Err}
 use lib.Dec.{T, leb}
 use mir.Facts.{and_yes}
 use Rattle.fields.specs.Lists.{all, Cut, first_cut}
@@ -14,8 +15,8 @@ use Rattle.format.specs.declared.BlockRef.{BlockRef}
 use Rattle.format.specs.declared.DataRef.{DataRef}
 use Rattle.format.specs.declared.SharedRef.{SharedRef}
 use Rattle.format.specs.declared.Edited.{Edited}
-use Rattle.format.specs.declared.Edited.TheVariants.{Refused as Denied}
-use Rattle.format.specs.Questions.{Answer, refused, ask, bind, needed, also, Answered, accepted}
+use Rattle.format.specs.declared.Refusal.{Refusal}
+use Rattle.format.specs.Questions.{Answer, refused, ask, bind, needed, also, denied, Answered, accepted}
 use Rattle.format.specs.Items.{Item, nodesize_fits, held_sheet}
 use Rattle.format.specs.Apply.{record_of, on_record, apply_keyed_add, apply_shared_add}
 use Rattle.format.specs.Names.{Name, balanced}
@@ -27,7 +28,7 @@ use Rattle.item_list.specs.Steps.{list_items}
 use Rattle.item_list.proofs.ItemWrites.{answered-no}
 use Rattle.backref.specs.ByName.{SharedName, OneOff}
 use Rattle.transaction.specs.Drops.{drop_ref}
-use Rattle.ledger.specs.Posting.{add_change, unbalanced_or}
+use Rattle.ledger.specs.Posting.{add_change, balance_asked}
 use Rattle.record_edit.specs.declared.RecordAt.{RecordAt}
 use Rattle.record_edit.specs.declared.FoundRecord.{FoundRecord}
 use Rattle.record_edit.specs.Records.{StandsFor, asked_sheet, Finds}
@@ -74,12 +75,12 @@ module _ (nodesize extent : ℕ) (items : List Item) where
   unfolding changed
   drop-shared name w h amount = λ j. on_record extent items (λ c. sym (shared-drop name w h amount items c) j)
 
-pub as-drop : (nodesize room : ℕ) (items : List Item) {r : Edited} {old new : List ℕ} (change other : Change) (a : Answer (List Item)) → change ≡ other
+pub as-drop : (nodesize room : ℕ) (items : List Item) {r : Result Edited Refusal} {old new : List ℕ} (change other : Change) (a : Answer (List Item)) → change ≡ other
     → a ≡ changed nodesize other items → Answered (held_sheet room a) r old new → Answered (held_sheet room (changed nodesize change items)) r old new
 as-drop nodesize room items {r} {old} {new} change other a e is h =
     subst (λ (x : Answer (List Item)). Answered (held_sheet room x) r old new) (is ∙ ap (λ (x : Change). changed nodesize x items) (sym e)) h
 
-pub as-change : (nodesize room : ℕ) (items : List Item) {r : Edited} {old new : List ℕ} (change other : Change) → change ≡ other
+pub as-change : (nodesize room : ℕ) (items : List Item) {r : Result Edited Refusal} {old new : List ℕ} (change other : Change) → change ≡ other
     → Answered (held_sheet room (changed nodesize other items)) r old new → Answered (held_sheet room (changed nodesize change items)) r old new
 as-change nodesize room items {r} {old} {new} change other e h =
     subst (λ (x : Change). Answered (held_sheet room (changed nodesize x items)) r old new) (sym e) h
@@ -126,35 +127,36 @@ missing-record nodesize (DropData extent name) items e = no_record extent items 
 missing-record nodesize (DropShared extent name amount) items e = no_record extent items _ e
 
 -- the search for the change's extent
-pub finds-for : (s : List ℕ) (change : Change) {extent : ℕ} {a b : Bool} {r q : FoundRecord} → extent ≡ (name_of change).extent → a ≡ b → r ≡ q → Finds s extent a r
+pub finds-for : (s : List ℕ) (change : Change) {extent : ℕ} {a b : Bool} {r q : Result (Maybe FoundRecord) Refusal} → extent ≡ (name_of change).extent → a ≡ b → r ≡ q → Finds s extent a r
     → Finds s (name_of change).extent b q
 finds-for s change {extent} {a} {b} {r} {q} e f g h = subst (λ (x : ℕ). Finds s x b q) e (finds-as s extent f g h)
 
 -- ---- questions 1 to 4
 
-zero-yes : (b : Bool) → unbalanced_or b 0 ≡ 0 → b ≡ true
-unfolding unbalanced_or
-zero-yes true e = refl
-zero-yes false e = absurd (omega arith)
+-- whether the record was found or not, there is a list
+pub list_read : (s : List ℕ) (extent : ℕ) (three : Bool) (found : Maybe FoundRecord) → Finds s extent three (Ok found)
+    → asked_sheet s three ≡ accepted (list_items s)
+list_read s extent three None h = h.passed
+list_read s extent three (Some found) h = h.passed
 
-four-no : (b : Bool) (next : Answer (List Item)) → (unbalanced_or b 0 ≡ 0 → ⊥) → ask b 4 next ≡ refused (unbalanced_or b 0)
-unfolding unbalanced_or ask
-four-no true next h = absurd (h refl)
-four-no false next h = refl
+four-yes : (b : Bool) {u : Unit {0}} → Ok u ≡ balance_asked b → b ≡ true
+unfolding balance_asked
+four-yes true e = refl
+four-yes false e = let z : ◌≡◌ {A = ℕ} 0 1 = cc in absurd (omega arith)
 
-four-or-five : (b : Bool) (next : Answer (List Item)) → next ≡ refused 5 → ask b 4 next ≡ refused (unbalanced_or b 5)
-unfolding unbalanced_or ask
-four-or-five true next e = e
-four-or-five false next e = refl
+four-no : (b : Bool) (refusal : Refusal) (next : Answer (List Item)) → Err refusal ≡ balance_asked b → ask b 4 next ≡ refused refusal.number
+unfolding balance_asked ask
+four-no true refusal next e = let z : ◌≡◌ {A = ℕ} 0 1 = cc in absurd (omega arith)
+four-no false refusal next e = let z : record { number = 4 } ≡ refusal = cc in ap (λ (x : Refusal). refused x.number) z
 
 module _ (s : List ℕ) (nodesize : ℕ) (change : Change) (room : ℕ) where
   abbrev three : Bool
   three = nodesize_fits nodesize && kind_fits change
 
-  pub sheet-no : (k : ℕ) (old : List ℕ) → asked_sheet s three ≡ refused k → Answered (posted nodesize s change room) (Denied k) old old
+  pub sheet-no : (refusal : Refusal) (old : List ℕ) → asked_sheet s three ≡ refused refusal.number → Answered (posted nodesize s change room) (Err refusal) old old
   unfolding posted post
-  sheet-no k old e =
-      answered-no _ room k old (on-refused s three k (λ items. ask (balanced items) 4 (changed nodesize change items)) e)
+  sheet-no refusal old e =
+      answered-no _ room refusal.number old (on-refused s three refusal.number (λ items. ask (balanced items) 4 (changed nodesize change items)) e)
 
   module _ (passed : asked_sheet s three ≡ accepted (list_items s)) where
     asks : post nodesize s change ≡ ask (balanced (list_items s)) 4 (changed nodesize change (list_items s))
@@ -164,28 +166,28 @@ module _ (s : List ℕ) (nodesize : ℕ) (change : Change) (room : ℕ) where
     pub kind-yes : T (kind_fits change)
     kind-yes = (and_yes (nodesize_fits nodesize) (kind_fits change) (passed-shows s three passed).0).1
 
-    pub missing-answered : (k : ℕ) (old : List ℕ) → first_cut (record_of (name_of change).extent) (list_items s) ≡ none → k ≡ unbalanced_or (balanced (list_items s)) 5
-        → Answered (posted nodesize s change room) (Denied k) old old
+    pub unbalanced : (refusal : Refusal) (old : List ℕ) → Err refusal ≡ balance_asked (balanced (list_items s))
+        → Answered (posted nodesize s change room) (Err refusal) old old
     unfolding posted
-    missing-answered k old e is =
-        answered-no _ room k old
-        (asks ∙ four-or-five (balanced (list_items s)) _ (missing-record nodesize change (list_items s) e) ∙ ap refused (sym is))
+    unbalanced refusal old e = answered-no _ room refusal.number old (asks ∙ four-no (balanced (list_items s)) refusal _ e)
 
-    module _ (k : ℕ) (is : k ≡ unbalanced_or (balanced (list_items s)) 0) where
-      pub asked-no : (old : List ℕ) → (k ≡ 0 → ⊥) → Answered (posted nodesize s change room) (Denied k) old old
+    module _ {u : Unit {0}} (four : Ok u ≡ balance_asked (balanced (list_items s))) where
+      yes : balanced (list_items s) ≡ true
+      yes = four-yes (balanced (list_items s)) four
+
+      pub balanced-list : T (balanced (list_items s))
+      balanced-list = subst T (sym yes) tt
+
+      asks_change : post nodesize s change ≡ changed nodesize change (list_items s)
+      unfolding ask
+      asks_change = asks ∙ ap (λ (b : Bool). ask b 4 (changed nodesize change (list_items s))) yes
+
+      pub missing-answered : (old : List ℕ) → first_cut (record_of (name_of change).extent) (list_items s) ≡ none
+          → Answered (posted nodesize s change room) (denied 5) old old
       unfolding posted
-      asked-no old h = answered-no _ room k old (asks ∙ four-no (balanced (list_items s)) _ (λ z. h (is ∙ z)) ∙ ap refused (sym is))
+      missing-answered old e = answered-no _ room 5 old (asks_change ∙ missing-record nodesize change (list_items s) e)
 
-      module _ (zero_is : k ≡ 0) where
-        yes : balanced (list_items s) ≡ true
-        yes = zero-yes (balanced (list_items s)) (sym is ∙ zero_is)
-
-        pub balanced-list : T (balanced (list_items s))
-        balanced-list = subst T (sym yes) tt
-
-        pub post-answered : (r : Edited) (old new : List ℕ) → Answered (held_sheet room (changed nodesize change (list_items s))) r old new
-            → Answered (posted nodesize s change room) r old new
-        unfolding posted ask
-        post-answered r old new h =
-            subst (λ (a : Answer (List Item)). Answered (held_sheet room a) r old new)
-            (sym (asks ∙ ap (λ (b : Bool). ask b 4 (changed nodesize change (list_items s))) yes)) h
+      pub post-answered : (r : Result Edited Refusal) (old new : List ℕ) → Answered (held_sheet room (changed nodesize change (list_items s))) r old new
+          → Answered (posted nodesize s change room) r old new
+      unfolding posted
+      post-answered r old new h = subst (λ (a : Answer (List Item)). Answered (held_sheet room a) r old new) (sym asks_change) h

@@ -1,26 +1,25 @@
--- What the steps of a posting say: question 4; the name of a wanted reference, and the item at its key; the three changes that add
+-- What the steps of a posting say: question 4 as it is put; the name of a wanted reference, and the item at its key; the three changes that add
 -- a reference; and a planned edit with further questions put to it. Assumes nothing.
-use Rattle.std.specs.Prelude.{◌≡◌, Bool, true, false, ◌&&◌, cond, List, ℕ, leb, eqb}
+use Rattle.std.specs.Prelude.{◌≡◌, Bool, true, false, ◌&&◌, cond, List, ℕ, leb, eqb, Result, Ok, Err}
 use Rattle.fields.specs.Lists.{same}
 use Rattle.fields.specs.Numbers.{words}
 use Rattle.format.specs.declared.Change.{Change}
 use Rattle.format.specs.declared.Change.TheVariants.{AddBlock, AddData, AddShared}
-use Rattle.format.specs.Questions.{Answer, refused, also}
+use Rattle.format.specs.declared.Refusal.{Refusal}
+use Rattle.format.specs.Questions.{Answer, refused, also, denied}
 use Rattle.format.specs.Bodies.{triple}
 use Rattle.format.specs.Items.{Item}
 use Rattle.format.specs.Names.{Name}
 use Rattle.inline_refs.specs.declared.ref_name.RefName.{RefName}
 use Rattle.inline_refs.specs.declared.ref_name.RefName.TheVariants.{Block, Data, SharedBlock, SharedData}
 use Rattle.inline_refs.specs.Scans.{kind_of, fields_of}
-use Rattle.backref.specs.declared.plan.Outcome.{Outcome}
-use Rattle.backref.specs.declared.plan.Outcome.TheVariants.{Edit, Absent, Remove, Refused}
 use Rattle.backref.specs.declared.plan.Plan.{Plan}
 use Rattle.backref.specs.ByName.{shared_ref, add_inline}
 use Rattle.backref.specs.Plans.{plan_answer, PlanIn}
 
--- question 4, or another number where it is answered with yes
-unfoldable pub unbalanced_or : Bool → ℕ → ℕ
-unbalanced_or four otherwise = cond four otherwise 4
+-- question 4: its refusal, or none where it is answered with yes
+unfoldable pub balance_asked : Bool → Result (Unit {0}) Refusal
+balance_asked four = cond four (Ok tt) (denied 4)
 
 -- the name of a reference of an extent
 abbrev pub name_in : ℕ → RefName → Name
@@ -55,18 +54,16 @@ grown_only (SharedBlock parent) = false
 grown_only (SharedData parent) = false
 
 -- the refusal where the further question is answered with no
-unfoldable pub first_no : Outcome → ℕ → ℕ
-first_no Edit refusal = refusal
-first_no Absent refusal = refusal
-first_no Remove refusal = refusal
-first_no (Refused other) refusal = cond (leb other refusal) other refusal
+unfoldable pub first_no : Result Plan Refusal → ℕ → ℕ
+first_no (Ok plan) refusal = refusal
+first_no (Err other) refusal = cond (leb other.number refusal) other.number refusal
 
 -- one question
-pub record AlsoAsked (p : Plan) (yes : Bool) (refusal : ℕ) (r : Plan) : Type 0 where
+pub record AlsoAsked (p : Result Plan Refusal) (yes : Bool) (refusal : ℕ) (r : Result Plan Refusal) : Type 0 where
   pub says : (body : List ℕ) → plan_answer r body ≡ also yes refusal (plan_answer p body)
   pub inside : (body : List ℕ) → PlanIn p body → PlanIn r body
 
 -- questions 9 and 10 of an added reference: `own` says whether its name has no item of its own
-pub record AskedAdd (p : Plan) (own : Bool) (amount : ℕ) (r : Plan) : Type 0 where
+pub record AskedAdd (p : Result Plan Refusal) (own : Bool) (amount : ℕ) (r : Result Plan Refusal) : Type 0 where
   pub says : (body : List ℕ) → plan_answer r body ≡ also own 9 (also (leb 1 amount) 10 (plan_answer p body))
   pub inside : (body : List ℕ) → PlanIn p body → PlanIn r body

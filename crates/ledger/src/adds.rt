@@ -14,61 +14,60 @@ ghost use Rattle.ledger.specs.Posting.{name_in, AskedAdd, add_change, left_unrea
 
 use crate::{also, owned};
 use backref::Plan;
-use format::{EXTENT_DATA_REF, Edited, ITEM_HEAD, Key};
-use inline_refs::{OwnRank, Ranked, RefName};
+use format::{EXTENT_DATA_REF, Edited, ITEM_HEAD, Key, Refusal};
+use inline_refs::{Ranked, RefName};
 use record_edit::RecordAt;
 
 // Amount 0 of a data reference leaves the body unread.
 fn is_unread(wanted: RefName, amount: u32) -> bool
     ensures { result ≡ left_unread wanted amount }
 {
-    if inline_refs::kind_of(wanted) == EXTENT_DATA_REF {
-        return amount == 0;
-    }
-    false
+    inline_refs::kind_of(wanted) == EXTENT_DATA_REF && amount == 0
 }
 
 // The record's new body.
-fn plan_add(key: Key, body: &[u8], wanted: RefName, ranked: Ranked, amount: u32) -> Plan
+fn plan_add(
+    key: Key,
+    body: &[u8],
+    wanted: RefName,
+    ranked: Ranked,
+    amount: u32,
+) -> Result<Plan, Refusal>
     requires { RankedFor wanted ranked }
     ensures { Planned result body.now (added_body (record { key = key; bytes = body.now }) wanted amount) }
 {
     if is_unread(wanted, amount) {
-        return backref::refuse(10);
+        return Err(Refusal::AMOUNT);
     }
-    backref::plan_add(key.kind, body, wanted, OwnRank::Known(ranked), amount)
+    backref::plan_add(key.kind, body, wanted, Some(ranked), amount)
 }
 
 // Questions 9 and 10 of the added reference: no item of its own, and an amount above 0.
 fn ask_add(
-    plan: Plan,
+    plan: Result<Plan, Refusal>,
     sheet: &[u8],
     target: RecordAt,
     extent: u64,
     wanted: RefName,
     rank: u64,
     amount: u32,
-) -> Plan
+) -> Result<Plan, Refusal>
     requires stands_for { StandsFor sheet.now extent target }
     requires t { T (balanced (list_items sheet.now)) }
     requires rank_value { rank ≡ rank_of (kind_of wanted) (fields_of wanted) }
     ensures { AskedAdd plan (all (not_its_own (name_in extent wanted)) (list_items sheet.now)) amount result }
 {
     let none = owned::has_none(sheet, target, extent, wanted, rank);
-    let ten = also::plan_also(plan, 1 <= amount, 10);
-    also::plan_also(ten, none, 9)
+    let ten = also::plan_also(plan, 1 <= amount, Refusal::AMOUNT);
+    also::plan_also(ten, none, Refusal::STANDS)
 }
 
 // Whether question 17 is asked only if the body grew.
+#[tactic(auto, unfolding(crate::specs::Posting::grown_only))]
 fn grown_only(wanted: RefName) -> bool
     ensures { result ≡ grown_only wanted }
 {
-    match wanted {
-        RefName::Block(_) => true,
-        RefName::Data(_) => true,
-        RefName::SharedBlock(_) => false,
-        RefName::SharedData(_) => false,
-    }
+    matches!(wanted, RefName::Block(_) | RefName::Data(_))
 }
 
 // The reference added to the record that stands there. A block reference has amount 1.
@@ -80,7 +79,7 @@ pub fn add(
     wanted: RefName,
     amount: u32,
     out: &mut [u8],
-) -> Edited
+) -> Result<Edited, Refusal>
     requires stands_for { StandsFor sheet.now extent target }
     requires t { T (balanced (list_items sheet.now)) }
     requires amount_value { kind_of wanted ≡ 176 → amount ≡ 1 }

@@ -2,31 +2,29 @@
 ghost use Rattle.std.specs.Prelude.{◌≡◌};
 ghost use Rattle.ledger.specs.Posting.{first_no, AlsoAsked};
 
-use backref::{Outcome, Plan};
+use backref::Plan;
+use format::Refusal;
 
 // The refusal where the further question is answered with no: the lower number comes first.
-fn first_no(outcome: Outcome, refusal: u32) -> u32
-    ensures { result ≡ first_no outcome refusal }
+#[tactic(auto, unfolding(crate::specs::Posting::first_no))]
+fn first_no(plan: Result<Plan, Refusal>, refusal: Refusal) -> Refusal
+    ensures { result.number ≡ first_no plan refusal.number }
 {
-    match outcome {
-        Outcome::Refused(other) => {
-            if other <= refusal {
-                return other;
-            }
-            refusal
-        }
-        Outcome::Edit => refusal,
-        Outcome::Absent => refusal,
-        Outcome::Remove => refusal,
+    match plan {
+        Ok(_) => refusal,
+        Err(other) => other.min(refusal),
     }
 }
 
-pub fn plan_also(plan: Plan, yes: bool, refusal: u32) -> Plan
-    ensures { AlsoAsked plan yes refusal result }
+pub fn plan_also(
+    plan: Result<Plan, Refusal>,
+    yes: bool,
+    refusal: Refusal,
+) -> Result<Plan, Refusal>
+    ensures { AlsoAsked plan yes refusal.number result }
 {
     if yes {
         return plan;
     }
-    let outcome = plan.outcome;
-    backref::refuse(first_no(outcome, refusal))
+    Err(first_no(plan, refusal))
 }

@@ -15,15 +15,14 @@ use item_list::Sought;
 use record_edit::RecordAt;
 
 // Whether an item with these bytes that stands there is of that name. Two triples may have one hash.
+#[tactic(auto, unfolding(crate::specs::Posting::is_own_item, inline_refs::specs::Scans::kind_of))]
 fn is_own(wanted: RefName, bytes: &[u8]) -> bool
     requires { kind_of wanted ≡ 178 → 24 ≤ length bytes.now }
     ensures { result ≡ is_own_item wanted bytes.now }
 {
     match wanted {
-        RefName::Block(_) => true,
         RefName::Data(name) => inline_refs::names_triple(name, bytes, 0),
-        RefName::SharedBlock(_) => true,
-        RefName::SharedData(_) => true,
+        RefName::Block(_) | RefName::SharedBlock(_) | RefName::SharedData(_) => true,
     }
 }
 
@@ -39,11 +38,8 @@ pub fn has_none(sheet: &[u8], target: RecordAt, extent: u64, wanted: RefName, ra
         kind: inline_refs::kind_of(wanted),
         offset: rank,
     };
-    let sought = item_list::seek(sheet, target.end, key);
-    match sought {
-        Sought::Absent { .. } => return true,
-        Sought::Present { start, end } => {
-            return !is_own(wanted, &sheet[start + ITEM_HEAD..end]);
-        }
+    match item_list::seek(sheet, target.end, key) {
+        Sought::Absent { .. } => true,
+        Sought::Present { start, end } => !is_own(wanted, &sheet[start + ITEM_HEAD..end]),
     }
 }

@@ -6,24 +6,26 @@ ghost use Rattle.format.specs.Names.{balanced};
 ghost use Rattle.format.specs.Ledger.{name_of, kind_fits, changed};
 ghost use Rattle.item_list.specs.Steps.{IsList, list_items};
 ghost use Rattle.record_edit.specs.Records.{StandsFor};
-ghost use Rattle.ledger.specs.Posting.{unbalanced_or};
+ghost use Rattle.ledger.specs.Posting.{balance_asked};
 ghost use Rattle.theorems.specs.Calls.{CallKept};
 
 use crate::adds;
-use format::{Change, Edited};
+use format::{Change, Edited, Refusal};
 use inline_refs::RefName;
-use record_edit::{FoundRecord, RecordAt};
+use record_edit::RecordAt;
 
+#[tactic(auto, unfolding(format::specs::Ledger::kind_fits))]
 fn kind_fits(change: Change) -> bool
     ensures { result ≡ kind_fits change }
 {
     match change {
-        Change::AddShared { name, .. } => backref::shared_kind(name.kind),
-        Change::DropShared { name, .. } => backref::shared_kind(name.kind),
-        Change::AddBlock { .. } => true,
-        Change::AddData { .. } => true,
-        Change::DropBlock { .. } => true,
-        Change::DropData { .. } => true,
+        Change::AddShared { name, .. } | Change::DropShared { name, .. } => {
+            backref::shared_kind(name.kind)
+        }
+        Change::AddBlock { .. }
+        | Change::AddData { .. }
+        | Change::DropBlock { .. }
+        | Change::DropData { .. } => true,
     }
 }
 
@@ -31,22 +33,20 @@ fn kind_fits(change: Change) -> bool
 fn change_fits(nodesize: u32, change: Change) -> bool
     ensures { result ≡ (nodesize_fits nodesize && kind_fits change) }
 {
-    if item_list::nodesize_fits(nodesize) {
-        return kind_fits(change);
-    }
-    false
+    item_list::nodesize_fits(nodesize) && kind_fits(change)
 }
 
+#[tactic(auto, unfolding(format::specs::Ledger::name_of))]
 fn extent_of(change: Change) -> u64
     ensures { result ≡ (name_of change).extent }
 {
     match change {
-        Change::AddBlock { extent, .. } => extent,
-        Change::AddData { extent, .. } => extent,
-        Change::AddShared { extent, .. } => extent,
-        Change::DropBlock { extent, .. } => extent,
-        Change::DropData { extent, .. } => extent,
-        Change::DropShared { extent, .. } => extent,
+        Change::AddBlock { extent, .. }
+        | Change::AddData { extent, .. }
+        | Change::AddShared { extent, .. }
+        | Change::DropBlock { extent, .. }
+        | Change::DropData { extent, .. }
+        | Change::DropShared { extent, .. } => extent,
     }
 }
 
@@ -57,7 +57,7 @@ fn change_at(
     nodesize: u32,
     change: Change,
     out: &mut [u8],
-) -> Edited
+) -> Result<Edited, Refusal>
     requires stands_for { StandsFor sheet.now (name_of change).extent target }
     requires t { T (balanced (list_items sheet.now)) }
     requires t_2 { T (kind_fits change) }
@@ -65,15 +65,8 @@ fn change_at(
 {
     match change {
         Change::AddBlock { extent, name } => {
-            return adds::add(
-                sheet,
-                target,
-                nodesize,
-                extent,
-                RefName::Block(name),
-                1,
-                out,
-            );
+            let wanted = RefName::Block(name);
+            adds::add(sheet, target, nodesize, extent, wanted, 1, out)
         }
         Change::AddData {
             extent,
@@ -81,7 +74,7 @@ fn change_at(
             amount,
         } => {
             let wanted = RefName::Data(name);
-            return adds::add(sheet, target, nodesize, extent, wanted, amount, out);
+            adds::add(sheet, target, nodesize, extent, wanted, amount, out)
         }
         Change::AddShared {
             extent,
@@ -89,48 +82,48 @@ fn change_at(
             amount,
         } => {
             let wanted = backref::shared_name(name);
-            return adds::add(sheet, target, nodesize, extent, wanted, amount, out);
+            adds::add(sheet, target, nodesize, extent, wanted, amount, out)
         }
         Change::DropBlock { name, .. } => {
-            return transaction::drop_ref(sheet, target, RefName::Block(name), 1, out);
+            transaction::drop_ref(sheet, target, RefName::Block(name), 1, out)
         }
         Change::DropData { name, .. } => {
-            return transaction::drop_ref(sheet, target, RefName::Data(name), 1, out);
+            transaction::drop_ref(sheet, target, RefName::Data(name), 1, out)
         }
         Change::DropShared { name, amount, .. } => {
             let wanted = backref::shared_name(name);
-            return transaction::drop_ref(sheet, target, wanted, amount, out);
+            transaction::drop_ref(sheet, target, wanted, amount, out)
         }
     }
 }
 
-// Question 4: `otherwise` where it is answered with yes. The check of balance is called from here alone, so that the compiler
-// inlines it; called from two places it takes twice the time.
-fn unbalanced_or(sheet: &[u8], otherwise: u32) -> u32
+// Question 4. The check of balance is called from here alone, so that the compiler inlines it; called from two places it takes
+// twice the time.
+#[tactic(auto, unfolding(crate::specs::Posting::balance_asked))]
+fn ask_balanced(sheet: &[u8]) -> Result<(), Refusal>
     requires { IsList sheet.now }
-    ensures { result ≡ unbalanced_or (balanced (list_items sheet.now)) otherwise }
+    ensures { result ≡ balance_asked (balanced (list_items sheet.now)) }
 {
     if balance::balanced(sheet) {
-        return otherwise;
+        return Ok(());
     }
-    4
+    Err(Refusal::UNBALANCED)
 }
 
 // Document 01's posting: the sheet with the change, into `out`.
-pub fn post(sheet: &[u8], nodesize: u32, change: Change, out: &mut [u8]) -> Edited
+pub fn post(
+    sheet: &[u8],
+    nodesize: u32,
+    change: Change,
+    out: &mut [u8],
+) -> Result<Edited, Refusal>
     ensures { CallKept sheet.now (record { nodesize = nodesize; change = change; old = out.old; new = out.new; result = result }) }
 {
     let three = change_fits(nodesize, change);
-    let found = record_edit::find_record(sheet, extent_of(change), three);
-    match found {
-        FoundRecord::Refused(refusal) => return Edited::Refused(refusal),
-        FoundRecord::Missing => return Edited::Refused(unbalanced_or(sheet, 5)),
-        FoundRecord::At { target, .. } => {
-            let refusal = unbalanced_or(sheet, 0);
-            if refusal == 0 {
-                return change_at(sheet, target, nodesize, change, out);
-            }
-            return Edited::Refused(refusal);
-        }
-    }
+    let found = record_edit::find_record(sheet, extent_of(change), three)?;
+    ask_balanced(sheet)?;
+    let Some(record) = found else {
+        return Err(Refusal::MISSING);
+    };
+    change_at(sheet, record.target, nodesize, change, out)
 }

@@ -5,4 +5,4 @@ pub returns-then-yes : goal.returns-then-yes
 returns-then-yes c = asked-yes _ _ _ c.if-yes.true
 
 pub returns : goal.returns
-returns c = asked-no _ _ _ c.if-yes.false _ _ c.first_no.ensures c.refuse.ensures.outcome_value
+returns c = asked-no _ _ _ c.if-yes.false _ c.first_no.ensures
