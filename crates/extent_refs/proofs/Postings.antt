@@ -8,14 +8,16 @@ use native.Mathlib.Omega.{arith}
 use lib.Dec.{ltb}
 use borrow.Author.Tests.{ltb-true, ltb-false, lt-ltb, le-ltb, ne_eqb}
 use Rattle.fields.proofs.Lists.{and-false, by-test}
+use Rattle.std.specs.Prelude.{Result}
 use Rattle.format.specs.declared.Edited.{Edited}
+use Rattle.format.specs.declared.Refusal.{Refusal}
 use Rattle.format.specs.declared.Change.{Change}
 use Rattle.format.specs.declared.Change.TheVariants.{AddBlock, AddData, AddShared, DropBlock, DropData, DropShared}
 use Rattle.format.specs.Questions.{Answer, refused, accepted, ask, bind, Answered}
 use Rattle.format.specs.Bodies.{shared_kind}
 use Rattle.format.specs.Items.{Item, read_sheet, on_sheet, nodesize_fits, held_sheet}
 use Rattle.format.specs.Ledger.{kind_fits, post, posted}
-use Rattle.extent_refs.specs.Posts.{change_of, posted_if, narrowed, stand_in}
+use Rattle.extent_refs.specs.Posts.{posted_if, narrowed, stand_in}
 
 -- ---- the change that stands in
 
@@ -35,11 +37,11 @@ posted-no : (nodesize : ℕ) (sheet : List ℕ) (change other : Change) (room : 
 unfolding posted
 posted-no nodesize sheet change other room e f = ap (held_sheet room) (post-no nodesize sheet change e ∙ sym (post-no nodesize sheet other f))
 
-pub narrow : (kind : ℕ) → kind < 256 → narrowed kind ≡ kind
+narrow : (kind : ℕ) → kind < 256 → narrowed kind ≡ kind
 unfolding narrowed
 narrow kind h = simp (lt-ltb _ _ h)
 
-pub wide : (kind : ℕ) → 256 ≤ kind → narrowed kind ≡ 0
+wide : (kind : ℕ) → 256 ≤ kind → narrowed kind ≡ 0
 unfolding narrowed
 wide kind h = simp (le-ltb _ _ h)
 
@@ -71,57 +73,8 @@ stands-in nodesize sheet (some (DropShared extent name amount)) room =
     (λ y. ap (λ (k : ℕ). posted nodesize sheet (DropShared extent (record { kind = k; parent = name.parent }) amount) room) (narrow name.kind (ltb-true _ _ y)))
     (λ y. posted-no nodesize sheet _ _ room (no_narrow name.kind (ltb-false _ _ y)) (no_kind name.kind (ltb-false _ _ y)))
 
-pub answered-in : (nodesize : ℕ) (sheet : List ℕ) (o : Option Change) (room : ℕ) {change : Change} {r : Edited} {old new : List ℕ} → change ≡ stand_in o
+pub answered-in : (nodesize : ℕ) (sheet : List ℕ) (o : Option Change) (room : ℕ) {change : Change} {r : Result Edited Refusal} {old new : List ℕ} → change ≡ stand_in o
     → Answered (posted nodesize sheet change room) r old new
     → Answered (posted_if nodesize sheet o room) r old new
 answered-in nodesize sheet o room {change} {r} {old} {new} e h =
     subst (λ (a : Answer (List ℕ)). Answered a r old new) (ap (λ (x : Change). posted nodesize sheet x room) e ∙ stands-in nodesize sheet o room) h
-
--- ---- the numbers, one way out after another
-
-module _ (number extent a b c amount : ℕ) where
-  pub from-1 : number ≡ 1 → AddBlock extent (record { tree = a }) ≡ stand_in (change_of number extent a b c amount)
-  unfolding stand_in change_of
-  from-1 e = sym (ap (λ (n : ℕ). stand_in (change_of n extent a b c amount)) e)
-
-  pub from-2 : number ≡ 2
-      → AddData extent (record { tree = a; objectid = b; offset = c }) amount ≡ stand_in (change_of number extent a b c amount)
-  unfolding stand_in change_of
-  from-2 e = sym (ap (λ (n : ℕ). stand_in (change_of n extent a b c amount)) e)
-
-  pub from-3 : {kind : ℕ} → number ≡ 3 → kind ≡ narrowed a
-      → AddShared extent (record { kind = kind; parent = b }) amount ≡ stand_in (change_of number extent a b c amount)
-  unfolding stand_in change_of
-  from-3 e k =
-      ap (λ (n : ℕ). AddShared extent (record { kind = n; parent = b }) amount) k
-      ∙ sym (ap (λ (n : ℕ). stand_in (change_of n extent a b c amount)) e)
-
-  pub from-4 : number ≡ 4 → DropBlock extent (record { tree = a }) ≡ stand_in (change_of number extent a b c amount)
-  unfolding stand_in change_of
-  from-4 e = sym (ap (λ (n : ℕ). stand_in (change_of n extent a b c amount)) e)
-
-  pub from-5 : number ≡ 5
-      → DropData extent (record { tree = a; objectid = b; offset = c }) ≡ stand_in (change_of number extent a b c amount)
-  unfolding stand_in change_of
-  from-5 e = sym (ap (λ (n : ℕ). stand_in (change_of n extent a b c amount)) e)
-
-  pub from-6 : {kind : ℕ} → number ≡ 6 → kind ≡ narrowed a
-      → DropShared extent (record { kind = kind; parent = b }) amount ≡ stand_in (change_of number extent a b c amount)
-  unfolding stand_in change_of
-  from-6 e k =
-      ap (λ (n : ℕ). DropShared extent (record { kind = n; parent = b }) amount) k
-      ∙ sym (ap (λ (n : ℕ). stand_in (change_of n extent a b c amount)) e)
-
-  from-other : {change : Change} → change ≡ stand_in none
-      → (number ≡ 1 → ⊥) → (number ≡ 2 → ⊥) → (number ≡ 3 → ⊥) → (number ≡ 4 → ⊥) → (number ≡ 5 → ⊥) → (number ≡ 6 → ⊥)
-      → change ≡ stand_in (change_of number extent a b c amount)
-  unfolding stand_in change_of
-  from-other e e₁ e₂ e₃ e₄ e₅ e₆ = e ∙ simp (ne_eqb _ _ e₁, ne_eqb _ _ e₂, ne_eqb _ _ e₃, ne_eqb _ _ e₄, ne_eqb _ _ e₅, ne_eqb _ _ e₆)
-
-  pub other-low : {change : Change} → number < 4 → change ≡ stand_in none → (number ≡ 1 → ⊥) → (number ≡ 2 → ⊥) → (number ≡ 3 → ⊥)
-      → change ≡ stand_in (change_of number extent a b c amount)
-  other-low h e e₁ e₂ e₃ = from-other e e₁ e₂ e₃ (λ z. omega arith) (λ z. omega arith) (λ z. omega arith)
-
-  pub other-high : {change : Change} → 4 ≤ number → change ≡ stand_in none → (number ≡ 4 → ⊥) → (number ≡ 5 → ⊥) → (number ≡ 6 → ⊥)
-      → change ≡ stand_in (change_of number extent a b c amount)
-  other-high h e e₄ e₅ e₆ = from-other e (λ z. omega arith) (λ z. omega arith) (λ z. omega arith) e₄ e₅ e₆

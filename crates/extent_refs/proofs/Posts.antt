@@ -12,8 +12,9 @@ use mir.Facts.{and_yes, yes_and}
 use Rattle.fields.specs.Lists.{all}
 use Rattle.fields.specs.Numbers.{are_bytes}
 use Rattle.format.specs.declared.Change.TheVariants.{AddBlock, AddData, AddShared, DropBlock, DropData, DropShared}
-use Rattle.format.specs.declared.Edited.TheVariants.{Written, Refused}
-use Rattle.format.specs.Questions.{Answer, code_of, lent_part, edited_of, Answered}
+use Rattle.std.specs.Prelude.{Ok}
+use Rattle.format.specs.declared.Edited.TheVariants.{Written}
+use Rattle.format.specs.Questions.{Answer, code_of, lent_part, denied, edited_of, Answered}
 use Rattle.format.specs.History.{answer_to, balanced_sheet}
 use Rattle.theorems.specs.Demand.{Wide, Wides, Decided, no, yes}
 use Rattle.theorems.proofs.Decided.{decided}
@@ -34,14 +35,14 @@ answered answer {code} {size} (no n r e) k =
     let above = leb→le 1 n (and_yes (leb 1 n) (ltb n 100) r).0 in
     let zero : eqb code 0 ≡ false = ne_eqb code 0 (λ z. omega arith) in
     record {
-      result = ap (λ (x : Bool). cond x (Written size) (Refused code)) zero ∙ ap Refused c ∙ sym (ap edited_of e);
+      result = ap (λ (x : Bool). cond x (Ok (Written size)) (denied code)) zero ∙ ap denied c ∙ sym (ap edited_of e);
       output = k.output;
     }
 answered answer {code} {size} (yes s e) k =
     let c : code ≡ 0 = k.code ∙ ap code_of e in
     let l : size ≡ length s = k.size ∙ ap (λ (x : Answer (List ℕ)). length (lent_part x)) e in
     record {
-      result = ap (λ (x : ℕ). answer_by x size) c ∙ ap Written l ∙ sym (ap edited_of e);
+      result = ap (λ (x : ℕ). answer_by x size) c ∙ ap (λ (n : ℕ). Ok (Written n)) l ∙ sym (ap edited_of e);
       output = k.output;
     }
 

@@ -1,20 +1,13 @@
 -- What an exported call hands to C: the code of its answer, 0 in every lent number unless it was accepted, and in a lent output
 -- the result before the bytes that stood there. One record for each form of result. Assumes nothing.
-use Rattle.std.specs.Prelude.{◌≡◌, Bool, cond, List, [], ◌∷◌, ℕ, length}
+use Rattle.std.specs.Prelude.{◌≡◌, Bool, cond, List, [], ◌∷◌, ℕ, length, Result, Ok, Err, Option, Some, None}
+use Rattle.format.specs.declared.Refusal.{Refusal}
 use Rattle.format.specs.declared.Edited.{Edited}
-use Rattle.format.specs.declared.Edited.TheVariants.{Written, Absent, Remove, Refused}
+use Rattle.format.specs.declared.Edited.TheVariants.{Written, Absent, Remove}
 use Rattle.format.specs.declared.Taken.{Taken}
-use Rattle.format.specs.declared.Taken.TheVariants.{Written as Out, Absent as NoMatch, Refused as Denied}
-use Rattle.format.specs.declared.Told.{Told}
-use Rattle.format.specs.declared.Told.TheVariants.{Value, Refused as Untold}
 use Rattle.format.specs.declared.Key.{Key}
-use Rattle.format.specs.declared.Filed.{Filed}
-use Rattle.format.specs.declared.Filed.TheVariants.{Under, Refused as Unfiled}
-use Rattle.format.specs.declared.Judged.{Judged}
-use Rattle.format.specs.declared.Judged.TheVariants.{Says, Refused as Unjudged}
 use Rattle.format.specs.declared.InlineRef.{InlineRef}
-use Rattle.format.specs.declared.Picked.{Picked}
-use Rattle.format.specs.declared.Picked.TheVariants.{Ref as Reference, Refused as Unpicked}
+use Rattle.leaf_edit.specs.declared.lookup.ItemRange.{ItemRange}
 use Rattle.format.specs.Questions.{Answer, result_or, lent, lent_number, lent_part, code_of, TakenOut, bytes_of}
 
 -- ---- the records
@@ -63,31 +56,40 @@ pub record CodedRef (a : Answer InlineRef) (r kind offset start len : ℕ) : Typ
   pub first : start ≡ result_or 0 (λ x. x.start) a
   pub size : len ≡ result_or 0 (λ x. x.len) a
 
--- ---- the declared enums as numbers: the code, then the lent numbers in order
+-- ---- the calls' answers as numbers: the code, then the lent numbers in order
 
-abbrev pub edited_numbers : Edited → List ℕ
-edited_numbers (Written size) = 0 ∷ size ∷ []
-edited_numbers Absent = 100 ∷ 0 ∷ []
-edited_numbers Remove = 101 ∷ 0 ∷ []
-edited_numbers (Refused refusal) = refusal ∷ 0 ∷ []
+-- of a result or a refusal
+unfoldable pub plain_code : {A : Type 0} → Result A Refusal → ℕ
+plain_code (Ok result) = 0
+plain_code (Err refusal) = refusal.number
 
-abbrev pub taken_numbers : Taken → List ℕ
-taken_numbers (Out size count) = 0 ∷ size ∷ count ∷ []
-taken_numbers NoMatch = 100 ∷ 0 ∷ 0 ∷ []
-taken_numbers (Denied refusal) = refusal ∷ 0 ∷ 0 ∷ []
+abbrev pub edited_numbers : Result Edited Refusal → List ℕ
+edited_numbers (Ok (Written size)) = 0 ∷ size ∷ []
+edited_numbers (Ok Absent) = 100 ∷ 0 ∷ []
+edited_numbers (Ok Remove) = 101 ∷ 0 ∷ []
+edited_numbers (Err refusal) = refusal.number ∷ 0 ∷ []
 
-abbrev pub told_numbers : Told → List ℕ
-told_numbers (Value number) = 0 ∷ number ∷ []
-told_numbers (Untold refusal) = refusal ∷ 0 ∷ []
+abbrev pub taken_numbers : Result (Option Taken) Refusal → List ℕ
+taken_numbers (Ok (Some taken)) = 0 ∷ taken.size ∷ taken.count ∷ []
+taken_numbers (Ok None) = 100 ∷ 0 ∷ 0 ∷ []
+taken_numbers (Err refusal) = refusal.number ∷ 0 ∷ 0 ∷ []
 
-abbrev pub filed_numbers : Filed → List ℕ
-filed_numbers (Under key) = 0 ∷ key.objectid ∷ key.kind ∷ key.offset ∷ []
-filed_numbers (Unfiled refusal) = refusal ∷ 0 ∷ 0 ∷ 0 ∷ []
+abbrev pub told_numbers : Result ℕ Refusal → List ℕ
+told_numbers (Ok number) = 0 ∷ number ∷ []
+told_numbers (Err refusal) = refusal.number ∷ 0 ∷ []
 
-abbrev pub judged_numbers : Judged → List ℕ
-judged_numbers (Says judgement) = 0 ∷ cond judgement 1 0 ∷ []
-judged_numbers (Unjudged refusal) = refusal ∷ 0 ∷ []
+abbrev pub filed_numbers : Result Key Refusal → List ℕ
+filed_numbers (Ok key) = 0 ∷ key.objectid ∷ key.kind ∷ key.offset ∷ []
+filed_numbers (Err refusal) = refusal.number ∷ 0 ∷ 0 ∷ 0 ∷ []
 
-abbrev pub picked_numbers : Picked → List ℕ
-picked_numbers (Reference r) = 0 ∷ r.kind ∷ r.offset ∷ r.start ∷ r.len ∷ []
-picked_numbers (Unpicked refusal) = refusal ∷ 0 ∷ 0 ∷ 0 ∷ 0 ∷ []
+abbrev pub judged_numbers : Result Bool Refusal → List ℕ
+judged_numbers (Ok judgement) = 0 ∷ cond judgement 1 0 ∷ []
+judged_numbers (Err refusal) = refusal.number ∷ 0 ∷ []
+
+abbrev pub picked_numbers : Result InlineRef Refusal → List ℕ
+picked_numbers (Ok r) = 0 ∷ r.kind ∷ r.offset ∷ r.start ∷ r.len ∷ []
+picked_numbers (Err refusal) = refusal.number ∷ 0 ∷ 0 ∷ 0 ∷ 0 ∷ []
+
+abbrev pub ranged_numbers : Result ItemRange Refusal → List ℕ
+ranged_numbers (Ok range) = 0 ∷ range.start ∷ range.size ∷ []
+ranged_numbers (Err refusal) = refusal.number ∷ 0 ∷ 0 ∷ []

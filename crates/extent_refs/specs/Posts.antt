@@ -1,13 +1,14 @@
 -- A posting whose change arrives as numbers (document 01, "The entry"): fields that a change does not use play no part. A list of
 -- calls of the exported `ledger_post`, each on the sheet that the last accepted one wrote, is a list of calls of `post` (theorems,
 -- Calls), of which demand 3 is stated. Assumes nothing.
-use Rattle.std.specs.Prelude.{Bool, false, ◌&&◌, cond, List, [], ◌∷◌, ℕ, ◌^◌, ltb, eqb, length}
+use Rattle.std.specs.Prelude.{Bool, false, ◌&&◌, cond, List, [], ◌∷◌, ℕ, ◌^◌, ltb, eqb, length, Result, Ok}
 use Rattle.std.proofs.Math.Option.{Option, none, some}
 use Rattle.format.specs.declared.Change.{Change}
 use Rattle.format.specs.declared.Change.TheVariants.{AddBlock, AddData, AddShared, DropBlock, DropData, DropShared}
 use Rattle.format.specs.declared.Edited.{Edited}
-use Rattle.format.specs.declared.Edited.TheVariants.{Written, Refused}
-use Rattle.format.specs.Questions.{Answer, accepted}
+use Rattle.format.specs.declared.Edited.TheVariants.{Written}
+use Rattle.format.specs.declared.Refusal.{Refusal}
+use Rattle.format.specs.Questions.{Answer, accepted, denied}
 use Rattle.format.specs.Items.{on_sheet, held_sheet}
 use Rattle.format.specs.Ledger.{posted}
 use Rattle.theorems.specs.Calls.{Call, next_sheet}
@@ -72,8 +73,8 @@ is_wide p = ltb p.a (2 ^ 64) && (ltb p.b (2 ^ 64) && ltb p.c (2 ^ 64))
 -- ---- the call of `post` that it is
 
 -- as the caller reads it: code 0 is accepted, another the refusal
-abbrev pub answer_by : ℕ → ℕ → Edited
-answer_by code size = cond (eqb code 0) (Written size) (Refused code)
+abbrev pub answer_by : ℕ → ℕ → Result Edited Refusal
+answer_by code size = cond (eqb code 0) (Ok (Written size)) (denied code)
 
 -- a number that is no change's, and a shared kind above 8 bits, are a change that is refused 3
 abbrev pub call_of : PostCall → Call

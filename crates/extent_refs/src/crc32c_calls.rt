@@ -5,15 +5,15 @@ ghost use Rattle.crc32c_text.specs.Text.{table_text};
 ghost use Rattle.crc32c.specs.Register.{crc32c, word_step, crc_run};
 ghost use Rattle.extent_refs.specs.Exports.{Coded};
 
-use format::Edited;
+use format::{Edited, Refusal};
 
-fn table_text(polynomial: u32, out: &mut [u8]) -> Edited
+fn table_text(polynomial: u32, out: &mut [u8]) -> Result<Edited, Refusal>
     ensures { Answered (held_text (length out.old) (table_text polynomial)) result out.old out.new }
 {
-    if crc32c_text::table_text(polynomial, out) {
-        return Edited::Written(crc32c_text::LENGTH);
+    if !crc32c_text::table_text(polynomial, out) {
+        return Err(Refusal::NO_ROOM);
     }
-    Edited::Refused(21)
+    Ok(Edited::Written(crc32c_text::LENGTH))
 }
 
 #[unsafe(no_mangle)]

@@ -30,11 +30,7 @@ pub extern "C" fn extent_write_tree_block_key(
         generation: 0,
         owner: 0,
     };
-    let key = block.key();
-    *objectid = key.objectid;
-    *kind = key.kind as u64;
-    *offset = key.offset;
-    0
+    crate::put_filed(Ok(block.key()), objectid, kind, offset)
 }
 
 #[unsafe(no_mangle)]

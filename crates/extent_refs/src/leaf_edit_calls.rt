@@ -111,5 +111,6 @@ pub extern "C" fn leaf_edit_split_to_fit(
 pub extern "C" fn leaf_edit_item(sheet: &[u8], number: u64, start: &mut u64, len: &mut u64) -> u32
     ensures { CodedPart (item_data sheet.now number) (item_start sheet.now number) result start.new len.new }
 {
-    leaf_edit::item_range(sheet, number as usize, start, len)
+    let answer = leaf_edit::item_range(sheet, number as usize);
+    crate::put_ranged(answer, start, len)
 }

@@ -14,4 +14,4 @@ mod ledger_calls;
 mod transaction_calls;
 
 pub use changes::change_of;
-pub use codes::{put_edited, put_filed, put_judged, put_picked, put_taken, put_told};
+pub use codes::{put_edited, put_filed, put_judged, put_picked, put_ranged, put_taken, put_told};

@@ -16,11 +16,7 @@ fn first_no(plan: Result<Plan, Refusal>, refusal: Refusal) -> Refusal
     }
 }
 
-pub fn plan_also(
-    plan: Result<Plan, Refusal>,
-    yes: bool,
-    refusal: Refusal,
-) -> Result<Plan, Refusal>
+pub fn plan_also(plan: Result<Plan, Refusal>, yes: bool, refusal: Refusal) -> Result<Plan, Refusal>
     ensures { AlsoAsked plan yes refusal.number result }
 {
     if yes {

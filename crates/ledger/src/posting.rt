@@ -111,12 +111,7 @@ fn ask_balanced(sheet: &[u8]) -> Result<(), Refusal>
 }
 
 // Document 01's posting: the sheet with the change, into `out`.
-pub fn post(
-    sheet: &[u8],
-    nodesize: u32,
-    change: Change,
-    out: &mut [u8],
-) -> Result<Edited, Refusal>
+pub fn post(sheet: &[u8], nodesize: u32, change: Change, out: &mut [u8]) -> Result<Edited, Refusal>
     ensures { CallKept sheet.now (record { nodesize = nodesize; change = change; old = out.old; new = out.new; result = result }) }
 {
     let three = change_fits(nodesize, change);
