@@ -2,6 +2,8 @@
 // references, changes, and what calls answer.
 #![tactic(auto)]
 
+use std::fmt;
+
 // Types of items and of inline references (btrfs's key types).
 pub const EXTENT_ITEM: u8 = 168;
 
@@ -192,6 +194,12 @@ impl Refusal {
     pub const NO_LEAF: Refusal = Refusal { number: 23 };
 
     pub const PACKING: Refusal = Refusal { number: 24 };
+}
+
+impl fmt::Display for Refusal {
+    fn fmt<W: fmt::Write>(&self, f: &mut fmt::Formatter<W>) -> fmt::Result {
+        write!(f, "refused {}", self.number)
+    }
 }
 
 // What a call that writes to a lent output answers where it does not refuse: the result's length, or that there is none.

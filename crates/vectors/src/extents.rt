@@ -1,6 +1,8 @@
 // Prints hashes of data references, the key of a new tree block, and both bodies of new extents: each lent output begins as bytes
 // of value ee, so that it shows which were written. A write that fails is let go.
 
+use format::{Edited, Key, Refusal};
+
 fn end_line(rt: &impl Print) {
     let _ = println!(rt;);
 }
@@ -10,18 +12,17 @@ fn print_hash(rt: &impl Print, tree: u64, objectid: u64, offset: u64) {
     let _ = println!(rt; "{hash:016x}");
 }
 
-fn print_key(rt: &impl Print, key: format::Key) {
+fn print_key(rt: &impl Print, key: Key) {
     let _ = println!(rt; "{:016x}{:02x}{:016x}", key.objectid, key.kind, key.offset);
 }
 
-fn print_answer(rt: &impl Print, answer: format::Edited) {
+fn print_answer(rt: &impl Print, answer: Result<Edited, Refusal>) {
     let _ = match answer {
-        format::Edited::Written(n) => print!(rt; "written {n}"),
-        format::Edited::Absent => print!(rt; "absent"),
-        format::Edited::Remove => print!(rt; "remove"),
-        format::Edited::Refused(number) => print!(rt; "refused {number}"),
+        Ok(Edited::Written(n)) => println!(rt; "written {n}"),
+        Ok(Edited::Absent) => println!(rt; "absent"),
+        Ok(Edited::Remove) => println!(rt; "remove"),
+        Err(refusal) => println!(rt; "{refusal}"),
     };
-    end_line(rt);
 }
 
 fn print_bytes(rt: &impl Print, bytes: &[u8]) {
