@@ -2,7 +2,7 @@
 use crate::card::Card;
 use crate::{card, say, words};
 use extent_write::TreeBlockAllocation;
-use format::{BlockRef, Change, DataRef, Key, SharedRef};
+use format::{BlockRef, Change, DataRef, Key, Refusal, SharedRef};
 
 const NODESIZE: u32 = 4096;
 
@@ -28,30 +28,29 @@ fn leaf() -> SharedRef {
 }
 
 // A map that file 257 of tree 5 uses, and file 300 by an item of its own.
-fn with_map(card: Card) -> Card {
+fn with_map(card: &Card) -> Result<Card, Refusal> {
     let mut new = [0u8; 53];
-    extent_write::data_extent_body(7, 5, 257, 0, &mut new);
+    extent_write::data_extent_body(7, 5, 257, 0, &mut new)?;
     let mut body = [0u8; 53];
-    backref::raise_total(&new, 1, &mut body);
+    backref::raise_total(&new, 1, &mut body)?;
     let key = Key {
         objectid: MAP,
         kind: 168,
         offset: 65536,
     };
-    let record = card::insert(card, NODESIZE, key, &body);
+    let record = card.insert(NODESIZE, key, &body)?;
     let mut own = [0u8; 28];
-    backref::keyed_data_ref_body(file(5, 300), 1, &mut own);
+    backref::keyed_data_ref_body(file(5, 300), 1, &mut own)?;
     let own_key = Key {
         objectid: MAP,
         kind: 178,
         offset: extent_write::data_ref_hash(5, 300, 0),
     };
-    let both = card::insert(record.card, NODESIZE, own_key, &own);
-    both.card
+    record.insert(NODESIZE, own_key, &own)
 }
 
 // A block of tree 5.
-fn with_block(card: Card) -> Card {
+fn with_block(card: &Card) -> Result<Card, Refusal> {
     let block = TreeBlockAllocation {
         bytenr: BLOCK,
         level: 0,
@@ -59,25 +58,28 @@ fn with_block(card: Card) -> Card {
         owner: 5,
     };
     let mut body = [0u8; 33];
-    block.body(&mut body);
-    let edit = card::insert(card, NODESIZE, block.key(), &body);
-    edit.card
+    block.body(&mut body)?;
+    card.insert(NODESIZE, block.key(), &body)
 }
 
-// One change, in words, and what came of it.
+fn with_both(card: &Card) -> Result<Card, Refusal> {
+    let map = with_map(card)?;
+    with_block(&map)
+}
+
+// One change, in words, and what came of it; a refused one leaves the card as it was.
 fn post(rt: &impl Print, card: Card, extent: u64, what: &[u8], change: Change) -> Card {
     say::text(rt, b"  ");
     say::text(rt, what);
     say::text(rt, b": ");
-    let edit = card::post(card, NODESIZE, change);
-    let next = edit.card;
-    say::answer(rt, edit.refusal);
-    if edit.refusal == 0 {
+    let answer = card.post(NODESIZE, change);
+    say::answer(rt, answer.err());
+    if let Ok(next) = answer {
         say::text(rt, b", now used ");
-        say::times(rt, card::used(card::list(&next.bytes, next.size), extent));
+        say::times(rt, card::used(next.list(), extent));
     }
     say::text(rt, b".\n");
-    next
+    answer.unwrap_or(card)
 }
 
 fn give_block(rt: &impl Print, card: Card, tree: u64, what: &[u8]) -> Card {
@@ -197,14 +199,15 @@ pub fn show(rt: &impl Print) {
         rt,
         b"A small card with a map, which is data, and a block of a tree:\n\n",
     );
-    let before = with_block(with_map(card::empty()));
-    words::print(rt, card::list(&before.bytes, before.size));
+    // No call refuses; an empty card would be printed as one without items.
+    let before = with_both(&Card::empty()).unwrap_or(Card::empty());
+    words::print(rt, before.list());
     say::text(
         rt,
         b"\nEleven changes, posted one after the other, each with the answer and the total that its record then has:\n\n",
     );
     let after = takes(rt, gives(rt, before));
     say::text(rt, b"\nThe card afterwards:\n\n");
-    words::print(rt, card::list(&after.bytes, after.size));
+    words::print(rt, after.list());
     say::text(rt, b"\n");
 }

@@ -3,6 +3,7 @@ ghost use Rattle.std.specs.Prelude.{◌≤◌};
 
 use crate::card::Card;
 use crate::{card, crowded, image, say, shifts};
+use format::Refusal;
 
 // The end of a check: what it shows, said only if it came out right; 1 if it came out wrong.
 fn verdict(rt: &impl Print, right: bool, shown: &[u8]) -> u32
@@ -40,28 +41,29 @@ fn count_maps(rt: &impl Print, list: &[u8]) -> bool {
     right
 }
 
-fn delete_oldest(rt: &impl Print, card: Card) -> bool {
+fn delete_oldest(rt: &impl Print, card: &Card) -> bool {
     say::text(
         rt,
         b"  2. Delete the oldest shift and read the base survey.\n     \
           The survey is taken from shift 1: ",
     );
     let survey = shifts::take(card, shifts::SURVEY, 1);
-    say::answer(rt, survey.refusal);
+    say::answer(rt, survey.err());
     say::text(rt, b". Its own map: ");
-    let both = shifts::take(survey.card, shifts::map(1), 1);
-    say::answer(rt, both.refusal);
+    let left = survey.unwrap_or(*card);
+    let both = shifts::take(&left, shifts::map(1), 1);
+    say::answer(rt, both.err());
     say::text(rt, b". The survey a second time:\n     ");
-    let again = shifts::take(both.card, shifts::SURVEY, 1);
-    say::answer(rt, again.refusal);
+    let left = both.unwrap_or(left);
+    let again = shifts::take(&left, shifts::SURVEY, 1);
+    say::answer(rt, again.err());
     say::text(rt, b".\n     The survey is used ");
-    let left = again.card;
-    let list = card::list(&left.bytes, left.size);
-    let used = card::used(list, shifts::SURVEY);
+    let left = again.unwrap_or(left);
+    let used = card::used(left.list(), shifts::SURVEY);
     say::times(rt, used);
     say::text(rt, b".");
-    let taken = (survey.refusal == 0) & (both.refusal == 0) & (again.refusal == 5);
-    taken & (used == 9) & (card::used(list, shifts::map(1)) == 1)
+    let taken = survey.is_ok() & both.is_ok() & (again.err() == Some(Refusal::MISSING));
+    taken & (used == 9) & (card::used(left.list(), shifts::map(1)) == 1)
 }
 
 // The number of checks that came out wrong.
@@ -71,15 +73,16 @@ pub fn show(rt: &impl Print) -> u32 {
         b"Four checks, three of them on a card of ten shifts over one base survey. Each shift uses the survey,\n\
           its own map and the map of the shift before:\n\n",
     );
-    let card = shifts::ten();
+    // No call refuses; an empty card would show as four wrong checks.
+    let card = shifts::ten().unwrap_or(Card::empty());
     let counted = verdict(
         rt,
-        count_maps(rt, card::list(&card.bytes, card.size)),
+        count_maps(rt, card.list()),
         b"Each is used by its own shift and the next, the last by its own alone.",
     );
     let deleted = verdict(
         rt,
-        delete_oldest(rt, card),
+        delete_oldest(rt, &card),
         b"That is once by each other shift, so nothing frees it.",
     );
     let saved = verdict(
@@ -89,7 +92,7 @@ pub fn show(rt: &impl Print) -> u32 {
     );
     let stored = verdict(
         rt,
-        image::store(rt, card),
+        image::store(rt, &card),
         b"It is the same list, byte for byte, and the damage is seen.",
     );
     say::text(rt, b"\n");

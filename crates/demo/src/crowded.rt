@@ -1,32 +1,34 @@
 // The third check: a leaf is filled until a map is refused, and then divided.
 use crate::card::Card;
 use crate::{card, leaves, say, shifts};
+use format::Refusal;
 
-// A card, and the first shift whose map it refused.
+// A card, and the first shift whose map it refused, if it refused one.
 #[derive(Drop)]
 struct Full {
     card: Card,
     shift: u32,
-    refusal: u32,
+    refusal: Option<Refusal>,
 }
 
 fn fill() -> Full {
-    let mut card = card::empty();
+    let mut card = Card::empty();
     for shift in 1..1000 {
-        let edit = shifts::save(card, leaves::NODESIZE, shifts::map(shift), shift);
-        if edit.refusal != 0 {
-            return Full {
-                card,
-                shift,
-                refusal: edit.refusal,
-            };
+        match shifts::save(&card, leaves::NODESIZE, shifts::map(shift), shift) {
+            Ok(next) => card = next,
+            Err(refusal) => {
+                return Full {
+                    card,
+                    shift,
+                    refusal: Some(refusal),
+                };
+            }
         }
-        card = edit.card;
     }
     Full {
         card,
         shift: 1000,
-        refusal: 0,
+        refusal: None,
     }
 }
 
@@ -36,17 +38,14 @@ pub fn save(rt: &impl Print) -> bool {
     say::number(rt, leaves::NODESIZE as u64);
     say::text(rt, b" bytes takes ");
     let full = fill();
-    let before = full.card;
-    say::number(
-        rt,
-        card::items(card::list(&before.bytes, before.size)) as u64,
-    );
+    say::number(rt, card::items(full.card.list()) as u64);
     say::text(rt, b" maps. One more: ");
     say::answer(rt, full.refusal);
     say::text(rt, b".\n     ");
     let body = shifts::record(full.shift);
-    let more = card::insert_unbounded(before, shifts::key(shifts::map(full.shift)), &body);
-    let whole = more.card;
-    let divided = leaves::divide(rt, card::list(&whole.bytes, whole.size), full.shift);
-    divided & (full.refusal == 18) & (more.refusal == 0)
+    let key = shifts::key(shifts::map(full.shift));
+    let more = full.card.insert_unbounded(key, &body);
+    let whole = more.unwrap_or(full.card);
+    let divided = leaves::divide(rt, whole.list(), full.shift);
+    divided & (full.refusal == Some(Refusal::NO_FIT)) & more.is_ok()
 }

@@ -1,31 +1,21 @@
 // A list of maps divided into two leaves, and whether they hold every map.
 use crate::card::Card;
 use crate::{card, say, shifts};
-use format::{Edited, Judged};
+use format::Edited;
 
 // Small, so that a leaf is soon full: the interpreter of `rt try` allows twenty million steps.
 pub const NODESIZE: u32 = 4096;
 
 fn fits(list: &[u8]) -> bool {
-    match leaf_edit::fit(NODESIZE, list) {
-        Judged::Says(yes) => yes,
-        Judged::Refused(_) => false,
-    }
+    leaf_edit::fit(NODESIZE, list).unwrap_or(false)
 }
 
 // Where the item with this number starts: 21 bytes before its data.
 fn start_of(list: &[u8], number: usize) -> usize {
-    let mut start: u64 = 0;
-    let mut size: u64 = 0;
-    let refusal = leaf_edit::item_range(list, number, &mut start, &mut size);
-    if refusal != 0 {
-        return 1;
+    match leaf_edit::item_range(list, number) {
+        Ok(range) if 22 <= range.start => range.start - 21,
+        _ => 1,
     }
-    let data = start as usize;
-    if data < 22 {
-        return 1;
-    }
-    data - 21
 }
 
 // The items from byte `at` on, as a list.
@@ -45,8 +35,7 @@ fn behind(list: &[u8], at: usize) -> Card {
 // The shift after the last one, where the list has the maps of shift after shift from `first` on; 0 where it has anything else.
 fn maps_from(list: &[u8], first: u32) -> u32 {
     let mut at: usize = 1;
-    let mut shift = first;
-    while shift < 1000 {
+    for shift in first..1000 {
         if list.len() <= at {
             return shift;
         }
@@ -59,7 +48,6 @@ fn maps_from(list: &[u8], first: u32) -> u32 {
             return 0;
         }
         at += size;
-        shift += 1;
     }
     0
 }
@@ -70,9 +58,9 @@ fn two_leaves(rt: &impl Print, whole: &[u8], cut: usize, last: u32) -> bool {
     if whole.len() < at {
         return false;
     }
-    let one = &whole[0..at];
+    let one = &whole[..at];
     let rest = behind(whole, at);
-    let other = card::list(&rest.bytes, rest.size);
+    let other = rest.list();
     say::number(rt, card::items(whole) as u64);
     say::text(rt, b" maps are divided into leaves of ");
     say::number(rt, card::items(one) as u64);
@@ -83,22 +71,11 @@ fn two_leaves(rt: &impl Print, whole: &[u8], cut: usize, last: u32) -> bool {
     fits(one) & fits(other) & (last < end)
 }
 
-fn wide(number: u16) -> usize {
-    number as usize
-}
-
 // The list divided at the item that the library names.
 pub fn divide(rt: &impl Print, whole: &[u8], last: u32) -> bool {
     let mut cuts = [0u16; 64];
     match leaf_edit::split_to_fit(NODESIZE, whole, &mut cuts) {
-        Edited::Written(later) => {
-            if later == 1 {
-                return two_leaves(rt, whole, wide(cuts[0]), last);
-            }
-            false
-        }
-        Edited::Absent => false,
-        Edited::Remove => false,
-        Edited::Refused(_) => false,
+        Ok(Edited::Written(1)) => two_leaves(rt, whole, cuts[0] as usize, last),
+        _ => false,
     }
 }

@@ -10,7 +10,7 @@ pub fn show(rt: &impl Print) {
           references it has; then each reference by its type, tree, file, offset and count.\n\n",
     );
     let mut body = [0u8; 53];
-    extent_write::data_extent_body(7, 5, 257, 0, &mut body);
+    let _ = extent_write::data_extent_body(7, 5, 257, 0, &mut body);
     let mut input = [168u8; 54];
     fields::copy_at(&body, 0, 53, &mut input, 1);
     let mut text = [0u8; 327775];

@@ -1,4 +1,5 @@
 // Words on standard output. A write that fails is let go.
+use format::Refusal;
 
 pub fn text(rt: &impl Print, bytes: &[u8]) {
     let _ = rt.write_all(bytes);
@@ -26,19 +27,19 @@ pub fn indented(rt: &impl Print, lines: &[u8]) {
 }
 
 // What a call answered: done, or refused with a number, and what the numbers that occur here say.
-pub fn answer(rt: &impl Print, code: u32) {
-    if code == 0 {
+pub fn answer(rt: &impl Print, refusal: Option<Refusal>) {
+    let Some(refusal) = refusal else {
         text(rt, b"done");
         return;
-    }
+    };
     text(rt, b"refused, number ");
-    number(rt, code as u64);
-    match code {
-        5 => text(rt, b" (no such reference)"),
-        9 => text(rt, b" (it stands there already)"),
-        13 => text(rt, b" (it is the extent's last reference)"),
-        18 => text(rt, b" (it would not fit in the leaf)"),
-        23 => text(rt, b" (its checksum is wrong)"),
-        _ => text(rt, b""),
+    number(rt, refusal.number as u64);
+    match refusal {
+        Refusal::MISSING => text(rt, b" (no such reference)"),
+        Refusal::STANDS => text(rt, b" (it stands there already)"),
+        Refusal::LAST_ONE => text(rt, b" (it is the extent's last reference)"),
+        Refusal::NO_FIT => text(rt, b" (it would not fit in the leaf)"),
+        Refusal::NO_LEAF => text(rt, b" (its checksum is wrong)"),
+        _ => {}
     }
 }

@@ -1,7 +1,6 @@
 // A card of ten shifts over one base survey. Each shift is a snapshot, with a tree and a map of its own.
-use crate::card;
-use crate::card::{Card, Edit};
-use format::{Change, DataRef, Key};
+use crate::card::Card;
+use format::{Change, DataRef, Key, Refusal};
 
 const NODESIZE: u32 = 16384;
 
@@ -30,14 +29,13 @@ pub fn key(extent: u64) -> Key {
 pub fn record(shift: u32) -> [u8; 53] {
     let tree = tree(shift);
     let mut body = [0u8; 53];
-    extent_write::data_extent_body(tree, tree, 257, 0, &mut body);
+    let _ = extent_write::data_extent_body(tree, tree, 257, 0, &mut body);
     body
 }
 
 // A new extent.
-pub fn save(card: Card, nodesize: u32, extent: u64, shift: u32) -> Edit {
-    let body = record(shift);
-    card::insert(card, nodesize, key(extent), &body)
+pub fn save(card: &Card, nodesize: u32, extent: u64, shift: u32) -> Result<Card, Refusal> {
+    card.insert(nodesize, key(extent), &record(shift))
 }
 
 fn name(shift: u32) -> DataRef {
@@ -49,10 +47,9 @@ fn name(shift: u32) -> DataRef {
 }
 
 // One more user of an extent.
-fn give(card: Card, extent: u64, shift: u32) -> Edit {
+fn give(card: &Card, extent: u64, shift: u32) -> Result<Card, Refusal> {
     let name = name(shift);
-    card::post(
-        card,
+    card.post(
         NODESIZE,
         Change::AddData {
             extent,
@@ -63,26 +60,24 @@ fn give(card: Card, extent: u64, shift: u32) -> Edit {
 }
 
 // One user less.
-pub fn take(card: Card, extent: u64, shift: u32) -> Edit {
+pub fn take(card: &Card, extent: u64, shift: u32) -> Result<Card, Refusal> {
     let name = name(shift);
-    card::post(card, NODESIZE, Change::DropData { extent, name })
+    card.post(NODESIZE, Change::DropData { extent, name })
 }
 
 // A later shift: a map of its own; it uses the survey too, and the map of the shift before.
-fn begun(card: Card, shift: u32, before: u32) -> Card {
-    let saved = save(card, NODESIZE, map(shift), shift);
-    let survey = give(saved.card, SURVEY, shift);
-    let both = give(survey.card, map(before), shift);
-    both.card
+fn begun(card: &Card, shift: u32, before: u32) -> Result<Card, Refusal> {
+    let saved = save(card, NODESIZE, map(shift), shift)?;
+    let survey = give(&saved, SURVEY, shift)?;
+    give(&survey, map(before), shift)
 }
 
 // The first shift has the survey and a map to itself; then come the others.
-pub fn ten() -> Card {
-    let survey = save(card::empty(), NODESIZE, SURVEY, 1);
-    let first = save(survey.card, NODESIZE, map(1), 1);
-    let mut all = first.card;
+pub fn ten() -> Result<Card, Refusal> {
+    let survey = save(&Card::empty(), NODESIZE, SURVEY, 1)?;
+    let mut all = save(&survey, NODESIZE, map(1), 1)?;
     for shift in 1..SHIFTS {
-        all = begun(all, shift + 1, shift);
+        all = begun(&all, shift + 1, shift)?;
     }
-    all
+    Ok(all)
 }

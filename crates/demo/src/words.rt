@@ -3,7 +3,7 @@ ghost use Rattle.std.specs.Prelude.{◌+◌, ◌≤◌, length};
 
 use crate::{card, say};
 use format::Key;
-use inline_refs::{Cursor, RefStep, Start};
+use inline_refs::{Cursor, Kinds, RefAt};
 
 // A data reference's 28 bytes.
 fn data_ref(rt: &impl Print, bytes: &[u8], at: usize)
@@ -37,43 +37,30 @@ fn holder(rt: &impl Print, kind: u8, field: u64) {
 }
 
 // An inline reference. Those of 28 bytes are data references, those of 12 shared ones with a count.
-fn inline_ref(rt: &impl Print, body: &[u8], kind: u8, start: usize, size: usize)
-    requires { start + size ≤ length body.now }
+fn inline_ref(rt: &impl Print, body: &[u8], reference: RefAt)
+    requires { reference.start + reference.size ≤ length body.now }
 {
+    let start = reference.start;
     say::text(rt, b"        by ");
-    if size == 28 {
-        data_ref(rt, body, start);
-    } else if size == 12 {
-        shared_leaf(
+    match reference.size {
+        28 => data_ref(rt, body, start),
+        12 => shared_leaf(
             rt,
             fields::get_u64_le(body, start),
             fields::get_u32_le(body, start + 8),
-        );
-    } else if size == 8 {
-        holder(rt, kind, fields::get_u64_le(body, start));
+        ),
+        8 => holder(rt, reference.kind, fields::get_u64_le(body, start)),
+        _ => {}
     }
     say::text(rt, b"\n");
 }
 
 fn inline_refs_from(rt: &impl Print, body: &[u8], start: usize) {
-    let rows = inline_refs::rows();
-    let mut at = start;
-    loop {
-        let cursor = Cursor { at };
-        match cursor.step(&rows, body) {
-            RefStep::Ref {
-                kind,
-                start: payload,
-                size,
-                next,
-                ..
-            } => {
-                inline_ref(rt, body, kind, payload, size);
-                at = next.at;
-            }
-            RefStep::End => return,
-            RefStep::Refused(_) => return,
-        }
+    let kinds = Kinds::new();
+    let mut cursor = Cursor { at: start };
+    while let Ok(Some(reference)) = cursor.step(&kinds, body) {
+        inline_ref(rt, body, reference);
+        cursor = reference.next;
     }
 }
 
@@ -87,9 +74,8 @@ fn record(rt: &impl Print, key: Key, body: &[u8]) {
     say::text(rt, b": used ");
     say::times(rt, card::total(body));
     say::text(rt, b"\n");
-    match inline_refs::open_body(key.kind, body) {
-        Start::From(start) => inline_refs_from(rt, body, start),
-        Start::Refused(_) => return,
+    if let Ok(start) = inline_refs::open_body(key.kind, body) {
+        inline_refs_from(rt, body, start);
     }
 }
 
