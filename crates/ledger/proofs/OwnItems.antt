@@ -5,10 +5,13 @@ use mathlib.Core.List.{List}
 use Prim.Native.Nat.{ℕ, ◌+◌, ◌≤◌}
 use native.Mathlib.Omega.{arith}
 use lib.Dec.{T, eqb, eqb→eq}
-use lib.ListN.{length}
+use lib.ListN.{length, get_or}
+use mir.Syntax.{w8}
+use mir.Val.{Fits}
 use mir.Facts.{and_yes}
 use Rattle.fields.specs.Lists.{all, Cut}
 use Rattle.fields.specs.Numbers.{are_bytes}
+use Rattle.fields.proofs.Numbers.{are_bytes-in}
 use Rattle.fields.proofs.Lists.{all-mid, Found, cut-some}
 use Rattle.format.specs.References.{rank_of}
 use Rattle.format.specs.Items.{Item, key_of}
@@ -35,16 +38,27 @@ use Rattle.record_edit.specs.declared.RecordAt.{RecordAt}
 use Rattle.record_edit.proofs.Stands.{Stands, stands}
 use Rattle.transaction.proofs.RefDrops.{kind-high}
 
+-- the bytes of a sheet, as their type tells them
+abbrev pub Bytes : List ℕ → Type 0
+Bytes s = (i : ℕ) → Fits w8 (get_or s i 0)
+
+pub bytes : (s : List ℕ) → Bytes s → T (are_bytes s)
+bytes s b = are_bytes-in s (λ i. (b i).fits)
+
+-- the record stands
+pub found : {s : List ℕ} {extent : ℕ} {target : RecordAt} → Bytes s → (h : StandsFor s extent target) → Stands s h.stands.at_cut target
+found b h = stands (bytes _ b) h.stands
+
 pub record Seat (s : List ℕ) (extent : ℕ) (w : RefName) (start end : ℕ) : Type 0 where
   pub ordered : start + 21 ≤ end
   pub within : end ≤ length s
   pub long : kind_of w ≡ 178 → 24 ≤ length (data_of s start end)
   pub own : (b : Bool) → b ≡ is_own_item w (data_of s start end) → not b ≡ all (not_its_own (name_in extent w)) (list_items s)
 
-module _ {s : List ℕ} {extent : ℕ} {target : RecordAt} (t : T (are_bytes s)) (there : StandsFor s extent target) (balance : T (balanced (list_items s)))
+module _ {s : List ℕ} {extent : ℕ} {target : RecordAt} (t : Bytes s) (there : StandsFor s extent target) (balance : T (balanced (list_items s)))
     (w : RefName) (kind offset : ℕ) (kind-is : kind ≡ kind_of w) (offset-is : offset ≡ rank_of (kind_of w) (fields_of w)) where
   st : Stands s there.stands.at_cut target
-  st = stands t there.stands
+  st = found t there
 
   count : Counted s target.item_count
   count = st.list

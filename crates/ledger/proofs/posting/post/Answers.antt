@@ -1,13 +1,7 @@
-use mathlib.Core.Path.{◌≡◌, sym, ◌∙◌}
-use mathlib.Core.Bool.{◌&&◌}
 use lib.ListN.{length}
-use Rattle.format.specs.Items.{nodesize_fits}
-use Rattle.format.specs.Ledger.{name_of, kind_fits}
 use Rattle.format.proofs.Answers.{handed_on}
-use Rattle.item_list.specs.Steps.{list_items}
-use Rattle.record_edit.specs.Records.{asked_sheet, Finds, RecordMissing, RecordFound}
 use Rattle.record_edit.proofs.Searches.{passed-shows}
-use Rattle.ledger.proofs.Postings.{finds-for, list_read, sheet-no, unbalanced, missing-answered, kind-yes, balanced-list, post-answered}
+use Rattle.ledger.proofs.Postings.{finds-for, read-for, none-for, stands-for, sheet-no, unbalanced, missing-answered, kind-yes, balanced-list, post-answered}
 use Rattle.ledger.proofs.posting.post.Goals as goal
 
 pub returns-in_err-found : goal.returns-in_err-found
@@ -18,16 +12,35 @@ returns-in_err-found c =
     (finds-for a.sheet.now a.change c.extent_of.ensures c.change_fits-three.ensures c.in_err-found.was c.find_record.ensures))
 
 pub ask_balanced-requires : goal.ask_balanced-requires
-ask_balanced-requires c = ?
+ask_balanced-requires c =
+    (passed-shows _ _ (read-for c.args.sheet.now c.args.change _ c.extent_of.ensures c.change_fits-three.ensures c.in_ok-found.ensures)).1
 
 pub returns-in_err-ask_balanced : goal.returns-in_err-ask_balanced
-returns-in_err-ask_balanced c = ?
+returns-in_err-ask_balanced c =
+    let a = c.args in
+    let p = read-for a.sheet.now a.change _ c.extent_of.ensures c.change_fits-three.ensures c.in_ok-found.ensures in
+    rw (handed_on c.from_residual-in_err-ask_balanced.ensures.1)
+    (unbalanced a.sheet.now a.nodesize a.change (length a.out.now) p _ a.out.now c.in_err-ask_balanced.ensures)
 
 pub returns-in_default : goal.returns-in_default
-returns-in_default c = ?
+returns-in_default c =
+    let a = c.args in
+    let p = read-for a.sheet.now a.change _ c.extent_of.ensures c.change_fits-three.ensures c.in_ok-found.ensures in
+    missing-answered a.sheet.now a.nodesize a.change (length a.out.now) p c.in_ok-ask_balanced.ensures a.out.now
+    (none-for a.sheet.now a.change _ c.extent_of.ensures c.change_fits-three.ensures c.in_ok-found.ensures c.in_default.is)
 
 pub change_at-requires : goal.change_at-requires
-change_at-requires c = ?
+change_at-requires c =
+    let a = c.args in
+    let p = read-for a.sheet.now a.change _ c.extent_of.ensures c.change_fits-three.ensures c.in_ok-found.ensures in
+    record {
+      stands_for = stands-for a.sheet.now a.change _ c.extent_of.ensures c.change_fits-three.ensures c.in_ok-found.ensures c.in-Some.is;
+      t = balanced-list a.sheet.now a.nodesize a.change 0 p c.in_ok-ask_balanced.ensures;
+      t_2 = kind-yes a.sheet.now a.nodesize a.change 0 p;
+    }
 
 pub returns : goal.returns
-returns c = ?
+returns c =
+    let a = c.args in
+    let p = read-for a.sheet.now a.change _ c.extent_of.ensures c.change_fits-three.ensures c.in_ok-found.ensures in
+    post-answered a.sheet.now a.nodesize a.change (length a.out.now) p c.in_ok-ask_balanced.ensures _ a.out.now _ c.change_at.ensures
