@@ -1,16 +1,15 @@
 -- A further question put to a call. Assumes nothing.
-use mathlib.Core.Path.{◌≡◌, refl, ◌∙◌}
+use mathlib.Core.Path.{◌≡◌, refl}
 use mathlib.Core.Bool.{Bool, true, false}
 use mathlib.Core.List.{List}
 use Prim.Native.Nat.{ℕ}
-use lib.Dec.{leb}
 use Rattle.std.specs.Prelude.{Result, Ok, Err}
 use Rattle.format.specs.declared.Refusal.{Refusal}
 use Rattle.format.specs.Questions.{Answer, refused, absent, remove, accepted, bind, also}
 use Rattle.backref.specs.declared.plan.Plan.{Plan}
 use Rattle.backref.specs.declared.plan.Plan.TheVariants.{Edit, Absent, Remove}
 use Rattle.backref.specs.Plans.{plan_answer, PlanIn}
-use Rattle.ledger.specs.Posting.{first_no, AlsoAsked, AskedAdd}
+use Rattle.ledger.specs.Posting.{first_no, AlsoAsked}
 
 -- ---- of a plan
 
@@ -32,12 +31,6 @@ module _ (p : Result Plan Refusal) (yes : Bool) (refusal : ℕ) where
     says = λ body. rw (e, f) (answer-no p refusal body);
     inside = λ body t. tt;
   }
-
-pub asked-add : (p q r : Result Plan Refusal) (none own : Bool) (amount : ℕ) → none ≡ own → AlsoAsked p (leb 1 amount) 10 q → AlsoAsked q none 9 r → AskedAdd p own amount r
-asked-add p q r none own amount e a b = record {
-  says = λ body. b.says body ∙ (λ j. also (e j) 9 (a.says body j));
-  inside = λ body t. b.inside body (a.inside body t);
-}
 
 -- ---- of a call: nothing that follows the result asks an earlier question
 

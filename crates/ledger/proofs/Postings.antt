@@ -26,7 +26,7 @@ use Rattle.inline_refs.specs.declared.ref_name.RefName.TheVariants.{Block, Data,
 use Rattle.inline_refs.specs.Scans.{kind_of}
 use Rattle.item_list.specs.Steps.{list_items}
 use Rattle.item_list.proofs.ItemWrites.{answered-no}
-use Rattle.backref.specs.ByName.{SharedName, OneOff}
+use Rattle.backref.specs.ByName.{SharedName}
 use Rattle.transaction.specs.Drops.{drop_ref}
 use Rattle.ledger.specs.Posting.{add_change, balance_asked}
 use Rattle.record_edit.specs.declared.RecordAt.{RecordAt}
@@ -50,13 +50,6 @@ shared-drop name (Block n) h amount items c = absurd h
 shared-drop name (Data n) h amount items c = absurd h
 shared-drop name (SharedBlock parent) h amount items c = ap (λ (x : SharedRef). drop_shared_ref x amount items c) h
 shared-drop name (SharedData parent) h amount items c = ap (λ (x : SharedRef). drop_shared_ref x amount items c) h
-
--- an amount goes off it
-pub shared-off : (name : SharedRef) (w : RefName) (amount : ℕ) → SharedName name w → OneOff w amount
-shared-off name (Block n) amount h = absurd h
-shared-off name (Data n) amount h = absurd h
-shared-off name (SharedBlock parent) amount h = tt
-shared-off name (SharedData parent) amount h = tt
 
 -- ---- the change that it is
 
@@ -88,9 +81,6 @@ as-change nodesize room items {r} {old} {new} change other e h =
 pub entered-as : {s : List ℕ} {target : RecordAt} (change : Change) {other : Change} → change ≡ other → StandsFor s (name_of change).extent target
     → StandsFor s (name_of other).extent target
 entered-as {s} {target} change e h = subst (λ (x : Change). StandsFor s (name_of x).extent target) e h
-
-pub fits-as : (change : Change) {other : Change} → change ≡ other → T (kind_fits change) → T (kind_fits other)
-fits-as change e h = subst (λ (x : Change). T (kind_fits x)) e h
 
 pub not-block : (name : SharedRef) (w : RefName) {amount : ℕ} → SharedName name w → kind_of w ≡ 176 → amount ≡ 1
 unfolding kind_of
