@@ -31,7 +31,7 @@ use Rattle.transaction.specs.Drops.{drop_ref}
 use Rattle.ledger.specs.Posting.{add_change, balance_asked}
 use Rattle.record_edit.specs.declared.RecordAt.{RecordAt}
 use Rattle.record_edit.specs.declared.FoundRecord.{FoundRecord}
-use Rattle.record_edit.specs.Records.{StandsFor, asked_sheet, Finds, RecordMissing, RecordFound}
+use Rattle.record_edit.specs.Records.{StandsFor, asked_sheet, Finds, RecordMissing}
 use Rattle.record_edit.proofs.Searches.{on-refused, on-passed, passed-shows, finds-as}
 
 -- ---- the name of a shared reference
@@ -128,7 +128,7 @@ list_read : (s : List ℕ) (extent : ℕ) (three : Bool) (found : Maybe FoundRec
 list_read s extent three None h = h.passed
 list_read s extent three (Some found) h = h.passed
 
--- there is a list, and the extent's record stands in it or does not
+-- there is a list, and where no record was found it has none
 module _ (s : List ℕ) (change : Change) {extent : ℕ} {a b : Bool} (found : Maybe FoundRecord) (e : extent ≡ (name_of change).extent) (f : a ≡ b)
     (h : Finds s extent a (Ok found)) where
   pub read-for : asked_sheet s b ≡ accepted (list_items s)
@@ -136,9 +136,6 @@ module _ (s : List ℕ) (change : Change) {extent : ℕ} {a b : Bool} (found : M
 
   pub none-for : found ≡ None → first_cut (record_of (name_of change).extent) (list_items s) ≡ none
   none-for g = let m : RecordMissing s (name_of change).extent b = finds-for s change e f (ap Ok g) h in m.none-there
-
-  pub stands-for : {x : FoundRecord} → found ≡ Some x → StandsFor s (name_of change).extent x.target
-  stands-for {x} g = let r : RecordFound s (name_of change).extent b x.index x.target = finds-for s change e f (ap Ok g) h in r.there
 
 four-yes : (b : Bool) {u : Unit {0}} → Ok u ≡ balance_asked b → b ≡ true
 unfolding balance_asked

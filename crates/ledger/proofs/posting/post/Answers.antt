@@ -1,7 +1,7 @@
 use lib.ListN.{length}
 use Rattle.format.proofs.Answers.{handed_on}
 use Rattle.record_edit.proofs.Searches.{passed-shows}
-use Rattle.ledger.proofs.Postings.{finds-for, read-for, none-for, stands-for, sheet-no, unbalanced, missing-answered, kind-yes, balanced-list, post-answered}
+use Rattle.ledger.proofs.Postings.{finds-for, read-for, none-for, sheet-no, unbalanced, missing-answered, kind-yes, balanced-list, post-answered}
 use Rattle.ledger.proofs.posting.post.Goals as goal
 
 pub returns-in_err-found : goal.returns-in_err-found
@@ -29,15 +29,17 @@ returns-in_default c =
     missing-answered a.sheet.now a.nodesize a.change (length a.out.now) p c.in_ok-ask_balanced.ensures a.out.now
     (none-for a.sheet.now a.change _ c.extent_of.ensures c.change_fits-three.ensures c.in_ok-found.ensures c.in_default.is)
 
-pub change_at-requires : goal.change_at-requires
-change_at-requires c =
+pub change_at-requires-clause-t : goal.change_at-requires-clause-t
+change_at-requires-clause-t c =
     let a = c.args in
-    let p = read-for a.sheet.now a.change _ c.extent_of.ensures c.change_fits-three.ensures c.in_ok-found.ensures in
-    record {
-      stands_for = stands-for a.sheet.now a.change _ c.extent_of.ensures c.change_fits-three.ensures c.in_ok-found.ensures c.in-Some.is;
-      t = balanced-list a.sheet.now a.nodesize a.change 0 p c.in_ok-ask_balanced.ensures;
-      t_2 = kind-yes a.sheet.now a.nodesize a.change 0 p;
-    }
+    balanced-list a.sheet.now a.nodesize a.change 0
+    (read-for a.sheet.now a.change _ c.extent_of.ensures c.change_fits-three.ensures c.in_ok-found.ensures) c.in_ok-ask_balanced.ensures
+
+pub change_at-requires-clause-t_2 : goal.change_at-requires-clause-t_2
+change_at-requires-clause-t_2 c =
+    let a = c.args in
+    kind-yes a.sheet.now a.nodesize a.change 0
+    (read-for a.sheet.now a.change _ c.extent_of.ensures c.change_fits-three.ensures c.in_ok-found.ensures)
 
 pub returns : goal.returns
 returns c =
