@@ -62,6 +62,7 @@ fn with_block(card: &Card) -> Result<Card, Refusal> {
     card.insert(NODESIZE, block.key(), &body)
 }
 
+// Both of them.
 fn with_both(card: &Card) -> Result<Card, Refusal> {
     let map = with_map(card)?;
     with_block(&map)

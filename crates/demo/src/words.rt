@@ -104,6 +104,7 @@ fn item(rt: &impl Print, list: &[u8], at: usize, next: usize)
     }
 }
 
+// A `while`: each step goes on by the size of the item that it has just read, which a `for` cannot say.
 pub fn print(rt: &impl Print, list: &[u8]) {
     let mut at: usize = 1;
     while at < list.len() {

@@ -1,5 +1,5 @@
 // Answers as numbers: the code is returned, the result's numbers are lent, and they are 0 without a result.
-// A lent number is a place of its own, and no field of a struct, since C lends each by a pointer of its own.
+// A function for each form of result, with as many lent numbers as C has for it: C lends each by a pointer of its own.
 ghost use Rattle.std.specs.Prelude.{◌≡◌, [], ◌∷◌};
 ghost use Rattle.extent_refs.specs.Exports.{plain_code, edited_numbers, taken_numbers, told_numbers, filed_numbers, judged_numbers, picked_numbers, ranged_numbers};
 
