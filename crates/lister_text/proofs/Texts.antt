@@ -23,7 +23,7 @@ use Rattle.inline_refs.specs.Steps.{ref_step_at, read_from}
 use Rattle.inline_refs.proofs.Steps.{At, stopped}
 use Rattle.text.specs.Numbers.{spaced}
 use Rattle.text.specs.Puts.{Put}
-use Rattle.lister_text.specs.Refs.{ReadIn, Readable, refs_of}
+use Rattle.lister_text.specs.Refs.{ReadIn, ReadsOn, refs_of}
 use Rattle.text.proofs.Numbers.{digits-short, spaced-append, spaced-short, line-is}
 use Rattle.text.proofs.Writes.{put_is, put_then}
 
@@ -142,7 +142,7 @@ ref-short k l t =
 -- ---- one reference further
 
 -- so no step refuses
-pub no-fault : (s : List ℕ) (at : ℕ) (r : Result (Option RefAt) Refusal) → r ≡ ref_step_at s at → Readable s at → IsOk r
+pub no-fault : (s : List ℕ) (at : ℕ) (r : Result (Option RefAt) Refusal) → r ≡ ref_step_at s at → ReadsOn s at → IsOk r
 no-fault s at (Ok step) e h = refl
 no-fault s at (Err refusal) e h = refused-not (sym (stopped s at e refl) ∙ h)
 
@@ -153,8 +153,8 @@ pub readable : (x : Answer (List Ref)) (refs : List Ref) → x ≡ accepted refs
 unfolding refs_of
 readable x refs e = e ∙ ap accepted (sym (ap refs_of e))
 
-module _ (s : List ℕ) (at k p n q next : ℕ) (h : At s at k p n q next) (r : Readable s at) where
-  pub readable-next : Readable s next
+module _ (s : List ℕ) (at k p n q next : ℕ) (h : At s at k p n q next) (r : ReadsOn s at) where
+  pub readable-next : ReadsOn s next
   readable-next = let w = bind_ok (read_from s next) _ (sym h.reads ∙ r) in readable (read_from s next) w.0 w.1
 
   pub lines_next : ref_lines (refs_of (read_from s at)) ≡ ref_line (ref_at k (drop p s)) ++ ref_lines (refs_of (read_from s next))

@@ -10,8 +10,8 @@ unfoldable pub refs_of : Answer (List Ref) → List Ref
 refs_of answer = result_or [] (λ refs. refs) answer
 
 -- those from a position on can be read
-abbrev pub Readable : List ℕ → ℕ → Type 0
-Readable s at = read_from s at ≡ accepted (refs_of (read_from s at))
+abbrev pub ReadsOn : List ℕ → ℕ → Type 0
+ReadsOn s at = read_from s at ≡ accepted (refs_of (read_from s at))
 
 -- what a step has shown of a reference: a known kind, with that kind's lengths, whose payload stands in the body
 pub record ReadIn (s : List ℕ) (r : RefAt) : Type 0 where

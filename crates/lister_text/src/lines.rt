@@ -7,7 +7,7 @@ ghost use Rattle.format.specs.Lister.{line, ref_line, ref_lines, printed};
 ghost use Rattle.inline_refs.specs.Steps.{read_from};
 ghost use Rattle.text.specs.Numbers.{spaced};
 ghost use Rattle.text.specs.Puts.{Put};
-ghost use Rattle.lister_text.specs.Refs.{ReadIn, Readable, refs_of};
+ghost use Rattle.lister_text.specs.Refs.{ReadIn, ReadsOn, refs_of};
 
 use inline_refs::{Cursor, Kinds, RefAt};
 
@@ -82,7 +82,7 @@ fn put_ref(out: &mut [u8], at: usize, body: &[u8], reference: RefAt) -> usize
 // The lines of the references from `start` on, which were read before, so no step refuses: at most five bytes of text for each byte
 // that is read.
 pub fn put_refs(out: &mut [u8], at: usize, kinds: &Kinds, body: &[u8], start: usize) -> usize
-    requires { (length body.now ≤ 65535) × Readable body.now start × (start ≤ length body.now) × (at ≤ 100) }
+    requires { (length body.now ≤ 65535) × ReadsOn body.now start × (start ≤ length body.now) × (at ≤ 100) }
     ensures { Put (ref_lines (refs_of (read_from body.now start))) at out.old result out.new × (result ≤ 100 + 5 * length body.now) }
 {
     let mut cursor = Cursor { at: start };
