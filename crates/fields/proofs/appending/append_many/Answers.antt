@@ -25,7 +25,7 @@ loop-i-preserved c =
     let e : loop.i + 64 ≡ done (loop.i + 64) = omega arith in (
       omega arith,
       omega arith,
-      λ old room h. copied-over a.at (done loop.i) loop.i 64 src old _ _ low high end room (loop.invariant.2 old room h) c.copy_block-in-loop-i.ensures
+      λ old room h. copied-over a.at (done loop.i) loop.i 64 src old _ _ low high end room (loop.invariant.2 old room h) c.copy_64-in-loop-i.ensures
           ∙ ap (λ (k : ℕ). written a.at (part 0 k src) old) e,
     )
 
@@ -39,5 +39,5 @@ returns c =
     let end : length src - 64 + 64 ≡ length src = omega arith in
     let room = c.requires.1 in
     copied-last a.at (done loop.i) (length src - 64) 64 src a.dst.now _ _ low high end room
-    (loop.invariant.2 a.dst.now room c.copy_block.ensures)
-    c.copy_block-2.ensures
+    (loop.invariant.2 a.dst.now room c.copy_64.ensures)
+    c.copy_64-2.ensures
