@@ -8,7 +8,7 @@ ghost use Rattle.item_list.specs.Steps.{opens_list, following};
 ghost use Rattle.item_list.specs.Seeks.{passing, listing_of};
 
 use super::{ItemPlace, ItemQuery, Listing, checking, stepping};
-use format::{EXTENT_ITEM, ITEM_HEAD, Key, METADATA_ITEM, MOST_SHEET, Refusal};
+use format::{EXTENT_ITEM, ITEM_HEAD, Key, METADATA_ITEM, MOST_ITEMS, MOST_SHEET, Refusal};
 
 // Whether keys still rise after item number `n` with its key.
 #[tactic(auto, using(format::proofs::Keys::key_lt), unfolding(crate::specs::Steps::following))]
@@ -23,7 +23,7 @@ pub fn follows(ordered: bool, n: usize, last: Key, key: Key) -> bool
 fn is_record(key: Key, extent: u64) -> bool
     ensures { result ≡ record_of extent (record { key = key; bytes = [] }) }
 {
-    matches!(key.kind, EXTENT_ITEM | METADATA_ITEM) && key.objectid == extent
+    key.objectid == extent && matches!(key.kind, EXTENT_ITEM | METADATA_ITEM)
 }
 
 // Whether item number `n` with its key is wanted.
@@ -56,8 +56,8 @@ fn walk(s: &[u8], query: ItemQuery) -> Result<Listing, Refusal>
         let here = stepping::key_at(s, at);
         ordered = follows(ordered, n, key, here);
         key = here;
-        let end = at + size;
         if passes(query, n, key) {
+            let end = at + size;
             let count = checking::check_behind(s, end, n + 1, size, key, ordered)?;
             let place = ItemPlace {
                 index: n,
@@ -69,11 +69,20 @@ fn walk(s: &[u8], query: ItemQuery) -> Result<Listing, Refusal>
                 place: Some(place),
             });
         }
-        at = end;
+        at += size;
         n += 1;
     }
-    let count = checking::verdict(n, ordered)?;
-    Ok(Listing { count, place: None })
+    // The questions of `checking::verdict`, put here: were they put by a call, the loop would have no register left for the query.
+    if MOST_ITEMS < n {
+        return Err(Refusal::NO_LIST);
+    }
+    if !ordered {
+        return Err(Refusal::KEYS);
+    }
+    Ok(Listing {
+        count: n,
+        place: None,
+    })
 }
 
 // Question 1 before the items: version and length.

@@ -1,13 +1,14 @@
 use borrow.Author.Rules.{rules}
-use mathlib.Core.Path.{◌≡◌, sym, ap, ◌∙◌}
+use mathlib.Core.Path.{◌≡◌, refl, sym, ap, ◌∙◌}
 use mathlib.Core.Bool.{Bool, true, false, cond}
 use Prim.Native.Nat.{ℕ, ◌+◌, ◌-◌}
 use native.Mathlib.Omega.{arith}
 use lib.ListN.{drop}
-use Rattle.std.specs.Prelude.{Some, None, Result}
+use borrow.Author.Tests.{le-leb, lt-leb}
+use Rattle.std.specs.Prelude.{Some, None, Result, Ok}
 use Rattle.std.proofs.lemmas.Result.{err_from_is_err_and}
 use Rattle.format.specs.declared.Refusal.{Refusal}
-use Rattle.format.specs.Questions.{accepted, ask, bind}
+use Rattle.format.specs.Questions.{accepted, ask, bind, denied}
 use Rattle.format.specs.Items.{read_items, rising}
 use Rattle.item_list.specs.Steps.{item_at, items_in}
 use Rattle.item_list.specs.Seeks.{place_at, passing, position_in, listing_of, verdict_of, listed_with}
@@ -31,6 +32,9 @@ key_at-here-requires c = let w = here (goal.at.key_at-here-requires c).Else-size
 
 pub overflow_add-end : goal.overflow_add-end
 overflow_add-end c = let w = here (goal.at.overflow_add-end c).Else-size-eq0 in search rules
+
+pub overflow_add-at : goal.overflow_add-at
+overflow_add-at c = let w = here (goal.at.overflow_add-at c).Else-size-eq0 in search rules
 
 pub check_behind-requires : goal.check_behind-requires
 check_behind-requires c =
@@ -79,12 +83,16 @@ none-wanted : (c : After-loop-at) → (x : Result ℕ Refusal) → x ≡ verdict
     → listed_with x None ≡ listing_of (passing c.args.query) (bind (read_items 4096 (drop 1 c.args.s.now)) (λ items. ask (rising items) 2 (accepted items)))
 none-wanted c x e = ap (λ (y : Result ℕ Refusal). listed_with y None) e ∙ sym (c.loop-at.invariant.2 ∙ search-end _ _ _ _ _ _ c.loop-at-test.false)
 
-pub returns-in_err-count-2 : goal.returns-in_err-count-2
-unfolding listed_with
-returns-in_err-count-2 c =
-    let p = err_from_is_err_and c.from_residual-in_err-count-2.result c.from_residual-in_err-count-2.ensures.1 in
-    rw (p.1, p.2) (none-wanted (goal.at.returns-in_err-count-2 c).After-loop-at _ c.in_err-count-2.ensures)
+pub returns-then-n-gt-MOST_ITEMS : goal.returns-then-n-gt-MOST_ITEMS
+unfolding listed_with verdict_of
+returns-then-n-gt-MOST_ITEMS c =
+    none-wanted (goal.at.returns-then-n-gt-MOST_ITEMS c).After-loop-at (denied 1) (sym (rw (lt-leb _ _ c.if-n-gt-MOST_ITEMS.true) refl))
+
+pub returns-then-not-ordered : goal.returns-then-not-ordered
+unfolding listed_with verdict_of
+returns-then-not-ordered c =
+    none-wanted (goal.at.returns-then-not-ordered c).After-loop-at (denied 2) (sym (rw (le-leb _ _ c.if-n-gt-MOST_ITEMS.false, c.if-not-ordered.true) refl))
 
 pub returns : goal.returns
-unfolding listed_with
-returns c = none-wanted (goal.at.returns c).After-loop-at _ c.in_ok-count-2.ensures
+unfolding listed_with verdict_of
+returns c = none-wanted (goal.at.returns c).After-loop-at (Ok _) (sym (rw (le-leb _ _ c.if-n-gt-MOST_ITEMS.false, c.if-not-ordered.false) refl))
