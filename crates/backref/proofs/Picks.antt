@@ -3,6 +3,7 @@ use mathlib.Core.Path.{◌≡◌, refl, sym, ap, ap₂, subst, ◌∙◌}
 use mathlib.Core.List.{List, [], ◌∷◌}
 use Prim.Native.Nat.{ℕ, zero, suc, ◌+◌, ◌-◌, ◌≤◌}
 use native.Mathlib.Omega.{arith}
+use lib.Dec.{T}
 use lib.ListN.{length, drop, get_or, get_elem?}
 use Rattle.std.specs.Prelude.{Result, Ok, Err}
 use Rattle.format.specs.declared.Refusal.{Refusal}
@@ -10,11 +11,12 @@ use Rattle.fields.specs.Numbers.{le}
 use Rattle.fields.specs.Parts.{part}
 use Rattle.fields.proofs.Numbers.{words-at}
 use Rattle.format.specs.declared.InlineRef.{InlineRef}
-use Rattle.format.specs.Questions.{Answer, refused, absent, remove, accepted, bind, needed, code_of, told_of, denied}
+use Rattle.format.specs.Questions.{Answer, refused, absent, remove, accepted, bind, needed, decides, told_of, denied}
 use Rattle.format.specs.References.{payload_length, field_count, Ref, ref_at, start_of}
 use Rattle.format.specs.Bodies.{positions, ref_numbered, inline_ref, inline_payload}
 use Rattle.format.proofs.Answers.{accepted-inj, refused-not}
 use Rattle.format.proofs.Refs.{read_refs-decides}
+use Rattle.format.proofs.Decisions.{inline-ref-decides}
 use Rattle.format.proofs.Rows.{payload-fields, some-field}
 use Rattle.inline_refs.specs.Steps.{read_from}
 use Rattle.inline_refs.specs.Scans.{refs_in, ref_count_of}
@@ -123,12 +125,12 @@ abbrev payload_in : List ℕ → Answer InlineRef → Answer (List ℕ)
 payload_in s x = bind x (λ r. accepted (part r.start r.len s))
 
 module _ (s : List ℕ) where
-  nothing-in : (x : Answer InlineRef) (m : ℕ) → denied m ≡ told_of x → m ≡ code_of (payload_in s x)
-  unfolding told_of bind code_of
-  nothing-in (refused n) m e = unpicked-inj e
-  nothing-in absent m e = unpicked-inj e
-  nothing-in remove m e = unpicked-inj e
-  nothing-in (accepted r) m e = reference-not e
+  nothing-in : (x : Answer InlineRef) (m : ℕ) → T (decides x) → denied m ≡ told_of x → payload_in s x ≡ refused m
+  unfolding told_of bind
+  nothing-in (refused n) m t e = ap refused (sym (unpicked-inj e))
+  nothing-in absent m t e = absurd t
+  nothing-in remove m t e = absurd t
+  nothing-in (accepted r) m t e = reference-not e
 
   is-in : (x : Answer InlineRef) (r : InlineRef) → Ok r ≡ told_of x → x ≡ accepted r
   unfolding told_of
@@ -138,9 +140,9 @@ module _ (s : List ℕ) where
   is-in (accepted r') r e = let z : r ≡ r' = cc in ap accepted (sym z)
 
   module _ (type index : ℕ) where
-    pub no_payload : (x : Refusal) → Err x ≡ told_of (inline_ref type s index) → x.number ≡ code_of (inline_payload type s index)
+    pub no_payload : (x : Refusal) → Err x ≡ told_of (inline_ref type s index) → inline_payload type s index ≡ refused x.number
     unfolding inline_payload
-    no_payload x e = nothing-in (inline_ref type s index) x.number e
+    no_payload x e = nothing-in (inline_ref type s index) x.number (inline-ref-decides type s index) e
 
     pub a-payload : (r : InlineRef) → Ok r ≡ told_of (inline_ref type s index)
         → (inline_payload type s index ≡ accepted (part r.start r.len s)) × (r.start ≡ start_in (inline_ref type s index))

@@ -121,7 +121,7 @@ pub fn plan_add_keyed(
             Ok(edit_put(at, at, wanted, amount, total))
         }
         AddAt::Standing(found) => {
-            let count = raised_count(wanted, found.weight, amount)?;
+            let count = raised_count(wanted, found.weight, amount)?; // as above
             Ok(edit_put(found.at, found.next, wanted, count, total))
         }
     }

@@ -1,14 +1,14 @@
 // A reference of a body by its number, from 0. Questions 6 to 8 are put to the whole body, so the references are counted first.
 ghost use Rattle.std.specs.Prelude.{◌≡◌, ◌+◌, ◌≤◌, length, MatchResult};
 ghost use Rattle.format.specs.Constants.{most_data};
-ghost use Rattle.format.specs.Questions.{accepted, code_of, told_of};
+ghost use Rattle.format.specs.Questions.{refused, accepted, told_of};
 ghost use Rattle.format.specs.Bodies.{inline_ref, inline_payload};
 ghost use Rattle.inline_refs.specs.Steps.{read_from};
 ghost use Rattle.inline_refs.specs.Scans.{ref_count_of};
 ghost use Rattle.backref.specs.Reads.{pick_in, Inside, start_in};
 
 use format::{InlineRef, Refusal};
-use inline_refs::{Cursor, Kinds};
+use inline_refs::{Kinds, Reader};
 
 // Among the references from `start` on, which were counted before.
 fn pick(
@@ -21,9 +21,9 @@ fn pick(
     requires { (length body.now ≤ most_data) × (Ok count ≡ ref_count_of (read_from body.now start)) }
     ensures { (result ≡ told_of (pick_in start index (read_from body.now start))) × Inside result (length body.now) }
 {
-    let mut cursor = Cursor { at: start };
+    let mut reader = Reader::new(body, start);
     let mut left = index;
-    while let Some(reference) = cursor.step(kinds, body)? {
+    while let Some(reference) = reader.step(kinds)? {
         if left == 0 {
             return Ok(InlineRef {
                 kind: reference.kind,
@@ -33,7 +33,6 @@ fn pick(
             });
         }
         left -= 1;
-        cursor = reference.next;
     }
     Err(Refusal::MISSING)
 }
@@ -50,7 +49,7 @@ pub fn inline_ref(item_type: u8, body: &[u8], index: u64) -> Result<InlineRef, R
 
 // Its payload, as a part of the body: these bytes, at their position in the caller's slice.
 pub fn inline_payload<'a>(item_type: u8, body: &'a [u8], index: u64) -> Result<&'a [u8], Refusal>
-    ensures { MatchResult result (λ bytes. (inline_payload item_type body.now index ≡ accepted bytes.now) × (bytes.ref_ptr.0 ≡ body.entry.ref_ptr.0) × (bytes.ref_ptr.1 ≡ start_in (inline_ref item_type body.now index) + body.entry.ref_ptr.1)) (λ refusal. refusal.number ≡ code_of (inline_payload item_type body.now index)) }
+    ensures { MatchResult result (λ bytes. (inline_payload item_type body.now index ≡ accepted bytes.now) × (bytes.ref_ptr.0 ≡ body.entry.ref_ptr.0) × (bytes.ref_ptr.1 ≡ start_in (inline_ref item_type body.now index) + body.entry.ref_ptr.1)) (λ refusal. inline_payload item_type body.now index ≡ refused refusal.number) }
 {
     let reference = inline_ref(item_type, body, index)?;
     Ok(&body[reference.start..reference.start + reference.len])

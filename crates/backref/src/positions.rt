@@ -10,19 +10,20 @@ ghost use Rattle.inline_refs.specs.Scans.{ref_count_of};
 ghost use Rattle.backref.specs.Reads.{positions_in};
 
 use format::{Edited, Refusal};
-use inline_refs::{Cursor, Kinds};
+use inline_refs::{Kinds, Reader};
 
 fn put_positions(kinds: &Kinds, body: &[u8], start: usize, count: usize, positions: &mut [u16])
     requires { (length body.now ≤ most_data) × (Ok count ≡ ref_count_of (read_from body.now start)) × (count ≤ length positions.old) }
     ensures { positions.new ≡ written 0 (positions_in start (read_from body.now start)) positions.old }
 {
-    let mut cursor = Cursor { at: start };
+    let mut reader = Reader::new(body, start);
+    let mut at = start;
     let mut i: usize = 0;
     // No step refuses: they were counted.
-    while let Ok(Some(reference)) = cursor.step(kinds, body) {
-        positions[i] = cursor.at as u16;
+    while let Ok(Some(_)) = reader.step(kinds) {
+        positions[i] = at as u16;
         i += 1;
-        cursor = reference.next;
+        at = reader.at;
     }
 }
 

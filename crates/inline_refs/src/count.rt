@@ -6,7 +6,7 @@ ghost use Rattle.inline_refs.specs.Steps.{read_from};
 ghost use Rattle.inline_refs.specs.Scans.{ref_count_of};
 
 use crate::kinds::Kinds;
-use crate::step::Cursor;
+use crate::reader::Reader;
 use format::Refusal;
 
 // From `start` to the end of the body.
@@ -14,10 +14,9 @@ pub fn count_refs(kinds: &Kinds, body: &[u8], start: usize) -> Result<usize, Ref
     requires { (start ≤ length body.now) × (length body.now ≤ most_data) }
     ensures { result ≡ ref_count_of (read_from body.now start) }
 {
-    let mut cursor = Cursor { at: start };
+    let mut reader = Reader::new(body, start);
     let mut n = 0;
-    while let Some(reference) = cursor.step(kinds, body)? {
-        cursor = reference.next;
+    while let Some(_) = reader.step(kinds)? {
         n += 1;
     }
     Ok(n)

@@ -146,8 +146,8 @@ pub no-fault : (s : List ℕ) (at : ℕ) (r : Result (Option RefAt) Refusal) →
 no-fault s at (Ok step) e h = refl
 no-fault s at (Err refusal) e h = refused-not (sym (stopped s at e refl) ∙ h)
 
-pub read-in : (s : List ℕ) (at : ℕ) (r : RefAt) → At s at r.kind r.start r.size r.count r.next.at → ReadIn s r
-read-in s at r h = record { kind_known = h.kind_known; long = h.long; count_at = h.count_at; inside = omega (arith, h.start, h.further, h.within) }
+pub read-in : (s : List ℕ) (at next : ℕ) (r : RefAt) → At s at r.kind r.start r.size r.count next → ReadIn s r
+read-in s at next r h = record { kind_known = h.kind_known; long = h.long; count_at = h.count_at; inside = omega (arith, h.start, h.further, h.within) }
 
 pub readable : (x : Answer (List Ref)) (refs : List Ref) → x ≡ accepted refs → x ≡ accepted (refs_of x)
 unfolding refs_of

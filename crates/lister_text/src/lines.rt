@@ -9,7 +9,7 @@ ghost use Rattle.text.specs.Numbers.{spaced};
 ghost use Rattle.text.specs.Puts.{Put};
 ghost use Rattle.lister_text.specs.Refs.{ReadIn, ReadsOn, refs_of};
 
-use inline_refs::{Cursor, Kinds, RefAt};
+use inline_refs::{Kinds, Reader, RefAt};
 
 // The only line of a refusal.
 pub fn put_refused(out: &mut [u8], number: u32) -> usize
@@ -85,11 +85,10 @@ pub fn put_refs(out: &mut [u8], at: usize, kinds: &Kinds, body: &[u8], start: us
     requires { (length body.now ≤ 65535) × ReadsOn body.now start × (start ≤ length body.now) × (at ≤ 100) }
     ensures { Put (ref_lines (refs_of (read_from body.now start))) at out.old result out.new × (result ≤ 100 + 5 * length body.now) }
 {
-    let mut cursor = Cursor { at: start };
+    let mut reader = Reader::new(body, start);
     let mut next = at;
-    while let Some(reference) = cursor.step(kinds, body).unwrap() {
+    while let Some(reference) = reader.step(kinds).unwrap() {
         next = put_ref(out, next, body, reference);
-        cursor = reference.next;
     }
     next
 }

@@ -1,3 +1,4 @@
+use mathlib.Core.Path.{◌≡◌}
 use Prim.Native.Nat.{◌+◌, ◌-◌, ◌*◌, ◌≤◌}
 use lib.ListN.{length}
 use Rattle.format.specs.Lister.{ref_lines}
@@ -8,8 +9,8 @@ use Rattle.lister_text.proofs.lines.put_refs.Given as goal
 
 abbrev pub invariant-loop-reference : goal.invariant-loop-reference
 invariant-loop-reference l =
-    Makes (ref_lines (refs_of (read_from l.body l.cursor.at))) l.next l.out (ref_lines (refs_of (read_from l.body l.start))) l.at l.initial.out
-    × ReadsOn l.body l.cursor.at × (l.next ≤ 100 + 5 * l.cursor.at) × (l.cursor.at ≤ length l.body)
+    Makes (ref_lines (refs_of (read_from l.body l.reader.at))) l.next l.out (ref_lines (refs_of (read_from l.body l.start))) l.at l.initial.out
+    × ReadsOn l.body l.reader.at × (l.next ≤ 100 + 5 * l.reader.at) × (l.reader.at ≤ length l.body) × (l.reader.body.now ≡ l.body)
 
 abbrev pub decreases-loop-reference : goal.decreases-loop-reference
-decreases-loop-reference l = length l.body - l.cursor.at
+decreases-loop-reference l = length l.body - l.reader.at
