@@ -1,12 +1,13 @@
 -- The rule of a polynomial's table, carried from the whole table to each entry, and from each entry to the whole table.
 -- Assumes nothing.
-use mathlib.Core.Path.{◌≡◌, refl, sym, ap, subst, ◌∙◌}
-use mathlib.Core.List.{List, [], ◌∷◌, map}
-use Prim.Native.Nat.{ℕ, zero, suc, ◌+◌, ◌<◌}
+use mathlib.Core.Path.{◌≡◌, refl, sym, ap, ap₂, subst, ◌∙◌}
+use mathlib.Core.List.{List, [], ◌∷◌, ◌++◌, map}
+use Prim.Native.Nat.{ℕ, zero, suc, ◌+◌, ◌≤◌, ◌<◌}
 use native.Mathlib.Nat.{add-zero, zero-add, le_of_suc-le-suc, not-suc-le-zero}
 use native.Mathlib.Numerals.{add-one}
 use native.Mathlib.Omega.{arith}
-use lib.ListN.{length, get_or}
+use lib.ListN.{length, take, get_or, set}
+use lib.Seq.{take_all, take-suc, take-suc-set}
 use denote.Param.Members.{Mut, Called}
 use Rattle.std.specs.Array.{IsFromFnResultFrom}
 use Rattle.std.specs.List.{range_with_len}
@@ -25,6 +26,20 @@ module _ (f : ℕ → ℕ) where
 
   pub entries-length : (k i : ℕ) → length (table_entries f k i) ≡ k
   entries-length k i = ap length (entries_map k i) ∙ length-map-range_with_len f i k
+
+  -- a list that has the first n entries, with entry n stored; and one that has all of them
+  pub entries-more : (k : ℕ) (t : List ℕ) (n v : ℕ) → length t ≡ k → n < k → take n t ≡ take n (table_entries f k 0) → v ≡ f n
+      → take (n + 1) (set t n v) ≡ take (n + 1) (table_entries f k 0)
+  entries-more k t n v l h e r =
+      ap (λ (m : ℕ). take m (set t n v)) (add-one n)
+      ∙ take-suc-set t n v (omega (arith, l))
+      ∙ ap₂ (λ (x : List ℕ) (y : ℕ). x ++ (y ∷ [])) e (r ∙ sym (entries_at k n h))
+      ∙ sym (take-suc (table_entries f k 0) n 0 (omega (arith, entries-length k 0)))
+      ∙ ap (λ (m : ℕ). take m (table_entries f k 0)) (sym (add-one n))
+
+  pub entries-all : (k : ℕ) (t : List ℕ) (n : ℕ) → length t ≡ k → k ≤ n → take n t ≡ take n (table_entries f k 0) → t ≡ table_entries f k 0
+  entries-all k t n l h e =
+      sym (take_all n t (omega (arith, l))) ∙ e ∙ take_all n (table_entries f k 0) (omega (arith, entries-length k 0))
 
 -- what a closure made, call by call, where each call keeps `I` and gives its entry
 module _ (f : ℕ → ℕ) {F : Type 0} (g : Mut F (ℕ × Unit {0}) ℕ) (I : F → Type 0) (t : List ℕ) where

@@ -37,11 +37,11 @@ posted-no : (nodesize : ℕ) (sheet : List ℕ) (change other : Change) (room : 
 unfolding posted
 posted-no nodesize sheet change other room e f = ap (held_sheet room) (post-no nodesize sheet change e ∙ sym (post-no nodesize sheet other f))
 
-narrow : (kind : ℕ) → kind < 256 → narrowed kind ≡ kind
+pub narrow : (kind : ℕ) → kind < 256 → narrowed kind ≡ kind
 unfolding narrowed
 narrow kind h = simp (lt-ltb _ _ h)
 
-wide : (kind : ℕ) → 256 ≤ kind → narrowed kind ≡ 0
+pub wide : (kind : ℕ) → 256 ≤ kind → narrowed kind ≡ 0
 unfolding narrowed
 wide kind h = simp (le-ltb _ _ h)
 

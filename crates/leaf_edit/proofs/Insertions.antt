@@ -133,7 +133,7 @@ module _ (s : List ℕ) (new : Item) where
       insertable target.count c target.at
       (ap (λ (x : Answer (List Item)). seek_in new.key 1 (items_in x)) h ∙ f ∙ ap (λ (x : InsertAt). Absent x.at) same)
 
-  target_free : T (are_bytes s) → (three : Bool) (target : InsertAt) → insert_at_of new.key three (read_sheet s) ≡ Ok target
+  pub target_free : T (are_bytes s) → (three : Bool) (target : InsertAt) → insert_at_of new.key three (read_sheet s) ≡ Ok target
       → Insertable s new three target.at target.count
   unfolding insert_at_of
   target_free t three target e = go (read_sheet s) refl three e
@@ -200,7 +200,7 @@ module _ (s : List ℕ) (new : Item) where
   abbrev pub fit : Option ℕ → Bool
   fit o = sizes_fit o (length new.bytes)
 
-  put_refused : (o : Option ℕ) (e : Refusal) → insert_at_of new.key (fit o) (read_sheet s) ≡ Err e → put_new o s new ≡ refused e.number
+  pub put_refused : (o : Option ℕ) (e : Refusal) → insert_at_of new.key (fit o) (read_sheet s) ≡ Err e → put_new o s new ≡ refused e.number
   unfolding insert_unbounded data_fits
   put_refused (Some nodesize) e h = insert-refused nodesize s new e h
   put_refused None e h = target-refused s new (data_fits new.bytes) e h

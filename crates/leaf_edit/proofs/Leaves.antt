@@ -51,7 +51,7 @@ module _ (n : ℕ) (items : List Item) where
   unfolding cuts cuts_of
   cuts-filled e = rw e
 
-  cut_inside : (at : ℕ) → best_cut n items (length items - 1) ≡ some at → (1 ≤ at) × (at < length items)
+  pub cut_inside : (at : ℕ) → best_cut n items (length items - 1) ≡ some at → (1 ≤ at) × (at < length items)
   cut_inside at e =
       let r = best-range n items (length items - 1) at e in
       let p = r.0 in
@@ -130,14 +130,14 @@ module _ (n : ℕ) (s : List ℕ) (m : ℕ) (c : Sized s m) (h : nodesize_fits n
     unfolding split_to_fit on_sheet bind
     done l = ap (λ (x : Answer (List Item)). bind x (asked n)) c.listed.reads ∙ all_yes n (list_items s) h e l
 
-    to-fit-cut : (at : ℕ) → best_cut n (list_items s) (length (list_items s) - 1) ≡ some at → split_to_fit n s ≡ accepted (at ∷ [])
+    pub to-fit-cut : (at : ℕ) → best_cut n (list_items s) (length (list_items s) - 1) ≡ some at → split_to_fit n s ≡ accepted (at ∷ [])
     to-fit-cut at f =
         let r = cut_inside n (list_items s) at f in
         let p = r.0 in
         let q = r.1 in
         done (omega arith) ∙ ap accepted (cuts-one n (list_items s) at f)
 
-    to-fit-filled : 2 ≤ m → best_cut n (list_items s) (length (list_items s) - 1) ≡ none → split_to_fit n s ≡ accepted (filled n 0 101 (list_items s))
+    pub to-fit-filled : 2 ≤ m → best_cut n (list_items s) (length (list_items s) - 1) ≡ none → split_to_fit n s ≡ accepted (filled n 0 101 (list_items s))
     to-fit-filled l f = let k = c.count-is in done (omega arith) ∙ ap accepted (cuts-filled n (list_items s) f)
 
   -- what the measuring pass answers, where it does not refuse

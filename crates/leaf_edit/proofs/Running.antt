@@ -51,7 +51,7 @@ module _ (s : List ℕ) (at size : ℕ) (items : List Item) (r : More s at (at +
 -- ---- the better cut
 
 -- none stands before the first item
-keep-first : (n left right : ℕ) (best : Option Cut) → best ≡ improved n left right 0 best
+pub keep-first : (n left right : ℕ) (best : Option Cut) → best ≡ improved n left right 0 best
 unfolding improved
 keep-first n left right best = refl
 
