@@ -124,8 +124,9 @@ pub enum Change {
     },
 }
 
-// Why a call refuses: the number of the first question that is answered "no", as documents 01 and 02 number them. Questions are put
-// in the order of their numbers, so of two refusals the lower one comes first.
+// Why a call refuses: the number of the first question answered "no", by documents 01 and 02. Questions are put in the order of
+// their numbers, but 22 behind 14, and 23 and 24 behind 3; the reader of a leaf image puts 1 and 2 behind 24. Refusals compare by
+// number.
 #[derive(Clone, Copy, PartialEq, Eq, PartialOrd, Ord, Debug)]
 pub struct Refusal {
     pub number: u32,
