@@ -1,5 +1,5 @@
--- A planned edit of a body: what it answers on the body that it was planned for, what one with a further step behind it says on
--- every body, and what the writer of one that takes a reference out answers. Assumes nothing.
+-- A planned edit of a body: what it answers on the body that it was planned for, also where a reference is taken out, and what one
+-- with a further step behind it says on every body. Assumes nothing.
 use Rattle.std.specs.Prelude.{◌≡◌, List, ℕ, ◌+◌, ◌≤◌, ◌<◌, length, take, Result, Ok, Err}
 use Rattle.fields.specs.Numbers.{le_bytes}
 use Rattle.fields.specs.Parts.{written, spliced}

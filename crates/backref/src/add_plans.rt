@@ -121,7 +121,7 @@ pub fn plan_add_keyed(
             Ok(edit_put(at, at, wanted, amount, total))
         }
         AddAt::Standing(found) => {
-            let count = raised_count(wanted, found.weight, amount)?; // as above
+            let count = raised_count(wanted, found.weight, amount)?; // the total stays: 12 is not put
             Ok(edit_put(found.at, found.next, wanted, count, total))
         }
     }
